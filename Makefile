@@ -38,22 +38,23 @@ check:
 	rt all check
 
 # The whole gate: each proof from nothing, each test, and each edit that must be refused; then the programs that must not
-# compile and refused memory, over the libraries and the tests that the gate has left; the documents and the published cases,
-# by the programs that it has built, the list of what must be believed, the drawing of the measures, and the manual page; and
-# the bindings.
+# compile and refused memory, over the libraries and the tests that the gate has left; whether each edit still fits its file; the
+# documents and the published cases, by the programs that it has built, the list of what must be believed, the drawing of the
+# measures, and the manual page; and the bindings.
 test:
 	bindings/lacking --install || true
 	RT_JOBS="$$(tools/lanes)" rt ci
 	tools/must_not_compile
 	tools/refuse_memory --built
+	tools/edits > /dev/null
 	tools/check_documents
 	tools/conformance
-	tools/trusted --check docs/TRUSTED.md
+	tools/trusted --check docs/TRUSTED_LISTS.md
 	tools/plot_ratios --check
 	tools/manual --check
 	$(MAKE) test-bindings
 
-# Runs each command that the documents show, and looks for each of their snippets in the code.
+# Runs each command that the documents show, and looks up each of their snippets, files and links.
 documents: bin/jsonpath bin/jpq
 	tools/check_documents
 
@@ -63,7 +64,7 @@ manual:
 
 # Writes the lists of what must be believed anew.
 trusted:
-	tools/trusted --write docs/TRUSTED.md
+	tools/trusted --write docs/TRUSTED_LISTS.md
 
 # Refuses each request for memory in turn, in tests that it proves and builds first, and prints what came of it.
 refused-memory:

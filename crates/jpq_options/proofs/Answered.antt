@@ -12,12 +12,12 @@ use Rattle.clap.specs.declared.error.kind.ErrorKind.{ErrorKind}
 use Rattle.clap.specs.declared.error.kind.ErrorKind.TheVariants.{ArgumentConflict, OutOfMemory}
 use Rattle.clap.proofs.OnLiterals.{clap_on_literals}
 use Rattle.jpq_options.specs.Table.{jpq}
-use Rattle.jpq_options.specs.Options.{Answers, AreOptions, IsRefusal, IsTold, checks_file, form_of_row, forms, given_forms, has_two, is_given}
+use Rattle.jpq_options.specs.Options.{IsRequestOf, AreOptions, IsRefusal, IsTold, checks_file, form_of_row, forms, given_forms, has_two, is_given}
 use Rattle.jpq_options.specs.Options.{is_request, lacks_lines, lacks_path, misuse_by, misuse_in, texts}
 use Rattle.jsonpath_lines.specs.declared.forms.Form.{Form}
 use Rattle.jpq_options.specs.declared.options.Options.{Options}
-use Rattle.jpq_options.specs.declared.options.Asked.{Asked}
-use Rattle.jpq_options.specs.declared.options.Asked.TheVariants.{Run, Print, WrongUse}
+use Rattle.jpq_options.specs.declared.options.Request.{Request}
+use Rattle.jpq_options.specs.declared.options.Request.TheVariants.{Run, Print, WrongUse}
 
 -- ---- forms
 
@@ -58,21 +58,21 @@ misuse_is rows shown o are one =
 pub two_forms : (rows : List Row) → has_two (given_forms forms rows) ≡ true → Some ArgumentConflict ≡ misuse_in rows
 two_forms rows two = sym (ap (λ b. cond b (Some ArgumentConflict) (misuse_by (lacks_path rows) (checks_file rows) (lacks_lines rows))) two)
 
-pub refusal : (rows : List Row) (kind : ErrorKind) (a : Asked) → Some kind ≡ misuse_in rows → IsRefusal kind a → Answers [] rows a
+pub refusal : (rows : List Row) (kind : ErrorKind) (a : Request) → Some kind ≡ misuse_in rows → IsRefusal kind a → IsRequestOf [] rows a
 refusal rows kind (Run o) is r = absurd r
 refusal rows kind (Print text) is r = absurd r
 refusal rows kind (WrongUse told text) is r = inr (refl, sym is ∙ ap Some (sym r))
 
 -- ---- what `clap` says
 
-told_one : (kind : ErrorKind) (faults : Kinds) (rows : List Row) (a : Asked) → IsAmong kind faults → IsTold kind a → Answers faults rows a
+told_one : (kind : ErrorKind) (faults : Kinds) (rows : List Row) (a : Request) → IsAmong kind faults → IsTold kind a → IsRequestOf faults rows a
 told_one kind faults rows (Run o) among told = absurd told
 told_one kind faults rows (Print text) among told = (kind, among, told)
 told_one kind faults rows (WrongUse k text) among told =
     inl (subst (λ (x : ErrorKind). IsAmong x faults) (sym told.0) among, subst (λ (x : ErrorKind). is_request x ≡ false) (sym told.0) told.1)
 
-pub told_answers : (kind : ErrorKind) (faults : Kinds) (rows : List Row) (r : Result Asked AllocError) → (kind ≡ OutOfMemory) ⊎ IsAmong kind faults
-    → (kind ≡ OutOfMemory → IsErr r) → IfOk r (IsTold kind) → IfOk r (Answers faults rows)
+pub told_answers : (kind : ErrorKind) (faults : Kinds) (rows : List Row) (r : Result Request AllocError) → (kind ≡ OutOfMemory) ⊎ IsAmong kind faults
+    → (kind ≡ OutOfMemory → IsErr r) → IfOk r (IsTold kind) → IfOk r (IsRequestOf faults rows)
 told_answers kind faults rows (Err e) by memory told = tt
 told_answers kind faults rows (Ok a) (inl out) memory told = let no = memory out in absurd cc
 told_answers kind faults rows (Ok a) (inr among) memory told = told_one kind faults rows a among told
@@ -87,10 +87,10 @@ pub jpq_is_free : (colors : ValueParser) → is_simple_and_free (jpq colors) ≡
 unfolding clap_on_literals
 jpq_is_free colors = refl
 
-pub found_answers : (colors : ValueParser) (app : App) (words : List Text) (rows : List Row) (a : Asked) → app ≡ jpq colors
-    → (is_simple app ≡ true → rows ≡ matches_of app words) → (is_simple_and_free app ≡ true → fault_of app words ≡ []) → Answers [] rows a
-    → Answers (fault_of (jpq colors) words) (matches_of (jpq colors) words) a
+pub found_answers : (colors : ValueParser) (app : App) (words : List Text) (rows : List Row) (a : Request) → app ≡ jpq colors
+    → (is_simple app ≡ true → rows ≡ matches_of app words) → (is_simple_and_free app ≡ true → fault_of app words ≡ []) → IsRequestOf [] rows a
+    → IsRequestOf (fault_of (jpq colors) words) (matches_of (jpq colors) words) a
 found_answers colors app words rows a is simple free answers =
     let rows_are : rows ≡ matches_of (jpq colors) words = simple (ap is_simple is ∙ jpq_is_simple colors) ∙ ap (λ (x : App). matches_of x words) is in
     let faults_are : [] ≡ fault_of (jpq colors) words = sym (free (ap is_simple_and_free is ∙ jpq_is_free colors)) ∙ ap (λ (x : App). fault_of x words) is in
-    subst (λ (f : Kinds). Answers f (matches_of (jpq colors) words) a) faults_are (subst (λ (rs : List Row). Answers [] rs a) rows_are answers)
+    subst (λ (f : Kinds). IsRequestOf f (matches_of (jpq colors) words) a) faults_are (subst (λ (rs : List Row). IsRequestOf [] rs a) rows_are answers)

@@ -25,8 +25,8 @@ use Rattle.jsonpath_lines.specs.declared.forms.LineEnd.TheVariants.{LineFeed, Nu
 use Rattle.jpq_options.specs.declared.options.Color.{Color}
 use Rattle.jpq_options.specs.declared.options.Color.TheVariants.{Auto, Always, Never}
 use Rattle.jpq_options.specs.declared.options.Options.{Options}
-use Rattle.jpq_options.specs.declared.options.Asked.{Asked}
-use Rattle.jpq_options.specs.declared.options.Asked.TheVariants.{Run, Print, WrongUse}
+use Rattle.jpq_options.specs.declared.options.Request.{Request}
+use Rattle.jpq_options.specs.declared.options.Request.TheVariants.{Run, Print, WrongUse}
 use Rattle.jpq_options.specs.declared.options.Misuse.{Misuse}
 use Rattle.jpq_options.specs.declared.options.Misuse.TheVariants.{TwoForms, NoPath, CheckOfFile}
 use Rattle.jpq_options.specs.declared.options.Misuse.TheVariants.{StrictWithoutLines}
@@ -163,26 +163,26 @@ is_request DisplayVersion = true
 is_request _ = false
 
 -- what tells an answer of `clap` of this kind
-abbrev pub IsTold : ErrorKind → Asked → Type 0
+abbrev pub IsTold : ErrorKind → Request → Type 0
 IsTold kind (Run options) = ⊥
 IsTold kind (Print text) = is_request kind ≡ true
 IsTold kind (WrongUse told text) = (told ≡ kind) × (is_request kind ≡ false)
 
 -- what tells a misuse of this kind
-abbrev pub IsRefusal : ErrorKind → Asked → Type 0
+abbrev pub IsRefusal : ErrorKind → Request → Type 0
 IsRefusal kind (WrongUse told text) = told ≡ kind
 IsRefusal kind _ = ⊥
 
 -- what is answered where the parse gives these rows, or may fail by these kinds
-abbrev pub Answers : Kinds → List Row → Asked → Type 0
-Answers faults rows (Run options) = (faults ≡ []) × (misuse_in rows ≡ None)
+abbrev pub IsRequestOf : Kinds → List Row → Request → Type 0
+IsRequestOf faults rows (Run options) = (faults ≡ []) × (misuse_in rows ≡ None)
     × AreOptions rows (first_form (given_forms forms rows)) options
-Answers faults rows (Print text) =
+IsRequestOf faults rows (Print text) =
     (kind : ErrorKind) × IsAmong kind faults × (is_request kind ≡ true)
-Answers faults rows (WrongUse kind text) = (IsAmong kind faults × (is_request kind ≡ false))
+IsRequestOf faults rows (WrongUse kind text) = (IsAmong kind faults × (is_request kind ≡ false))
     ⊎ ((faults ≡ []) × (misuse_in rows ≡ Some kind))
 
 -- The words ask for this: the parse by the command of `jpq` finds what was found, or fails.
-abbrev pub AsksFor : List Text → Asked → Type 0
+abbrev pub AsksFor : List Text → Request → Type 0
 AsksFor words asked = (colors : ValueParser) × IsColorParser colors
-    × Answers (fault_of (jpq colors) words) (matches_of (jpq colors) words) asked
+    × IsRequestOf (fault_of (jpq colors) words) (matches_of (jpq colors) words) asked

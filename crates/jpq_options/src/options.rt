@@ -9,7 +9,7 @@ ghost use Rattle.clap.specs.Words.{app_of, found_of, kind_of, rows_of, rule_of, 
 ghost use Rattle.clap.specs.declared.builder.value_parser.ValueParser.{ValueParser as parser};
 ghost use Rattle.jpq_options.specs.Table.{IsColorParser, jpq, rule_of_setting, setting_of};
 ghost use Rattle.jpq_options.specs.Table.{settings};
-ghost use Rattle.jpq_options.specs.Options.{Answers, AreOptions, AsksFor, IsRefusal, IsTold};
+ghost use Rattle.jpq_options.specs.Options.{IsRequestOf, AreOptions, AsksFor, IsRefusal, IsTold};
 ghost use Rattle.jpq_options.specs.Options.{color_in, end_of, files_of, first_form, form_of_row};
 ghost use Rattle.jpq_options.specs.Options.{forms, has_two, is_given, kind_of_misuse, layout_of};
 ghost use Rattle.jpq_options.specs.Options.{misuse_by, paths_of, texts, values_of};
@@ -70,7 +70,7 @@ pub struct Options<'a> {
 
 /// What a command line asks for.
 #[derive(Debug, Drop)]
-pub enum Asked<'a> {
+pub enum Request<'a> {
     /// To run with these options.
     Run(Options<'a>),
     /// To print this text: the help, or the version.
@@ -540,25 +540,25 @@ fn refused<'a>(
     alloc: Global,
     mut command: Command<'_>,
     misuse: Misuse,
-) -> Result<Asked<'a>, AllocError>
+) -> Result<Request<'a>, AllocError>
     ensures { IfOk result (IsRefusal (kind_of_misuse misuse)) }
 {
     let message = format!(in alloc; "{misuse}")?;
     let error = command.error(misuse.kind(), message.as_str())?;
-    Ok(Asked::WrongUse(misuse.kind(), format!(in alloc; "{error}")?))
+    Ok(Request::WrongUse(misuse.kind(), format!(in alloc; "{error}")?))
 }
 
 /// What an answer of `clap` without matches asks for.
-fn told<'a>(alloc: Global, error: &Error) -> Result<Asked<'a>, AllocError>
+fn told<'a>(alloc: Global, error: &Error) -> Result<Request<'a>, AllocError>
     ensures told { IfOk result (IsTold (kind_of error.now)) }
     ensures memory { kind_of error.now ≡ ErrorKind.OutOfMemory → IsErr result }
 {
     match error.kind() {
         ErrorKind::OutOfMemory => Err(AllocError),
         ErrorKind::DisplayHelp | ErrorKind::DisplayVersion => {
-            Ok(Asked::Print(format!(in alloc; "{error}")?))
+            Ok(Request::Print(format!(in alloc; "{error}")?))
         }
-        kind => Ok(Asked::WrongUse(kind, format!(in alloc; "{error}")?)),
+        kind => Ok(Request::WrongUse(kind, format!(in alloc; "{error}")?)),
     }
 }
 
@@ -567,8 +567,8 @@ fn asked_of<'a>(
     alloc: Global,
     command: Command<'_>,
     matches: &ArgMatches<'a>,
-) -> Result<Asked<'a>, AllocError>
-    ensures { IfOk result (Answers [] (rows_of (found_of matches.now))) }
+) -> Result<Request<'a>, AllocError>
+    ensures { IfOk result (IsRequestOf [] (rows_of (found_of matches.now))) }
 {
     let given = forms_given(alloc, matches, form_rows())?;
     let form = match form_of(given.as_slice()) {
@@ -577,7 +577,7 @@ fn asked_of<'a>(
     };
     let options = options_of(alloc, matches, form)?;
     match misuse_of(&options) {
-        None => Ok(Asked::Run(options)),
+        None => Ok(Request::Run(options)),
         Some(misuse) => refused(alloc, command, misuse),
     }
 }
@@ -592,7 +592,7 @@ fn asked_of<'a>(
 /// read(alloc, &["jpq", "-v", "$.a", "x.json"])
 /// gives options with the path $.a, the file x.json and the form Value
 /// ```
-pub fn read<'a, S: AsStr>(alloc: Global, words: &'a [S]) -> Result<Asked<'a>, AllocError>
+pub fn read<'a, S: AsStr>(alloc: Global, words: &'a [S]) -> Result<Request<'a>, AllocError>
     ensures { IfOk result (AsksFor (map S.text words.entry.now)) }
 {
     let mut command = command(alloc)?;

@@ -3,7 +3,7 @@
 ghost use Rattle.serde_json_path_functions.specs.Functions.{FunctionSet};
 ghost use Rattle.serde_json_path.specs.Fitting.{TakesBuiltin, TakesBuiltin-prop};
 
-use crate::answers::push_answer;
+use crate::answers::{join, push_answer};
 use crate::colours::push_colored;
 use crate::inputs::Inputs;
 use crate::paths::AskedPath;
@@ -19,7 +19,7 @@ use std::io::{BufRead, BufReader, Read, Write};
 
 /// What is asked of each document.
 #[derive(Drop)]
-pub(crate) struct Job<'a, F: Functions> {
+pub(crate) struct Answering<'a, F: Functions> {
     pub(crate) alloc: Global,
     pub(crate) paths: &'a [AskedPath],
     pub(crate) functions: &'a F,
@@ -40,7 +40,7 @@ fn told_name(name: &str) -> &str {
     if name == "-" { "standard input" } else { name }
 }
 
-impl<F: Functions> Job<'_, F> {
+impl<F: Functions> Answering<'_, F> {
     /// What each line of a path's answer begins with: the file's name if there are several, then the path's number if there
     /// are several, and a tab after each.
     fn head(&self, name: &str, number: usize) -> Result<String, AllocError> {
@@ -54,25 +54,6 @@ impl<F: Functions> Job<'_, F> {
         Ok(head)
     }
 
-    /// Appends the answer of a path, and returns whether a node was chosen.
-    fn push_uncolored(
-        &self,
-        path: &AskedPath,
-        head: &str,
-        document: &Value,
-        text: &mut String,
-    ) -> Result<bool, QueryError> {
-        push_answer(
-            self.alloc,
-            &self.output,
-            head,
-            &path.path,
-            self.functions,
-            document,
-            text,
-        )
-    }
-
     /// Appends the answer of a path, in colours where they are wanted, and returns whether a node was chosen.
     fn push_path(
         &self,
@@ -81,12 +62,21 @@ impl<F: Functions> Job<'_, F> {
         document: &Value,
         text: &mut String,
     ) -> Result<bool, QueryError> {
-        if !self.colored {
-            return self.push_uncolored(path, head, document, text);
-        }
         let mut plain = String::new(self.alloc);
-        let selected = self.push_uncolored(path, head, document, &mut plain)?;
-        push_colored(self.alloc, text, plain.as_str(), head, self.output.form)?;
+        let selected = push_answer(
+            self.alloc,
+            &self.output,
+            head,
+            &path.path,
+            self.functions,
+            document,
+            &mut plain,
+        )?;
+        if self.colored {
+            push_colored(self.alloc, text, plain.as_str(), head, self.output.form)?;
+        } else {
+            join(text, plain)?;
+        }
         Ok(selected)
     }
 
@@ -105,7 +95,7 @@ impl<F: Functions> Job<'_, F> {
                 Err(e) => {
                     let name = told_name(name);
                     let told = format!(in self.alloc; "jpq: {name}: the query is refused: {e}\n")?;
-                    streams.refuse(told.as_str());
+                    streams.tell_refusal(told.as_str());
                 }
             }
         }
@@ -134,7 +124,7 @@ impl<F: Functions> Job<'_, F> {
             ..e
         };
         let name = told_name(name);
-        streams.refuse(format!(in self.alloc; "jpq: {name}: {e}\n")?.as_str());
+        streams.tell_refusal(format!(in self.alloc; "jpq: {name}: {e}\n")?.as_str());
         if self.strict {
             Err(Stop::Refused)
         } else {
@@ -150,7 +140,7 @@ impl<F: Functions> Job<'_, F> {
         streams: &mut Streams<'_, W, E>,
     ) -> Result<(), Stop> {
         let name = told_name(name);
-        streams.refuse(format!(in self.alloc; "jpq: {name}: cannot be read: {e}\n")?.as_str());
+        streams.tell_refusal(format!(in self.alloc; "jpq: {name}: cannot be read: {e}\n")?.as_str());
         Ok(())
     }
 

@@ -57,7 +57,7 @@ impl PathReading {
         let name = self.name(number)?;
         let hint = if self.hints { hint(text, &e) } else { None };
         push_refusal(&mut told, name.as_str(), text, &e, hint)?;
-        streams.refuse(told.as_str());
+        streams.tell_refusal(told.as_str());
         Ok(None)
     }
 
@@ -96,7 +96,7 @@ fn paths_text<I: Inputs, W: Write, E: Write>(
     match read {
         Ok(_) => Ok(text),
         Err(e) => {
-            streams.refuse(format!(in alloc; "jpq: {name}: cannot be read: {e}\n")?.as_str());
+            streams.tell_refusal(format!(in alloc; "jpq: {name}: cannot be read: {e}\n")?.as_str());
             Err(Stop::Refused)
         }
     }

@@ -3,20 +3,19 @@
 ghost use Rattle.std.specs.Prelude.{◌≡◌, ◌≤◌, ◌⊎◌, Err, map, string_bytes};
 ghost use Rattle.serde_json_path_functions.specs.Functions.{FunctionSet};
 ghost use Rattle.jpq_options.specs.Options.{AsksFor};
-ghost use Rattle.jpq_options.specs.declared.options.Asked as input;
+ghost use Rattle.jpq_options.specs.declared.options.Request as input;
 ghost use Rattle.serde_json_path.specs.Fitting.{TakesBuiltin};
 ghost use Rattle.jpq_program.specs.Query.{IsStatus, IsStatusOf};
 
 use crate::counted::Counted;
-use crate::documents::Job;
+use crate::documents::Answering;
 use crate::inputs::Inputs;
 use crate::nothing::reason_of;
 use crate::paths::{AskedPath, asked_paths};
 use crate::streams::{OUTPUT_FAILED, REFUSED, SELECTED, Stop, Streams, WRONG_USE};
-use jpq_options::options::{Asked, Color, Options, read};
+use jpq_options::options::{Request, Color, Options, read};
 use jsonpath_lines::Output;
-use jsonpath_program::ruled::Ruled;
-use serde_json_path::functions::{CachedPatterns, Functions, Numbers, PatternStore};
+use serde_json_path::functions::{CachedPatterns, Functions, Numbers, PatternStore, Ruled};
 use std::alloc::Global;
 use std::cell::Cell;
 use std::io::Write;
@@ -89,97 +88,90 @@ fn numbers_of(options: &Options<'_>) -> Numbers {
     }
 }
 
-/// What a run is given besides its words.
-#[derive(Clone, Copy, Drop)]
-struct Setting {
-    alloc: Global,
-    /// Whether the output is a terminal.
-    terminal: bool,
+/// Whether lines have colours, as the options say.
+fn is_colored(options: &Options<'_>, is_terminal: bool) -> bool {
+    match options.color {
+        Color::Always => true,
+        Color::Never => false,
+        Color::Auto => is_terminal,
+    }
 }
 
-impl Setting {
-    /// Whether lines have colours.
-    fn is_colored(self, options: &Options<'_>) -> bool {
-        match options.color {
-            Color::Always => true,
-            Color::Never => false,
-            Color::Auto => self.terminal,
-        }
+/// Answers all documents under a function set.
+fn answer_under<'x, F: Functions, I: Inputs, W: Write, E: Write>(
+    alloc: Global,
+    options: &Options<'_>,
+    colored: bool,
+    paths: &'x [AskedPath],
+    functions: &'x F,
+    inputs: &mut I,
+    streams: &mut Streams<'_, W, E>,
+) -> Result<(), Stop>
+    requires { TakesBuiltin (F.set functions.now) }
+{
+    let answering = Answering {
+        alloc,
+        paths,
+        functions,
+        output: output_of(options),
+        names_files: options.files.len() > 1,
+        lines: options.lines,
+        strict: options.strict,
+        colored,
+    };
+    if options.files.is_empty() {
+        return answering.answer_all(&["-"], inputs, streams);
     }
+    answering.answer_all(&options.files, inputs, streams)
+}
 
-    /// Answers all documents under a function set.
-    fn answer_under<'x, F: Functions, I: Inputs, W: Write, E: Write>(
-        self,
-        options: &Options<'_>,
-        paths: &'x [AskedPath],
-        functions: &'x F,
-        inputs: &mut I,
-        streams: &mut Streams<'_, W, E>,
-    ) -> Result<(), Stop>
-        requires { TakesBuiltin (F.set functions.now) }
-    {
-        let job = Job {
-            alloc: self.alloc,
-            paths,
-            functions,
-            output: output_of(options),
-            names_files: options.files.len() > 1,
-            lines: options.lines,
-            strict: options.strict,
-            colored: self.is_colored(options),
-        };
-        if options.files.is_empty() {
-            return job.answer_all(&["-"], inputs, streams);
-        }
-        job.answer_all(&options.files, inputs, streams)
-    }
+/// Answers all documents by the rule for numbers that is asked for, and returns how many times a comparison met a number that
+/// is not held as an integer.
+fn answer_documents<I: Inputs, W: Write, E: Write>(
+    alloc: Global,
+    options: &Options<'_>,
+    colored: bool,
+    paths: &[AskedPath],
+    inputs: &mut I,
+    streams: &mut Streams<'_, W, E>,
+) -> Result<usize, Stop> {
+    let store = PatternStore::new();
+    let ruled = Ruled {
+        functions: CachedPatterns::new(alloc, &store),
+        numbers: numbers_of(options),
+    };
+    let functions = Counted {
+        functions: ruled,
+        floats: Cell::new(0),
+    };
+    answer_under(alloc, options, colored, paths, &functions, inputs, streams)?;
+    Ok(functions.floats.get())
+}
 
-    /// Answers all documents by the rule for numbers that is asked for, and returns how many times a comparison met a number that
-    /// is not held as an integer.
-    fn answer_documents<I: Inputs, W: Write, E: Write>(
-        self,
-        options: &Options<'_>,
-        paths: &[AskedPath],
-        inputs: &mut I,
-        streams: &mut Streams<'_, W, E>,
-    ) -> Result<usize, Stop> {
-        let store = PatternStore::new();
-        let ruled = Ruled {
-            functions: CachedPatterns::new(self.alloc, &store),
-            numbers: numbers_of(options),
-        };
-        let functions = Counted {
-            functions: ruled,
-            floats: Cell::new(0),
-        };
-        self.answer_under(options, paths, &functions, inputs, streams)?;
-        Ok(functions.floats.get())
+/// Runs with options: reads the paths, then checks them or answers the documents.
+fn run_with<I: Inputs, W: Write, E: Write>(
+    alloc: Global,
+    options: &Options<'_>,
+    colored: bool,
+    inputs: &mut I,
+    streams: &mut Streams<'_, W, E>,
+) -> Result<(), Stop> {
+    let paths = asked_paths(alloc, options, inputs, streams)?;
+    if options.check {
+        return check(alloc, &paths, streams);
     }
-
-    /// Runs with options: reads the paths, then checks them or answers the documents.
-    fn run_with<I: Inputs, W: Write, E: Write>(
-        self,
-        options: &Options<'_>,
-        inputs: &mut I,
-        streams: &mut Streams<'_, W, E>,
-    ) -> Result<(), Stop> {
-        let paths = asked_paths(self.alloc, options, inputs, streams)?;
-        if options.check {
-            return check(self.alloc, &paths, streams);
-        }
-        let floats = self.answer_documents(options, &paths, inputs, streams)?;
-        if options.whole_numbers && !options.silent {
-            tell_floats(self.alloc, floats, streams)?;
-        }
-        if streams.outcome.selected || streams.outcome.refused || options.silent {
-            return Ok(());
-        }
-        hint_at_nothing(self.alloc, &paths, streams)
+    let floats = answer_documents(alloc, options, colored, &paths, inputs, streams)?;
+    if options.whole_numbers && !options.silent {
+        tell_floats(alloc, floats, streams)?;
     }
+    if streams.outcome.selected || streams.outcome.refused || options.silent {
+        return Ok(());
+    }
+    hint_at_nothing(alloc, &paths, streams)
 }
 
 /// The exit status of a run that ended so; tells what ended it.
-fn status_of<W: Write, E: Write>(ended: Result<(), Stop>, streams: &mut Streams<'_, W, E>) -> u8
+fn exit_status<W: Write, E: Write>(ended: Result<(), Stop>, streams: &mut Streams<'_, W, E>) -> u8
     ensures few { result ≤ 3 }
     ensures memory { ended ≡ Err Stop.Memory → result ≡ 2 }
 {
@@ -219,25 +211,24 @@ pub fn run<I: Inputs, W: Write, E: Write>(
     err: &mut E,
 ) -> u8
     ensures one_of { IsStatus result }
-    ensures status { ((asked : input.Asked) × AsksFor (map string_bytes words.now) asked
+    ensures status { ((asked : input.Request) × AsksFor (map string_bytes words.now) asked
         × IsStatusOf asked result) ⊎ (result ≡ 2) }
 {
     let mut streams = Streams::new(out, err);
     let ended = match read(alloc, words) {
-        Ok(Asked::Run(options)) => Setting { alloc, terminal }.run_with(
-            &options,
-            inputs,
-            &mut streams,
-        ),
-        Ok(Asked::Print(text)) => {
+        Ok(Request::Run(options)) => {
+            let colored = is_colored(&options, terminal);
+            run_with(alloc, &options, colored, inputs, &mut streams)
+        }
+        Ok(Request::Print(text)) => {
             streams.outcome.selected = true;
             streams.write(text.as_str())
         }
-        Ok(Asked::WrongUse(_, text)) => {
+        Ok(Request::WrongUse(_, text)) => {
             streams.tell(text.as_str());
             return WRONG_USE;
         }
         Err(_) => Err(Stop::Memory),
     };
-    status_of(ended, &mut streams)
+    exit_status(ended, &mut streams)
 }

@@ -116,7 +116,7 @@ impl<'a, W: Write, E: Write> Streams<'a, W, E> {
     }
 
     /// Tells of what is refused.
-    pub(crate) fn refuse(&mut self, text: &str) {
+    pub(crate) fn tell_refusal(&mut self, text: &str) {
         self.outcome.refused = true;
         self.tell(text);
     }

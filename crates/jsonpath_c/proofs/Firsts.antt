@@ -1,20 +1,22 @@
 -- The first of some nodes, with another after them.
-use Rattle.std.proofs.Common.{◌≡◌, ◌≤◌, ◌<◌, ◌+◌, ◌∙◌, ◌⊎◌, inl, inr, ℕ, Bool, false, List, [], ◌∷◌, ◌++◌, length, map, refl, sym, ap, subst, arith, append_assoc, append-nil, length-append}
+use Rattle.std.proofs.Common.{◌≡◌, ◌≤◌, ◌<◌, ◌+◌, ◌∙◌, ◌⊎◌, inl, inr, ℕ, Bool, false, true, Some, string_bytes, List, [], ◌∷◌, ◌++◌, length, map, refl, sym, ap, subst, arith, append_assoc, append-nil, length-append}
 use Rattle.std.proofs.lemmas.List.{length_push, map_push}
 use Rattle.std.proofs.lemmas.List.Sums.{sum_by_push}
 use Rattle.serde_json_path_nodes.specs.Location.{Located}
 use Rattle.jsonpath_owned_nodes.specs.Kept.{KeptNode, kept}
-use Rattle.jsonpath_c.specs.Handles.{AreFirstNodes, IsNodeBeyond, all_name_bytes, name_bytes}
-use Rattle.jsonpath_c.specs.Inside.{AreEnough, HasNoRoomFor, IsLeftAfter}
+use Rattle.std.specs.Borrow.{Bor}
+use Rattle.jsonpath_lines.specs.Output.{IsLine, IsLineOfEach, compact_lines}
+use Rattle.jsonpath_lines.specs.declared.forms.Form.{Form}
+use Rattle.jsonpath_lines.proofs.Pieces.{lines_pushed}
+use Rattle.jsonpath_c.specs.Handles.{AreFirstLines, AreFirstNodes, IsBeyond, IsNodeBeyond, all_name_bytes, name_bytes}
+use Rattle.jsonpath_c.specs.declared.bounded.BoundedLines.{BoundedLines}
+use Rattle.jsonpath_lines.specs.Distinct.{AreEnough}
+use Rattle.jsonpath_c.specs.Inside.{AreWithin, HasNoRoomFor, IsLeftAfter, TookLines}
 use Rattle.jsonpath_c.specs.declared.limits.Limits.{Limits}
 
 -- what is kept of one node more
 pub kept_further : (list longer : List KeptNode) (done : List Located) (n : Located) → list ≡ map kept done → longer ≡ list ++ kept n ∷ [] → longer ≡ map kept (done ++ n ∷ [])
 kept_further list longer done n is pushed = pushed ∙ ap (λ l. l ++ kept n ∷ []) is ∙ sym (map_push kept done n)
-
--- one node more is given, and the others are left
-pub given_further : (all done : List Located) (n : Located) (left : List Located) → all ≡ done ++ (n ∷ left) → all ≡ (done ++ n ∷ []) ++ left
-given_further all done n left is = is ∙ sym (append_assoc done (n ∷ []) left)
 
 -- a text after another, and a byte after it
 pub within : (before after text : List ℕ) (position : ℕ) → text ≡ before ++ after → position ≡ length before + 1 → (1 ≤ position) × (position ≤ length text + 1)
@@ -24,11 +26,9 @@ within before after text position is at =
 
 -- ---- lists within limits
 
--- a list has these nodes, and the limits leave so much for more
-pub record AreWithin (limits left : Limits) (shown : List Located) (list : List KeptNode) : Type 0 where
-  pub same : list ≡ map kept shown
-  pub nodes : left.nodes + length shown ≡ limits.nodes
-  pub bytes : left.bytes + all_name_bytes shown ≡ limits.bytes
+-- a list without nodes
+pub none_within : (limits : Limits) (list : List KeptNode) → list ≡ [] → AreWithin limits limits [] list
+none_within limits list none = record { same = none; nodes = refl; bytes = refl; }
 
 -- one node more, for which there was room
 pub one_within : (limits left less : Limits) (shown : List Located) (next : Located) (list longer : List KeptNode) → AreWithin limits left shown list
@@ -62,6 +62,88 @@ cut_within limits left shown next later all list are is full = record {
   cut = λ _. (next, later, refl, beyond limits left shown next list are full);
 }
 
+-- there is no other
+pub all_within : (limits left : Limits) (shown : List Located) (list : List KeptNode) → AreWithin limits left shown list → AreFirstNodes limits shown list true
+all_within limits left shown list are = record {
+  shown = shown;
+  more = [];
+  first = sym (append-nil shown);
+  kept = are.same;
+  few = omega (arith, are.nodes);
+  short = omega (arith, are.bytes);
+  complete = λ _. refl;
+  cut = λ e. absurd cc;
+}
+
+-- ---- lines within limits
+
+-- none yet
+pub no_lines : (lines : BoundedLines) → string_bytes lines.text ≡ [] → lines.count ≡ 0 → TookLines lines [] lines
+no_lines lines empty none = record {
+  form = refl;
+  limits = refl;
+  lines = empty;
+  count = none;
+  few = omega (arith, none);
+  short = let zero_length : length (string_bytes lines.text) ≡ 0 = ap length empty in omega (arith, zero_length);
+}
+
+-- another, for which there was room
+pub line_taken : (before old now : BoundedLines) (nodes : List Located) (n : Located) (line : List ℕ) → TookLines before nodes old → IsLine (compact_lines old.form) [] n line
+    → now.form ≡ old.form → now.limits ≡ old.limits → string_bytes now.text ≡ string_bytes old.text ++ line → now.count ≡ old.count + 1
+    → now.count ≤ old.limits.now.nodes → length (string_bytes old.text) + length line ≤ old.limits.now.bytes → TookLines before (nodes ++ n ∷ []) now
+line_taken before old now nodes n line took is form limits text count few short =
+    let longer : length (string_bytes now.text) ≡ length (string_bytes old.text) + length line = ap length text ∙ length-append (string_bytes old.text) line in
+    let more : length (nodes ++ n ∷ []) ≡ length nodes + 1 = length_push nodes n in
+    let nodes_same : old.limits.now.nodes ≡ before.limits.now.nodes = ap (λ (l : Bor Limits). l.now.nodes) took.limits in
+    let bytes_same : old.limits.now.bytes ≡ before.limits.now.bytes = ap (λ (l : Bor Limits). l.now.bytes) took.limits in
+    record {
+      form = form ∙ took.form;
+      limits = limits ∙ took.limits;
+      lines = subst (IsLineOfEach (compact_lines before.form) [] (nodes ++ n ∷ [])) (sym text)
+          (lines_pushed (compact_lines before.form) [] nodes (string_bytes old.text) line n took.lines (subst (λ (f : Form). IsLine (compact_lines f) [] n line) took.form is));
+      count = omega (arith, count, took.count, more);
+      few = omega (arith, few, nodes_same);
+      short = omega (arith, longer, short, bytes_same);
+    }
+
+-- another, for which there is no room
+pub line_left : (before old : BoundedLines) (nodes later : List Located) (n : Located) (text line : List ℕ) → TookLines before nodes old → IsLine (compact_lines old.form) [] n line
+    → text ≡ string_bytes old.text → (old.limits.now.nodes ≤ old.count) ⊎ (old.limits.now.bytes < length (string_bytes old.text) + length line)
+    → AreFirstLines before.form before.limits.now (nodes ++ (n ∷ later)) text false
+line_left before old nodes later n text line took is same full =
+    let nodes_same : old.limits.now.nodes ≡ before.limits.now.nodes = ap (λ (l : Bor Limits). l.now.nodes) took.limits in
+    let bytes_same : old.limits.now.bytes ≡ before.limits.now.bytes = ap (λ (l : Bor Limits). l.now.bytes) took.limits in
+    let as_long : length text ≡ length (string_bytes old.text) = ap length same in
+    let own : IsLine (compact_lines before.form) [] n line = subst (λ (f : Form). IsLine (compact_lines f) [] n line) took.form is in
+    let beyond : IsBeyond before.form before.limits.now nodes text n = elim full [
+      | inl many ↦ inl (omega (arith, many, took.count, nodes_same))
+      | inr long ↦ inr (line, own, omega (arith, long, as_long, bytes_same))
+    ] in
+    record {
+      shown = nodes;
+      more = n ∷ later;
+      first = refl;
+      lines = subst (IsLineOfEach (compact_lines before.form) [] nodes) (sym same) took.lines;
+      few = omega (arith, took.few, took.count);
+      short = omega (arith, took.short, as_long);
+      complete = λ e. absurd cc;
+      cut = λ _. (n, later, refl, beyond);
+    }
+
+-- there is no other
+pub all_lines : (before now : BoundedLines) (nodes : List Located) → TookLines before nodes now → AreFirstLines before.form before.limits.now nodes (string_bytes now.text) true
+all_lines before now nodes took = record {
+  shown = nodes;
+  more = [];
+  first = sym (append-nil nodes);
+  lines = took.lines;
+  few = omega (arith, took.few, took.count);
+  short = took.short;
+  complete = λ _. refl;
+  cut = λ e. absurd cc;
+}
+
 -- ---- the first of some nodes, by those of their beginning
 
 first_with : (limits : Limits) (nodes found later : List Located) (list : List KeptNode) (all : Bool) → nodes ≡ found ++ later → AreFirstNodes limits found list all
@@ -83,6 +165,6 @@ first_with limits nodes found later list all is are (inr many) =
     }
 
 -- the first of enough nodes are the first of all
-pub first_of_enough : (limits : Limits) (nodes found : List Located) (list : List KeptNode) (all : Bool) → AreEnough limits.nodes nodes found → AreFirstNodes limits found list all
+pub first_of_enough : (limits : Limits) (nodes found : List Located) (list : List KeptNode) (all : Bool) → AreEnough (Some limits.nodes) nodes found → AreFirstNodes limits found list all
     → AreFirstNodes limits nodes list all
 first_of_enough limits nodes found list all enough are = first_with limits nodes found enough.0 list all enough.1 are enough.2

@@ -12,8 +12,9 @@ use Rattle.serde_json_path_parser.specs.declared.error.ParseError.{ParseError}
 use Rattle.serde_json_path_parser.specs.declared.error.ParseErrorKind.{ParseErrorKind}
 use Rattle.serde_json_path_parser.specs.declared.error.ParseErrorKind.TheVariants.{ExpectedRoot, BadMemberName, ExpectedClosingBracket, ExpectedEndingQuote, BadEscape, ControlCharacter, ExpectedSelector, IntegerOutOfRange, ExponentOrEmptyFraction, NumberOutOfRange, ExpectedExpression, ExpectedClosingParenthesis, ExpectedComparisonOperator, NonSingularQuery, UndefinedFunction, WrongNumberOfArguments, WrongArgumentType, WrongReturnType, NestedTooDeep, TextAfterPath, FractionTooLong, NoMemory}
 use Rattle.serde_json_path_hints.specs.Hints.{hint_of}
-use Rattle.jsonpath_program.specs.Report.{ReadsAs, IsNoPath, CallsByPatternOn, IsReportIn}
-use Rattle.jsonpath_program.specs.declared.report.LineForm.{LineForm}
+use Rattle.jsonpath_document.specs.Document.{ReadsAs}
+use Rattle.jsonpath_lines.specs.declared.forms.Form.{Form}
+use Rattle.jsonpath_program.specs.Report.{IsNoPath, CallsByPatternOn, IsReportIn}
 use Rattle.jsonpath_c.specs.declared.refusal.Refusal.{Refusal}
 
 -- A text is put: it is the first bytes of what is there then, the others are as before, and the size is its own.
@@ -75,7 +76,7 @@ abbrev pub IsReportedRefusalOf : List ℕ → Refusal → Type 0
 IsReportedRefusalOf path refusal = IsRefusalBy IsReportedWith path refusal
 
 -- What an export of lines answers, with what it was lent before and after: `out`, `size` and `refusal`.
-pub record AnswersLines (form : LineForm) (path document old_out new_out : List ℕ) (old_size new_size : ℕ) (old_refusal new_refusal : Refusal) (status : ℕ) : Type 0 where
+pub record AnswersLines (form : Form) (path document old_out new_out : List ℕ) (old_size new_size : ℕ) (old_refusal new_refusal : Refusal) (status : ℕ) : Type 0 where
   pub statuses : status ≤ 6
   pub done : status ≡ 0 → (text : List ℕ) × IsReportIn form builtin_functions path document text × IsPut text old_out new_out new_size
   pub no_room : status ≡ 5 → (text : List ℕ) × IsReportIn form builtin_functions path document text × FindsNoRoom text old_out new_size

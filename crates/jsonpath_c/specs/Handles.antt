@@ -9,7 +9,7 @@ use Rattle.serde_json.specs.View.{view}
 use Rattle.serde_json_path.specs.Paths.{path_tree}
 use Rattle.serde_json_path_core.specs.PatternCalls.{CallsByPattern}
 use Rattle.serde_json_path_core.specs.Selects.{Selects}
-use Rattle.serde_json_path_functions.specs.Functions.{FunctionSet, Numbers, whole_numbers, all_numbers}
+use Rattle.serde_json_path_functions.specs.Functions.{FunctionSet, Numbers, whole_numbers, all_numbers, with_rule}
 use Rattle.serde_json_path_functions.specs.Patterns.{builtin_functions}
 use Rattle.serde_json_path_functions.specs.Terms.{numbers_view}
 use Rattle.serde_json_path_nodes.specs.Lists.{first_places}
@@ -19,10 +19,9 @@ use Rattle.jsonpath_owned_nodes.specs.Kept.{KeptNode, kept, location_of}
 use Rattle.jsonpath_owned_nodes.specs.declared.node_info.NodeInfo.{NodeInfo}
 use Rattle.jsonpath_owned_nodes.specs.declared.node_info.NodeInfo.TheVariants.{Null, False, True, Integer, Unsigned, Double, String, Array, Object}
 use Rattle.serde_json_path_parser.specs.Accepted.{IsAccepted}
-use Rattle.jsonpath_program.specs.Report.{AreLinesIn, IsLineIn}
-use Rattle.jsonpath_program.specs.Ruled.{with_rule}
-use Rattle.jsonpath_program.specs.declared.report.LineForm.{LineForm}
-use Rattle.jsonpath_program.specs.declared.report.LineForm.TheVariants.{LocationAndValue, Location, Value}
+use Rattle.jsonpath_lines.specs.Output.{IsLine, IsLineOfEach, compact_lines}
+use Rattle.jsonpath_lines.specs.declared.forms.Form.{Form}
+use Rattle.jsonpath_lines.specs.declared.forms.Form.TheVariants.{LocationAndValue, Location, Value}
 use Rattle.jsonpath_c.specs.Exports.{IsPut, FindsNoRoom}
 use Rattle.jsonpath_c.specs.declared.compiled.Compiled.{Compiled}
 use Rattle.jsonpath_c.specs.declared.handle.document.Document.{Document}
@@ -125,13 +124,13 @@ abbrev pub HasNode : Option Nodes → ℕ → (KeptNode → Type 0) → Type 0
 HasNode handle index Says = MatchOption handle ⊥ (λ list. MatchOption (slice_get list.nodes index) ⊥ Says)
 
 -- a value of which this holds stands in a document where a list's node at an index was
-abbrev pub StandsIn : Nodes → ℕ → Document → (Data → Type 0) → Type 0
-StandsIn list index d Says = MatchOption (slice_get list.nodes index) ⊥ (λ node.
+abbrev pub HasValueAt : Nodes → ℕ → Document → (Data → Type 0) → Type 0
+HasValueAt list index d Says = MatchOption (slice_get list.nodes index) ⊥ (λ node.
     MatchOption (at (view d.value) (location_of node)) ⊥ Says)
 
 -- the same of two handles
 abbrev pub StandsAt : Option Nodes → ℕ → Option Document → (Data → Type 0) → Type 0
-StandsAt list index document Says = BothHold list document (λ list d. StandsIn list index d Says)
+StandsAt list index document Says = BothHold list document (λ list d. HasValueAt list index d Says)
 
 -- how a location is written
 abbrev pub location_text : LocationForm → List Step → List ℕ
@@ -141,28 +140,28 @@ location_text Pointer location = pointer location
 -- ---- lines
 
 -- the form of lines that a number names: 1 is values alone, 2 locations alone
-abbrev pub form_of : ℕ → LineForm
+abbrev pub form_of : ℕ → Form
 form_of number = if number == 1 then Value else if number == 2 then Location else LocationAndValue
 
 -- one line more would go beyond the limits: there are as many nodes as there may be, or the text would be too long
-abbrev pub IsBeyond : LineForm → Limits → List Located → List ℕ → Located → Type 0
+abbrev pub IsBeyond : Form → Limits → List Located → List ℕ → Located → Type 0
 IsBeyond form limits shown text next =
-    (limits.nodes ≤ length shown) ⊎ ((line : List ℕ) × IsLineIn form next line × (limits.bytes < length text + length line))
+    (limits.nodes ≤ length shown) ⊎ ((line : List ℕ) × IsLine (compact_lines form) [] next line × (limits.bytes < length text + length line))
 
 -- The text is the lines of the first of some nodes, as many as the limits allow: of all, or of those before one that would go
 -- beyond.
-pub record AreFirstLines (form : LineForm) (limits : Limits) (nodes : List Located) (text : List ℕ) (all : Bool) : Type 0 where
+pub record AreFirstLines (form : Form) (limits : Limits) (nodes : List Located) (text : List ℕ) (all : Bool) : Type 0 where
   pub shown : List Located
   pub more : List Located
   pub first : nodes ≡ shown ++ more
-  pub lines : AreLinesIn form shown text
+  pub lines : IsLineOfEach (compact_lines form) [] shown text
   pub few : length shown ≤ limits.nodes
   pub short : length text ≤ limits.bytes
   pub complete : all ≡ true → more ≡ []
   pub cut : all ≡ false → (next : Located) × (later : List Located) × (more ≡ next ∷ later) × IsBeyond form limits shown text next
 
 -- What a call for lines answers of a path and a document, with what it was lent before and after: `out` and `size`.
-pub record AnswersLinesOf (form : LineForm) (limits : Limits) (c : Compiled) (d : Document) (old_out new_out : List ℕ) (old_size new_size status : ℕ) : Type 0 where
+pub record AnswersLinesOf (form : Form) (limits : Limits) (c : Compiled) (d : Document) (old_out new_out : List ℕ) (old_size new_size status : ℕ) : Type 0 where
   pub statuses : (status ≡ 0) ⊎ (status ≡ 3) ⊎ (status ≡ 4) ⊎ (status ≡ 5) ⊎ (status ≡ 8)
   pub done : status ≡ 0 → (nodes : List Located) × (text : List ℕ) × SelectsFrom c d nodes × AreFirstLines form limits nodes text true × IsPut text old_out new_out new_size
   pub cut : status ≡ 8 → (nodes : List Located) × (text : List ℕ) × SelectsFrom c d nodes × AreFirstLines form limits nodes text false × IsPut text old_out new_out new_size

@@ -9,18 +9,18 @@ use crate::compiled::Compiled;
 use crate::counted::count_of;
 use crate::handle::document::{Document, DocumentHandle};
 use crate::handle::path::PathHandle;
-use crate::lent::Lent;
+use crate::borrowed::Borrowed;
 use crate::limits::Limits;
-use crate::put::put;
+use crate::output::put;
 use crate::status::{CUT_SHORT, DONE, EMPTY_HANDLE, NO_MEMORY, QUERY_REFUSED};
 use crate::walks::walk;
-use jsonpath_program::report::LineForm;
+use jsonpath_lines::Form;
 use serde_json_path::QueryError;
 use serde_json_path::functions::PatternStore;
 use std::alloc::Global;
 
 /// The status of a refused query.
-pub(crate) fn status_of(e: QueryError) -> u8
+pub(crate) fn query_status(e: QueryError) -> u8
     ensures pattern { e ≡ QueryError.Pattern → result ≡ 3 }
     ensures memory { e ≡ QueryError.Memory → result ≡ 4 }
 {
@@ -31,20 +31,20 @@ pub(crate) fn status_of(e: QueryError) -> u8
 }
 
 /// The form of lines that a number names.
-fn form_named(form: u8) -> LineForm
+fn form_named(form: u8) -> Form
     ensures { result ≡ form_of form }
 {
     match form {
-        1 => LineForm::Value,
-        2 => LineForm::Location,
-        _ => LineForm::LocationAndValue,
+        1 => Form::Value,
+        2 => Form::Location,
+        _ => Form::LocationAndValue,
     }
 }
 
 /// Puts the lines of what a path selects from a document, as many as the limits allow.
 fn put_lines(
     alloc: Global,
-    form: LineForm,
+    form: Form,
     limits: &Limits,
     path: &Compiled,
     document: &Document,
@@ -57,10 +57,10 @@ fn put_lines(
     let store = PatternStore::new();
     let nodes = match walk(alloc, path, document, &store) {
         Ok(nodes) => nodes,
-        Err(e) => return status_of(e),
+        Err(e) => return query_status(e),
     };
     match first_lines(alloc, form, limits, nodes) {
-        Err(e) => status_of(e),
+        Err(e) => query_status(e),
         Ok(lines) => match put(lines.text.as_str(), out, size) {
             DONE if !lines.all => CUT_SHORT,
             status => status,
@@ -89,7 +89,7 @@ pub extern "C" fn jsonpath_lines(
     ensures kept_out { result ≡ 7 → out.new ≡ out.old }
     ensures kept_size { result ≡ 7 → size.new ≡ size.old }
 {
-    let Some(lent) = Lent::take(alloc, path, document) else {
+    let Some(lent) = Borrowed::take(alloc, path, document) else {
         return EMPTY_HANDLE;
     };
     let form = form_named(form);
@@ -106,7 +106,7 @@ fn counted(alloc: Global, path: &Compiled, document: &Document) -> Result<usize,
 {
     let store = PatternStore::new();
     let nodes = walk(alloc, path, document, &store)?;
-    count_of(alloc, nodes)
+    count_of(nodes)
 }
 
 /// Counts the nodes that a path selects from a document: 0; 3 where the query is refused for a pattern; 4 without memory; 7
@@ -128,7 +128,7 @@ pub extern "C" fn jsonpath_count(
     ensures kept_document { document.new.value ≡ document.old.value }
     ensures kept_count { result ≢ 0 → count.new ≡ count.old }
 {
-    let Some(lent) = Lent::take(alloc, path, document) else {
+    let Some(lent) = Borrowed::take(alloc, path, document) else {
         return EMPTY_HANDLE;
     };
     let found = counted(alloc, &lent.path, &lent.document);
@@ -138,7 +138,7 @@ pub extern "C" fn jsonpath_count(
             *count = found;
             DONE
         }
-        Err(e) => status_of(e),
+        Err(e) => query_status(e),
     }
 }
 
@@ -173,7 +173,7 @@ pub extern "C" fn jsonpath_exists(
     ensures kept_document { document.new.value ≡ document.old.value }
     ensures kept_exists { result ≢ 0 → exists.new ≡ exists.old }
 {
-    let Some(lent) = Lent::take(alloc, path, document) else {
+    let Some(lent) = Borrowed::take(alloc, path, document) else {
         return EMPTY_HANDLE;
     };
     let found = selects_some(alloc, &lent.path, &lent.document);
@@ -183,6 +183,6 @@ pub extern "C" fn jsonpath_exists(
             *exists = u8::from(found);
             DONE
         }
-        Err(e) => status_of(e),
+        Err(e) => query_status(e),
     }
 }

@@ -6,9 +6,9 @@ ghost use Rattle.serde_json_path_core.specs.Walks.{document_of, query_of, rest, 
 ghost use Rattle.jsonpath_c.specs.Handles.{AreFirstLines};
 
 use crate::limits::Limits;
-use jsonpath_program::report::{LineForm, push_line};
+use jsonpath_lines::{Form, Output, push_line};
 use serde_json_path::functions::Functions;
-use serde_json_path::{QueryError, Walk};
+use serde_json_path::{LocatedNode, QueryError, Sink, Taken, Walk};
 use std::alloc::Global;
 
 /// Lines, as many as limits allow.
@@ -20,31 +20,63 @@ pub(crate) struct FirstLines {
     pub(crate) all: bool,
 }
 
+/// The lines of nodes, while they are within limits.
+#[derive(Drop)]
+struct BoundedLines<'a> {
+    alloc: Global,
+    form: Form,
+    limits: &'a Limits,
+    text: String,
+    /// The last line, whose memory the next one uses.
+    line: String,
+    count: usize,
+}
+
+impl<'a, 'b> Sink<'b> for BoundedLines<'a> {
+    ghost use Rattle.jsonpath_c.specs.Inside.{FilledLines, TookLines};
+
+    ghost took = { TookLines };
+
+    ghost filled = { FilledLines };
+
+    #[inline(always)]
+    fn take(&mut self, node: LocatedNode<'b>) -> Result<Taken<'b>, QueryError> {
+        self.line.clear();
+        let output = Output::compact_lines(self.form);
+        push_line(self.alloc, &output, "", &mut self.line, &node)?;
+        let room = self.limits.bytes.saturating_sub(self.text.len());
+        if self.count >= self.limits.nodes || room < self.line.len() {
+            return Ok(Taken::Enough);
+        }
+        self.text.push_str(self.line.as_str())?;
+        self.count += 1;
+        Ok(Taken::More(node.into_steps()))
+    }
+}
+
 /// The lines of the first nodes that remain of a walk, as many as the limits allow.
 pub(crate) fn first_lines<F: Functions + Drop>(
     alloc: Global,
-    form: LineForm,
+    form: Form,
     limits: &Limits,
-    mut walk: Walk<'_, '_, F>,
+    walk: Walk<'_, '_, F>,
 ) -> Result<FirstLines, QueryError>
     ensures lines { IfOk result (λ lines.
         AreFirstLines form limits.now (rest walk.entry) (string_bytes lines.text) lines.all) }
     ensures refused { OnlyMemoryOrPattern (set_of walk.entry) (query_of walk.entry)
         (document_of walk.entry) result }
 {
-    let mut text = String::new(alloc);
-    let mut line = String::new(alloc);
-    let mut steps = Vec::new(alloc);
-    let mut count = 0usize;
-    'nodes: while let Some(node) = walk.next_into(steps)? {
-        line.clear();
-        push_line(alloc, &mut line, form, &node)?;
-        if count >= limits.nodes || limits.bytes - text.len() < line.len() {
-            return Ok(FirstLines { text, all: false });
-        }
-        text.push_str(line.as_str())?;
-        count += 1;
-        steps = node.into_steps();
-    }
-    Ok(FirstLines { text, all: true })
+    let mut lines = BoundedLines {
+        alloc,
+        form,
+        limits,
+        text: String::new(alloc),
+        line: String::new(alloc),
+        count: 0,
+    };
+    let all = walk.feed(&mut lines)?;
+    Ok(FirstLines {
+        text: lines.text,
+        all,
+    })
 }

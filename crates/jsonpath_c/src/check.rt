@@ -9,8 +9,8 @@ ghost use Rattle.serde_json_path_parser.specs.declared.error.ParseError as path_
 ghost use Rattle.serde_json_path_syntax.specs.Tree.{Query};
 ghost use Rattle.jsonpath_c.specs.Exports.{IsPut, FindsNoRoom, IsRefusalOf, IsReportedRefusalOf, IsReportedWith, hint_text};
 
-use crate::put::put;
-use crate::refusal::{Refusal, refuse};
+use crate::output::put;
+use crate::refusal::{Refusal, put_refusal};
 use crate::status::{DONE, NO_MEMORY, NOT_UTF8};
 use serde_json_path::{JsonPath, ParseError, ParseErrorKind};
 use serde_json_path_hints::hint;
@@ -33,7 +33,7 @@ pub extern "C" fn jsonpath_check(alloc: Global, path: &[u8], refusal: &mut Refus
     };
     match JsonPath::parse(alloc, path) {
         Ok(_) => DONE,
-        Err(e) => refuse(&e, refusal),
+        Err(e) => put_refusal(&e, refusal),
     }
 }
 

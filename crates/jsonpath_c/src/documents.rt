@@ -5,8 +5,7 @@ ghost use Rattle.std.specs.Option.{MatchOption};
 ghost use Rattle.std.specs.Str.{IsUtf8};
 ghost use Rattle.serde_json.specs.Data.{Data};
 ghost use Rattle.serde_json.specs.View.{view};
-ghost use Rattle.jsonpath_document.specs.Document.{is_too_deep_at};
-ghost use Rattle.jsonpath_program.specs.Report.{ReadsAs};
+ghost use Rattle.jsonpath_document.specs.Document.{ReadsAs, is_too_deep_at};
 
 use crate::handle::document::{Document, DocumentHandle};
 use crate::status::{DOCUMENT_REFUSED, DOCUMENT_TOO_DEEP, DONE, NO_MEMORY};
@@ -14,7 +13,7 @@ use jsonpath_document::{DocumentFault, read_document};
 use std::alloc::Global;
 
 /// The status of a fault.
-fn status_of(fault: DocumentFault) -> u8
+fn document_status(fault: DocumentFault) -> u8
     ensures memory { (result ≡ 4) ↔ (fault ≡ DocumentFault.Memory) }
     ensures statuses { (result ≡ 2) ⊎ (result ≡ 4) ⊎ (result ≡ 9) }
     ensures too_deep { (result ≡ 9) ↔ (fault ≡ DocumentFault.TooDeep) }
@@ -50,7 +49,7 @@ pub extern "C" fn jsonpath_document_new(
     let value = match read_document(alloc, bytes) {
         Ok(value) => value,
         Err(e) => {
-            let status = status_of(e.fault);
+            let status = document_status(e.fault);
             if status != NO_MEMORY {
                 *position = e.position;
             }

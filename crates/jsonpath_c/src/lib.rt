@@ -12,22 +12,21 @@
 #![tactic(auto)]
 
 mod answers;
+mod borrowed;
 mod bounded;
+mod bounded_list;
 mod check;
 mod compiled;
 mod counted;
-mod distinct;
 mod documents;
-mod filling;
 mod handle;
-mod lent;
 mod limits;
 mod lines;
 mod node;
 mod node_texts;
 mod nodes;
+mod output;
 mod paths;
-mod put;
 mod refusal;
 mod selected;
 mod status;

@@ -2,10 +2,11 @@
 
 ghost use Rattle.jsonpath_c.specs.Exports.{AnswersLines};
 
-use crate::put::put;
-use crate::refusal::{Refusal, refuse};
+use crate::output::put;
+use crate::refusal::{Refusal, put_refusal};
 use crate::status::{DOCUMENT_REFUSED, NO_MEMORY, NOT_UTF8, QUERY_REFUSED};
-use jsonpath_program::report::{DocumentError, LineForm, ReportError, report_in};
+use jsonpath_lines::Form;
+use jsonpath_program::report::{DocumentError, ReportError, report_in};
 use serde_json_path::QueryError;
 use serde_json_path::functions::{CachedPatterns, PatternStore};
 use std::alloc::Global;
@@ -13,7 +14,7 @@ use std::alloc::Global;
 /// Puts the lines in a form, or tells the refusal. Returns the status.
 fn lines(
     alloc: Global,
-    form: LineForm,
+    form: Form,
     path: &[u8],
     document: &[u8],
     out: &mut [u8],
@@ -30,7 +31,7 @@ fn lines(
     let functions = CachedPatterns::new(alloc, &store);
     match report_in(alloc, form, path, document, &functions) {
         Ok(text) => put(text.as_str(), out, size),
-        Err(ReportError::Path(e)) => refuse(&e, refusal),
+        Err(ReportError::Path(e)) => put_refusal(&e, refusal),
         Err(ReportError::Document(DocumentError::NotJson)) => DOCUMENT_REFUSED,
         Err(ReportError::Query(QueryError::Pattern)) => QUERY_REFUSED,
         Err(
@@ -49,12 +50,12 @@ pub extern "C" fn jsonpath_report(
     size: &mut usize,
     refusal: &mut Refusal,
 ) -> u8
-    ensures { AnswersLines LineForm.LocationAndValue path.now document.now out.old out.new
+    ensures { AnswersLines Form.LocationAndValue path.now document.now out.old out.new
         size.old size.new refusal.old refusal.new result }
 {
     lines(
         alloc,
-        LineForm::LocationAndValue,
+        Form::LocationAndValue,
         path,
         document,
         out,
@@ -73,10 +74,10 @@ pub extern "C" fn jsonpath_values(
     size: &mut usize,
     refusal: &mut Refusal,
 ) -> u8
-    ensures { AnswersLines LineForm.Value path.now document.now out.old out.new size.old size.new
+    ensures { AnswersLines Form.Value path.now document.now out.old out.new size.old size.new
         refusal.old refusal.new result }
 {
-    lines(alloc, LineForm::Value, path, document, out, size, refusal)
+    lines(alloc, Form::Value, path, document, out, size, refusal)
 }
 
 /// A line for each node that the path selects: its normalised path and a line feed.
@@ -89,12 +90,12 @@ pub extern "C" fn jsonpath_locations(
     size: &mut usize,
     refusal: &mut Refusal,
 ) -> u8
-    ensures { AnswersLines LineForm.Location path.now document.now out.old out.new size.old size.new
+    ensures { AnswersLines Form.Location path.now document.now out.old out.new size.old size.new
         refusal.old refusal.new result }
 {
     lines(
         alloc,
-        LineForm::Location,
+        Form::Location,
         path,
         document,
         out,

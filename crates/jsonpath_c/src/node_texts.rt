@@ -6,11 +6,11 @@ ghost use Rattle.serde_json.specs.Data.{string};
 ghost use Rattle.serde_json_path_nodes.specs.Text.{normal, pointer};
 ghost use Rattle.jsonpath_owned_nodes.specs.Kept.{location_of};
 ghost use Rattle.jsonpath_program.specs.Report.{IsJsonOf};
-ghost use Rattle.jsonpath_c.specs.Handles.{AnswersText, HasNode, StandsAt, StandsIn, location_text};
+ghost use Rattle.jsonpath_c.specs.Handles.{AnswersText, HasNode, StandsAt, HasValueAt, location_text};
 
 use crate::handle::document::{Document, DocumentHandle};
 use crate::handle::nodes::{Nodes, NodesHandle};
-use crate::put::put;
+use crate::output::put;
 use crate::status::{EMPTY_HANDLE, NO_MEMORY, NO_SUCH_NODE};
 use serde_json::Value;
 use serde_json_path::NormalizedPath;
@@ -175,10 +175,10 @@ fn put_json(
     out: &mut [u8],
     size: &mut usize,
 ) -> u8
-    ensures text { AnswersText (λ text. StandsIn list.now index document.now (λ v.
+    ensures text { AnswersText (λ text. HasValueAt list.now index document.now (λ v.
         IsJsonOf v text)) out.old out.new size.old size.new result }
     ensures statuses { (result ≡ 0) ⊎ (result ≡ 4) ⊎ (result ≡ 5) ⊎ (result ≡ 10) }
-    ensures absent { result ≡ 10 → StandsIn list.now index document.now (λ v. ⊤) → ⊥ }
+    ensures absent { result ≡ 10 → HasValueAt list.now index document.now (λ v. ⊤) → ⊥ }
 {
     let Some(value) = list.nodes.value_in(index, &document.value) else {
         return NO_SUCH_NODE;

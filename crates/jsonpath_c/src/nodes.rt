@@ -6,15 +6,15 @@ ghost use Rattle.serde_json_path_nodes.specs.Location.{Located};
 ghost use Rattle.jsonpath_owned_nodes.specs.Kept.{known_of};
 ghost use Rattle.jsonpath_c.specs.Handles.{AreFirstNodes, BothHold, CallsByPatternFrom, HasNode, SelectsFrom, asked_of, told_of};
 
-use crate::answers::status_of;
+use crate::answers::query_status;
 use crate::compiled::Compiled;
 use crate::handle::document::{Document, DocumentHandle};
 use crate::handle::nodes::{Nodes, NodesHandle};
 use crate::handle::path::PathHandle;
-use crate::lent::Lent;
+use crate::borrowed::Borrowed;
 use crate::limits::Limits;
 use crate::node::Node;
-use crate::put::put;
+use crate::output::put;
 use crate::selected::{FirstNodes, first_nodes, first_unique_nodes};
 use crate::status::{CUT_SHORT, DONE, EMPTY_HANDLE, NO_MEMORY, NO_SUCH_NODE};
 use crate::walks::walk;
@@ -70,14 +70,14 @@ pub extern "C" fn jsonpath_select(
     ensures kept_document { document.new.value ≡ document.old.value }
     ensures kept { result ≢ 0 → result ≢ 8 → nodes.new.value ≡ nodes.old.value }
 {
-    let Some(lent) = Lent::take(alloc, path, document) else {
+    let Some(lent) = Borrowed::take(alloc, path, document) else {
         return EMPTY_HANDLE;
     };
     let found = selected(alloc, &lent.path, &lent.document, unique, limits);
     lent.put_back(alloc, path, document);
     let first = match found {
         Ok(first) => first,
-        Err(e) => return status_of(e),
+        Err(e) => return query_status(e),
     };
     let status = if first.all { DONE } else { CUT_SHORT };
     match Box::new(alloc, Nodes { nodes: first.nodes }) {

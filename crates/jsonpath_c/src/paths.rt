@@ -11,8 +11,8 @@ ghost use Rattle.jsonpath_c.specs.Handles.{AnswersText, BothHold, HoldsPathOf, r
 
 use crate::compiled::Compiled;
 use crate::handle::path::PathHandle;
-use crate::put::put;
-use crate::refusal::{Refusal, refuse};
+use crate::output::put;
+use crate::refusal::{Refusal, put_refusal};
 use crate::status::{DONE, EMPTY_HANDLE, NO_MEMORY, NOT_UTF8};
 use serde_json_path::JsonPath;
 use serde_json_path::functions::Numbers;
@@ -51,7 +51,7 @@ pub extern "C" fn jsonpath_path_new(
     };
     let parsed = match JsonPath::parse(alloc, text) {
         Ok(parsed) => parsed,
-        Err(e) => return refuse(&e, refusal),
+        Err(e) => return put_refusal(&e, refusal),
     };
     match Box::new(alloc, Compiled::new(parsed, rule(numbers))) {
         Ok(compiled) => {

@@ -49,7 +49,7 @@ fn number(kind: ParseErrorKind) -> u32
 }
 
 /// Tells why a parse failed, and returns the status. Nothing is written for want of memory.
-pub(crate) fn refuse(e: &ParseError, refusal: &mut Refusal) -> u8
+pub(crate) fn put_refusal(e: &ParseError, refusal: &mut Refusal) -> u8
     ensures memory { kind_of e.now ≡ NoMemory → (result ≡ 4) × (refusal.new ≡ refusal.old) }
     ensures refused { kind_of e.now ≢ NoMemory
         → (result ≡ 1) × (refusal.new.kind ≡ number_of (kind_of e.now))

@@ -7,9 +7,9 @@ ghost use Rattle.serde_json_path_core.specs.Walks.{document_of, query_of, rest, 
 ghost use Rattle.serde_json_path_nodes.specs.Lists.{first_places};
 ghost use Rattle.jsonpath_c.specs.Handles.{AreFirstNodes};
 
-use crate::distinct::distinct_nodes;
-use crate::filling::Filling;
+use crate::bounded_list::BoundedList;
 use crate::limits::Limits;
+use jsonpath_lines::distinct_nodes;
 use jsonpath_owned_nodes::OwnedNodes;
 use serde_json_path::functions::Functions;
 use serde_json_path::{LocatedNode, QueryError, Walk};
@@ -28,27 +28,18 @@ pub(crate) struct FirstNodes {
 pub(crate) fn first_nodes<F: Functions + Drop>(
     alloc: Global,
     limits: &Limits,
-    mut walk: Walk<'_, '_, F>,
+    walk: Walk<'_, '_, F>,
 ) -> Result<FirstNodes, QueryError>
     ensures nodes { IfOk result (λ first.
         AreFirstNodes limits.now (rest walk.entry) first.nodes first.all) }
     ensures refused { OnlyMemoryOrPattern (set_of walk.entry) (query_of walk.entry)
         (document_of walk.entry) result }
 {
-    let mut filling = Filling::new(alloc, limits);
-    let mut steps = Vec::new(alloc);
-    'nodes: while let Some(node) = walk.next_into(steps)? {
-        if !filling.push(&node)? {
-            return Ok(FirstNodes {
-                nodes: filling.nodes,
-                all: false,
-            });
-        }
-        steps = node.into_steps();
-    }
+    let mut bounded_list = BoundedList::new(alloc, limits);
+    let all = walk.feed(&mut bounded_list)?;
     Ok(FirstNodes {
-        nodes: filling.nodes,
-        all: true,
+        nodes: bounded_list.nodes,
+        all,
     })
 }
 
@@ -61,17 +52,17 @@ fn first_of(
     ensures { IfOk result (λ first.
         AreFirstNodes limits.now (map located found.now) first.nodes first.all) }
 {
-    let mut filling = Filling::new(alloc, limits);
+    let mut bounded_list = BoundedList::new(alloc, limits);
     for node in found {
-        if !filling.push(node)? {
+        if !bounded_list.push(node)? {
             return Ok(FirstNodes {
-                nodes: filling.nodes,
+                nodes: bounded_list.nodes,
                 all: false,
             });
         }
     }
     Ok(FirstNodes {
-        nodes: filling.nodes,
+        nodes: bounded_list.nodes,
         all: true,
     })
 }
@@ -87,6 +78,6 @@ pub(crate) fn first_unique_nodes<F: Functions + Drop>(
     ensures refused { OnlyMemoryOrPattern (set_of walk.entry) (query_of walk.entry)
         (document_of walk.entry) result }
 {
-    let found = distinct_nodes(alloc, limits.nodes, walk)?;
+    let found = distinct_nodes(alloc, Some(limits.nodes as u64), walk)?;
     Ok(first_of(alloc, limits, found.as_slice())?)
 }

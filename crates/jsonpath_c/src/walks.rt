@@ -9,8 +9,7 @@ ghost use Rattle.jsonpath_c.specs.Handles.{SelectsFrom, functions_of};
 
 use crate::compiled::Compiled;
 use crate::handle::document::Document;
-use jsonpath_program::ruled::Ruled;
-use serde_json_path::functions::{CachedPatterns, PatternStore};
+use serde_json_path::functions::{CachedPatterns, PatternStore, Ruled};
 use serde_json_path::{QueryError, Walk};
 use std::alloc::Global;
 

@@ -1,14 +1,23 @@
 -- Documents from bytes, and places in them.
-use Rattle.std.specs.Prelude.{◌≡◌, ◌==◌, ◌+◌, ◌-◌, ◌++◌, ◌&&◌, ◌||◌, not, ℕ, Bool, true, false, List, [], ◌∷◌}
+use Rattle.std.specs.Prelude.{◌≡◌, ◌==◌, ◌+◌, ◌-◌, ◌++◌, ◌&&◌, ◌||◌, not, ℕ, Bool, true, false, List, [], ◌∷◌, Some}
 use Rattle.std.specs.Prelude.{fold, length, take, drop, codes, nat_eq, nat_le, nat_lt, if◌then◌else◌}
 use Rattle.std.specs.Fmt.{decimal}
 use Rattle.std.specs.List.{starts_with}
+use Rattle.std.specs.Str.{IsUtf8}
+use Rattle.serde_json.specs.Data.{Data}
+use Rattle.serde_json.specs.Read.{read}
 use Rattle.jsonpath_document.specs.declared.document.DocumentError.{DocumentError}
 use Rattle.jsonpath_document.specs.declared.document.DocumentFault.{DocumentFault}
 use Rattle.jsonpath_document.specs.declared.document.DocumentFault.TheVariants.{ByteOrderMark, Empty, CutShort, Comment}
 use Rattle.jsonpath_document.specs.declared.document.DocumentFault.TheVariants.{SingleQuote, NotFinite, TrailingComma}
 use Rattle.jsonpath_document.specs.declared.document.DocumentFault.TheVariants.{NotUtf8, TooDeep, NumberOutOfRange}
 use Rattle.jsonpath_document.specs.declared.document.DocumentFault.TheVariants.{SecondDocument, NotJson, Memory}
+
+-- the bytes read as this document: they are UTF-8, and its text reads as the value
+abbrev pub ReadsAs : List ℕ → Data → Type 0
+ReadsAs bytes d = IsUtf8 bytes × (read bytes ≡ Some d)
+
+-- ---- lines and columns
 
 -- the byte goes on with a character of UTF-8 that has begun
 abbrev pub is_continuation : ℕ → Bool
@@ -108,7 +117,7 @@ is_too_deep_at text position = is_too_deep_after text (position - 1)
 -- ---- where a fault is
 
 -- the fault stands in the text: at the line, the column and the byte of what follows some text before it
-abbrev pub StandsIn : List ℕ → DocumentError → Type 0
-StandsIn text e = (before after : List ℕ) × (text ≡ before ++ after)
+abbrev pub IsFaultIn : List ℕ → DocumentError → Type 0
+IsFaultIn text e = (before after : List ℕ) × (text ≡ before ++ after)
     × ((e.line, e.column) ≡ place_after before) × (e.position ≡ length before + 1)
     × (stands e.fault after ≡ true)

@@ -1,3 +1,3 @@
 -- What contracts cite:
--- Document: what may be told of a place in a text that is no document.
+-- Document: which value bytes are, and what may be said of a place in a text that is no document.
 pub mod Document

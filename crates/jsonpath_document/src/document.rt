@@ -5,8 +5,7 @@ ghost use Rattle.std.specs.Prelude.{false, length, true};
 ghost use Rattle.std.specs.Str.{IsUtf8};
 ghost use Rattle.serde_json.specs.Data.{Data};
 ghost use Rattle.serde_json.specs.View.{view};
-ghost use Rattle.jsonpath_program.specs.Report.{ReadsAs};
-ghost use Rattle.jsonpath_document.specs.Document.{StandsIn, begins, begins_comment};
+ghost use Rattle.jsonpath_document.specs.Document.{ReadsAs, IsFaultIn, begins, begins_comment};
 ghost use Rattle.jsonpath_document.specs.Document.{begins_not_finite, is_continuation, is_too_deep_after};
 ghost use Rattle.jsonpath_document.specs.Document.{is_too_deep_at, levels_after, message_of, open_past};
 ghost use Rattle.jsonpath_document.specs.Document.{place_after, stands};
@@ -307,7 +306,7 @@ fn met<'t>(text: &'t str, before: &'t str, rest: &str) -> (&'t str, DocumentFaul
 
 /// Why a text is refused at a place that `serde_json` tells.
 fn refusal_at(text: &str, error: &Error) -> DocumentError
-    ensures stands { StandsIn text.now result }
+    ensures stands { IsFaultIn text.now result }
     ensures utf8 { result.fault ≢ DocumentFault.NotUtf8 }
     ensures depth { (result.fault ≡ DocumentFault.TooDeep)
         ↔ (is_too_deep_at text.now result.position ≡ true) }
@@ -328,7 +327,7 @@ fn refusal_at(text: &str, error: &Error) -> DocumentError
 
 /// Why a text is refused, where `serde_json` refuses it by an error.
 fn refusal(text: &str, error: &Error) -> DocumentError
-    ensures stands { StandsIn text.now result }
+    ensures stands { IsFaultIn text.now result }
     ensures utf8 { result.fault ≢ DocumentFault.NotUtf8 }
     ensures depth { (result.fault ≡ DocumentFault.TooDeep)
         ↔ (is_too_deep_at text.now result.position ≡ true) }
@@ -360,7 +359,7 @@ fn text_of_first(bytes: &[u8], count: usize) -> &str
 
 /// Why bytes are refused, where `serde_json` refuses them by an error.
 fn refused(bytes: &[u8], error: &Error) -> DocumentError
-    ensures stands { StandsIn bytes.now result }
+    ensures stands { IsFaultIn bytes.now result }
     ensures not_utf8 { result.fault ≡ DocumentFault.NotUtf8 → IsUtf8 bytes.now → ⊥ }
     ensures too_deep { result.fault ≡ DocumentFault.TooDeep
         → is_too_deep_at bytes.now result.position ≡ true }
@@ -392,7 +391,7 @@ pub fn read_document(alloc: Global, bytes: &[u8]) -> Result<Value, DocumentError
     ensures ok { IfOk result (λ value. ReadsAs bytes.now (view value)) }
     ensures refused { IfErr result (λ e. e.fault ≢ DocumentFault.Memory
         → (d : Data) → ReadsAs bytes.now d → ⊥) }
-    ensures stands { IfErr result (λ e. e.fault ≢ DocumentFault.Memory → StandsIn bytes.now e) }
+    ensures stands { IfErr result (λ e. e.fault ≢ DocumentFault.Memory → IsFaultIn bytes.now e) }
     ensures not_utf8 { IfErr result (λ e. e.fault ≡ DocumentFault.NotUtf8 → IsUtf8 bytes.now → ⊥) }
     ensures too_deep { IfErr result (λ e. e.fault ≡ DocumentFault.TooDeep
         → is_too_deep_at bytes.now e.position ≡ true) }

@@ -2,8 +2,7 @@
 //!
 //! [`read_document`] reads a document, and says of what is no JSON where it goes wrong, and what stands there.
 //!
-//! Definitions are in `specs/`: `Document` has what may be told of a place in a text. Which value bytes are is `ReadsAs` of
-//! `jsonpath_program`.
+//! Definitions are in `specs/`: `Document` says which value bytes are, and what may be said of a place in a text.
 #![tactic(auto)]
 
 mod document;

@@ -17,7 +17,7 @@ use Rattle.serde_json.specs.Written.{blank, blank_items, blank_members, comma_if
 use Rattle.serde_json.proofs.Texts.{print-outline, tokens_from_order}
 use Rattle.serde_json_path_nodes.specs.Location.{Located}
 use Rattle.serde_json_path_nodes.specs.Text.{normal}
-use Rattle.jsonpath_program.specs.Report.{IsJsonOf}
+use Rattle.jsonpath_lines.specs.Output.{IsJsonOf}
 use Rattle.jsonpath_lines.specs.Output.{IsJsonIn, array_of, items_of, object_of}
 use Rattle.jsonpath_lines.specs.Inside.{ArePiecesIn, IsLaidOut, IsPrintedOf, path_string}
 use Rattle.jsonpath_lines.specs.declared.forms.Form.TheVariants.{Json}

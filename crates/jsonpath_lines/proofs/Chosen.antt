@@ -1,17 +1,19 @@
 -- The nodes that a walk is asked for.
-use Rattle.std.proofs.Common.{◌≡◌, ◌↔◌, ℕ, zero, suc, ◌+◌, ◌≤◌, Bool, true, false, List, [], ◌∷◌, ◌++◌, length, take, codes, Option, Some, None, refl, sym, ap, subst, ◌∙◌, append-nil, arith}
+use Rattle.std.proofs.Common.{◌≡◌, ◌↔◌, ℕ, zero, suc, ◌+◌, ◌≤◌, Bool, true, false, List, [], ◌∷◌, ◌++◌, length, take, codes, Option, Some, None, nat_lt, string_bytes, refl, sym, ap, subst, ◌∙◌, append-nil, append_assoc, arith}
 use Rattle.std.proofs.lemmas.List.{length-take, take_all, take-append-le}
 use Rattle.json.specs.Lex.{tokens}
 use Rattle.json.specs.Print.{ArePrintable}
 use Rattle.serde_json_path_nodes.specs.Location.{Located}
 use Rattle.serde_json_path_nodes.specs.Lists.{first_places_after}
 use Rattle.jsonpath_lines.specs.Output.{AreLines, AreLinesIn, IsCount, IsCountIn, up_to}
-use Rattle.jsonpath_lines.specs.Inside.{Appends, ArePieces, ArePiecesIn, IsClosedIn, Pushes, asked, is_reached, leaves_out_in, limit_in, once, opening}
+use Rattle.jsonpath_lines.specs.Inside.{Appends, ArePieces, ArePiecesIn, IsClosedIn, IsPiece, Pushes, TookLines, asked, is_reached, leaves_out_in, limit_in, once, opening}
 use Rattle.jsonpath_lines.specs.declared.forms.Form.{Form}
 use Rattle.jsonpath_lines.specs.declared.forms.Form.TheVariants.{LocationAndValue, Value, Raw, Location, Pointer, Json, Count, Nothing}
 use Rattle.jsonpath_lines.specs.declared.forms.Output.{Output}
+use Rattle.jsonpath_lines.specs.declared.line.LineWriter.{LineWriter}
+use Rattle.jsonpath_lines.specs.declared.nodes.Lines.{Lines}
 use Rattle.jsonpath_lines.proofs.Arrays.{array_printable}
-use Rattle.jsonpath_lines.proofs.Pieces.{lines_written}
+use Rattle.jsonpath_lines.proofs.Pieces.{appended_pushed, length_further, lines_written}
 
 -- ---- a limit
 
@@ -35,12 +37,10 @@ reached (Some most) done left all count same within full is =
     let exactly : most ≡ length done = grind arith in
     sym (ap (λ (ns : List Located). take most ns) is ∙ take-append-le most done left (omega (arith, exactly)) ∙ take_all most done (omega (arith, exactly)))
 
--- where no node is left, all are within the limit
-pub ended : (limit : Option ℕ) (done left all : List Located) (count : ℕ) → count ≡ length done → IsWithin limit count → left ≡ [] → all ≡ done ++ left → done ≡ up_to limit all
-ended None done left all count same within none is = sym (is ∙ ap (λ (ns : List Located). done ++ ns) none ∙ append-nil done)
-ended (Some most) done left all count same within none is =
-    let whole : all ≡ done = is ∙ ap (λ (ns : List Located). done ++ ns) none ∙ append-nil done in
-    sym (ap (λ (ns : List Located). take most ns) whole ∙ take_all most done (omega (arith, same, within)))
+-- below the limit all are asked for
+pub all_below : (limit : Option ℕ) (nodes : List Located) (count : ℕ) → count ≡ length nodes → is_reached limit count ≡ false → nodes ≡ up_to limit nodes
+all_below None nodes count same below = refl
+all_below (Some most) nodes count same below = sym (take_all most nodes (grind (arith, same, below)))
 
 -- what is appended for these nodes, which are those that are asked for
 pub pushed_so_far : (output : Output) (head : List ℕ) (limit : Option ℕ) (all done : List Located) (old new : List ℕ) (count : ℕ) → limit ≡ limit_in output.form output.most → done ≡ up_to limit all
@@ -48,6 +48,45 @@ pub pushed_so_far : (output : Output) (head : List ℕ) (limit : Option ℕ) (al
 pushed_so_far output head limit all done old new count is these appended same =
     let asked : done ≡ up_to (limit_in output.form output.most) all = these ∙ ap (λ limit. up_to limit all) is in
     (subst (λ ns. Appends (ArePieces output head ns) old new) asked appended, same ∙ ap (λ (ns : List Located). length ns) asked)
+
+-- ---- a line sink
+
+-- none were taken yet
+pub none_taken : (lines : Lines) → lines.count ≡ 0 → is_reached lines.limit 0 ≡ false → TookLines lines [] lines
+none_taken lines none below = record {
+  writer = refl;
+  limit = refl;
+  text = ([], refl, sym (append-nil (string_bytes lines.text)));
+  count = none;
+  more = ap (is_reached lines.limit) none ∙ below;
+}
+
+-- another is taken
+pub one_taken : (before old : Lines) (nodes : List Located) (n : Located) (text : List ℕ) (count : ℕ) → TookLines before nodes old
+    → Appends (IsPiece old.writer.output.now old.writer.head.now (nat_lt 0 old.count) n) (string_bytes old.text) text → count ≡ old.count + 1
+    → Appends (ArePieces before.writer.output.now before.writer.head.now (nodes ++ n ∷ [])) (string_bytes before.text) text × (count ≡ length (nodes ++ n ∷ []))
+one_taken before old nodes n text count took piece further =
+    let own = subst (λ (w : LineWriter). Appends (IsPiece w.output.now w.head.now (nat_lt 0 old.count) n) (string_bytes old.text) text) took.writer piece in (
+      appended_pushed before.writer.output.now before.writer.head.now nodes n old.count _ _ _ took.count took.text own,
+      further ∙ length_further nodes n old.count took.count,
+    )
+
+-- with it the limit is reached
+pub filled_by_one : (before old : Lines) (nodes later : List Located) (n : Located) (text : List ℕ) (count : ℕ) → TookLines before nodes old
+    → Appends (IsPiece old.writer.output.now old.writer.head.now (nat_lt 0 old.count) n) (string_bytes old.text) text → count ≡ old.count + 1
+    → is_reached old.limit count ≡ true
+    → let shown = up_to before.limit (nodes ++ (n ∷ later)) in
+    Appends (ArePieces before.writer.output.now before.writer.head.now shown) (string_bytes before.text) text × (count ≡ length shown)
+filled_by_one before old nodes later n text count took piece further full =
+    let one = one_taken before old nodes n text count took piece further in
+    let done = nodes ++ n ∷ [] in
+    let below : is_reached before.limit old.count ≡ false = ap (λ l. is_reached l old.count) (sym took.limit) ∙ took.more in
+    let within : IsWithin before.limit count = subst (IsWithin before.limit) (sym further) (within_further before.limit old.count below) in
+    let these : done ≡ up_to before.limit (nodes ++ (n ∷ later)) =
+    reached before.limit done later (nodes ++ (n ∷ later)) count one.1 within (ap (λ l. is_reached l count) (sym took.limit) ∙ full) (sym (append_assoc nodes (n ∷ []) later)) in (
+      subst (λ ns. Appends (ArePieces before.writer.output.now before.writer.head.now ns) (string_bytes before.text) text) these one.0,
+      one.1 ∙ ap (λ (ns : List Located). length ns) these,
+    )
 
 -- ---- what is shown of the chosen nodes, by what a walk is asked for
 

@@ -1,13 +1,17 @@
 -- Lemmas; the folders have the proofs of functions.
--- Pieces: what is shown of some nodes, with that of another node after it; the lines that the pieces make up.
--- Chosen: the nodes that a walk is asked for.
+-- Pieces: what is written of some nodes, with that of another node after it; the lines that the pieces make up.
+-- Chosen: the nodes that a walk is asked for, and a line sink that has enough.
+-- EachOnce: nodes of which each location is taken once.
 -- Seen: a line so far, in colours.
--- Scalars: the texts of null, truth values and integers are their JSON in each layout.
+-- Compact: the texts of null, truth values and integers are their compact JSON, and read back.
+-- Scalars: the same in each layout.
 -- Arrays: the array of nodes, written item by item, is its JSON.
--- Written: what writes leave, one after the other.
+-- Appended: what writes leave, one after the other.
 pub mod Pieces
 pub mod Chosen
+pub mod EachOnce
 pub mod Seen
+pub mod Compact
 pub mod Scalars
 pub mod Arrays
-pub mod Written
+pub mod Appended

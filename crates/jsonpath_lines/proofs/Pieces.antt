@@ -49,6 +49,13 @@ appended_pushed output head ns n count old text new same before piece = (
 pub length_further : (ns : List Located) (n : Located) (count : ℕ) → count ≡ length ns → count + 1 ≡ length (ns ++ n ∷ [])
 length_further ns n count same = grind (arith, length-append)
 
+-- the lines of some nodes, and that of the node after them
+pub lines_pushed : (output : Output) (head : List ℕ) (ns : List Located) (lines line : List ℕ) (n : Located) → IsLineOfEach output head ns lines → IsLine output head n line
+    → IsLineOfEach output head (ns ++ n ∷ []) (lines ++ line)
+lines_pushed output head [] lines line n h is = (line, [], is, refl, ap (λ (t : List ℕ). t ++ line) h ∙ sym (append-nil line))
+lines_pushed output head (m ∷ ns) lines line n h is =
+    (h.0, h.1 ++ line, h.2, lines_pushed output head ns h.1 line n h.3 is, ap (λ (t : List ℕ). t ++ line) h.4 ∙ append_assoc h.0 h.1 line)
+
 -- ---- the lines that the pieces make up
 
 lines_of_each : (form : Form) (output : Output) (head : List ℕ) → ((later : Bool) (n : Located) (piece : List ℕ) → IsPieceIn form output head later n piece → IsLine output head n piece)

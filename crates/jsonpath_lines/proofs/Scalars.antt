@@ -18,9 +18,8 @@ use Rattle.serde_json.specs.declared.value.Value as value
 use Rattle.serde_json.specs.Written.{blank, compact_text, outline}
 use Rattle.serde_json.proofs.Numbers.{number_of-decimal, number_of-negative}
 use Rattle.serde_json.proofs.Texts.{print-outline, unless_float-number_of}
-use Rattle.jsonpath_program.specs.Report.{IsJsonOf}
-use Rattle.jsonpath_program.proofs.Scalars as report
-use Rattle.jsonpath_lines.specs.Output.{IsJsonIn, IsPrettyOf}
+use Rattle.jsonpath_lines.proofs.Compact as compact
+use Rattle.jsonpath_lines.specs.Output.{IsJsonIn, IsJsonOf, IsPrettyOf}
 use Rattle.jsonpath_lines.specs.Inside.{IsLaid, IsPrintedOf}
 use Rattle.jsonpath_lines.specs.declared.forms.Layout.{Layout}
 use Rattle.jsonpath_lines.specs.declared.forms.Layout.TheVariants.{Compact, Pretty}
@@ -53,23 +52,23 @@ in_each_seen layout e d t seen one text numbers same is =
 pub json_of_null : (layout : Layout) (v : value.Value) → v ≡ value.Null → IsLaid layout (view v) (compact_text null)
 json_of_null layout v is =
     let seen : null ≡ view v = search (rules, value.the_lemmas) in
-    in_each_seen layout (view v) null Token.null seen refl refl tt refl (report.json_of_null v is)
+    in_each_seen layout (view v) null Token.null seen refl refl tt refl (compact.json_of_null v is)
 
 boolean_seen : (v : value.Value) (held b : Bool) → v ≡ value.Bool held → held ≡ b → boolean b ≡ view v
 boolean_seen v held b is same = search (rules, value.the_lemmas)
 
 pub json_of_boolean : (layout : Layout) (v : value.Value) (held b : Bool) → v ≡ value.Bool held → held ≡ b → IsLaid layout (view v) (compact_text (boolean b))
 json_of_boolean layout v held true is same =
-    in_each_seen layout (view v) (boolean true) (Token.boolean true) (boolean_seen v held true is same) refl refl tt refl (report.json_of_boolean v held true is same)
+    in_each_seen layout (view v) (boolean true) (Token.boolean true) (boolean_seen v held true is same) refl refl tt refl (compact.json_of_boolean v held true is same)
 json_of_boolean layout v held false is same =
-    in_each_seen layout (view v) (boolean false) (Token.boolean false) (boolean_seen v held false is same) refl refl tt refl (report.json_of_boolean v held false is same)
+    in_each_seen layout (view v) (boolean false) (Token.boolean false) (boolean_seen v held false is same) refl refl tt refl (compact.json_of_boolean v held false is same)
 
 -- a value that is held as an unsigned integer
 pub json_of_u64 : (layout : Layout) (d : Data) (n : ℕ) → n < 2 ^ 64 → option_and_then as_u64 (as_number d) ≡ Some n → IsLaid layout d (decimal n)
 json_of_u64 layout (number (unsigned m)) n h e =
     let same : m ≡ n = cc in
     let whole = unless_float-number_of (decimal n) (unsigned n) (number_of-decimal n h) in
-    rw same (in_each layout (number (unsigned n)) (Token.number (decimal n)) refl refl (IsNumber-decimal n h) (ap json.number whole) (report.json_of_u64 (number (unsigned n)) n h refl))
+    rw same (in_each layout (number (unsigned n)) (Token.number (decimal n)) refl refl (IsNumber-decimal n h) (ap json.number whole) (compact.json_of_u64 (number (unsigned n)) n h refl))
 json_of_u64 layout _ n h e = absurd cc
 
 not_unsigned : (small : Bool) (m n : ℕ) → (if small then Some (pos m) else None) ≡ Some (negsuc n) → ⊥
@@ -86,5 +85,5 @@ json_of_i64 layout (number (negative z)) (negsuc n) fits below e =
     let whole = unless_float-number_of (signed_decimal (negsuc n)) (negative (negsuc n)) (number_of-negative n h) in
     rw same
     (in_each layout (number (negative (negsuc n))) (Token.number (signed_decimal (negsuc n))) refl refl (IsNumber-signed_decimal (negsuc n) h) (ap json.number whole)
-    (report.json_of_i64 (number (negative (negsuc n))) (negsuc n) fits below refl))
+    (compact.json_of_i64 (number (negative (negsuc n))) (negsuc n) fits below refl))
 json_of_i64 layout _ (negsuc n) fits below e = absurd cc

@@ -1,5 +1,5 @@
 -- What contracts of private functions cite alone.
-use Rattle.std.specs.Prelude.{◌≡◌, ◌≤◌, ℕ, min, Bool, true, false, List, [], ◌∷◌, ◌++◌, length, Option, Some, None, unwrap_or, nat_le, if◌then◌else◌, codes}
+use Rattle.std.specs.Prelude.{◌≡◌, ◌≤◌, ℕ, min, Bool, true, false, List, [], ◌∷◌, ◌++◌, length, map, Option, Some, None, string_bytes, unwrap_or, nat_le, if◌then◌else◌, codes}
 use Rattle.std.specs.Fmt.{decimal}
 use Rattle.json.specs.Lex.{tokens}
 use Rattle.json.specs.Layout.{pretty}
@@ -10,13 +10,17 @@ use Rattle.serde_json.specs.Written.{IsInOrder, comma_if, compact_text}
 use Rattle.serde_json_path_nodes.specs.Location.{Located}
 use Rattle.serde_json_path_nodes.specs.Lists.{first_places}
 use Rattle.serde_json_path_nodes.specs.Text.{normal}
+use Rattle.serde_json_path_nodes.specs.Views.{located}
 use Rattle.jsonpath_lines.specs.Output.{IsJsonIn, IsLine, end_text, up_to}
+use Rattle.jsonpath_lines.specs.Distinct.{AreEnough}
 use Rattle.jsonpath_lines.specs.Plain.{plain}
 use Rattle.jsonpath_lines.specs.declared.forms.Form.{Form}
 use Rattle.jsonpath_lines.specs.declared.forms.Form.TheVariants.{Json, Count, Nothing}
 use Rattle.jsonpath_lines.specs.declared.forms.Layout.{Layout}
 use Rattle.jsonpath_lines.specs.declared.forms.Layout.TheVariants.{Compact, Pretty}
 use Rattle.jsonpath_lines.specs.declared.forms.Output.{Output}
+use Rattle.jsonpath_lines.specs.declared.distinct.DistinctNodes.{DistinctNodes}
+use Rattle.jsonpath_lines.specs.declared.nodes.Lines.{Lines}
 
 -- what is appended to a text
 abbrev pub Appends : (List ℕ → Type 0) → List ℕ → List ℕ → Type 0
@@ -95,6 +99,33 @@ abbrev pub Pushes : Output → List ℕ → List Located → List ℕ → List �
 Pushes output head nodes old new count =
     let shown = up_to (limit_in output.form output.most) nodes in
     Appends (ArePieces output head shown) old new × (count ≡ length shown)
+
+-- ---- sinks
+
+-- what was written of these nodes, all below the limit, where there was none before
+pub record TookLines (before : Lines) (nodes : List Located) (now : Lines) : Type 0 where
+  pub writer : now.writer ≡ before.writer
+  pub limit : now.limit ≡ before.limit
+  pub text : Appends (ArePieces before.writer.output.now before.writer.head.now nodes) (string_bytes before.text) (string_bytes now.text)
+  pub count : now.count ≡ length nodes
+  pub more : is_reached now.limit now.count ≡ false
+
+-- what was written of these nodes up to the limit, which is reached
+abbrev pub FilledLines : Lines → List Located → Lines → Type 0
+FilledLines before nodes now =
+    let shown = up_to before.limit nodes in
+    Appends (ArePieces before.writer.output.now before.writer.head.now shown) (string_bytes before.text) (string_bytes now.text) × (now.count ≡ length shown)
+
+-- the nodes that differ in their locations are those of these nodes, where there was none before
+pub record TookDistinct (before : DistinctNodes) (nodes : List Located) (now : DistinctNodes) : Type 0 where
+  pub limit : now.limit ≡ before.limit
+  pub met : first_places (map located now.nodes.items) ≡ first_places nodes
+
+-- what differs is enough to have as many as are wanted
+abbrev pub FilledDistinct : DistinctNodes → List Located → DistinctNodes → Type 0
+FilledDistinct before nodes now = AreEnough before.limit (first_places nodes) (map located now.nodes.items)
+
+-- ---- the whole text
 
 -- what is written before all nodes
 abbrev pub opening : Form → List ℕ

@@ -1,7 +1,9 @@
 -- What contracts cite:
 -- Output: which nodes are shown, and what is shown of them in each form.
+-- Distinct: enough nodes, each location once.
 -- Plain: a line without its colours.
 -- Inside: what contracts of private functions cite alone.
 pub mod Output
+pub mod Distinct
 pub mod Plain
 pub mod Inside

@@ -1,15 +1,15 @@
 -- What is shown of the nodes of a result, in each form.
-use Rattle.std.specs.Prelude.{◌≡◌, ◌≤◌, ◌↔◌, ℕ, List, [], ◌∷◌, ◌++◌, length, take, Option, Some, None, if◌then◌else◌, codes}
+use Rattle.std.specs.Prelude.{◌≡◌, ◌≤◌, ◌↔◌, ℕ, false, true, List, [], ◌∷◌, ◌++◌, length, take, Option, Some, None, if◌then◌else◌, codes}
 use Rattle.std.specs.Fmt.{decimal}
 use Rattle.json.specs.Lex.{tokens}
 use Rattle.json.specs.Layout.{pretty}
+use Rattle.json.specs.Print.{print}
 use Rattle.serde_json.specs.Data.{Data, string, array, object, Items, no_items, item, no_members, member, depth}
 use Rattle.serde_json.specs.Read.{read, max_depth}
-use Rattle.serde_json.specs.Written.{IsInOrder}
+use Rattle.serde_json.specs.Written.{IsInOrder, compact_text, has_float}
 use Rattle.serde_json_path_nodes.specs.Location.{Located}
 use Rattle.serde_json_path_nodes.specs.Lists.{first_places}
 use Rattle.serde_json_path_nodes.specs.Text.{normal, pointer}
-use Rattle.jsonpath_program.specs.Report.{IsJsonOf}
 use Rattle.jsonpath_lines.specs.declared.forms.Form.{Form}
 use Rattle.jsonpath_lines.specs.declared.forms.Form.TheVariants.{LocationAndValue, Value, Raw, Location, Pointer, Json, Count, Nothing}
 use Rattle.jsonpath_lines.specs.declared.forms.Layout.{Layout}
@@ -17,6 +17,12 @@ use Rattle.jsonpath_lines.specs.declared.forms.Layout.TheVariants.{Compact, Pret
 use Rattle.jsonpath_lines.specs.declared.forms.LineEnd.{LineEnd}
 use Rattle.jsonpath_lines.specs.declared.forms.LineEnd.TheVariants.{LineFeed, Nul}
 use Rattle.jsonpath_lines.specs.declared.forms.Output.{Output}
+
+-- ---- compact lines
+
+-- a compact line in a form for each node, ended by a line feed: what `jsonpath` shows
+abbrev pub compact_lines : Form → Output
+compact_lines form = record { form = form; layout = Compact; end = LineFeed; unique = false; most = None }
 
 -- ---- which nodes
 
@@ -30,6 +36,13 @@ abbrev pub chosen : Output → List Located → List Located
 chosen output nodes = up_to output.most (if output.unique then first_places nodes else nodes)
 
 -- ---- a node's text
+
+-- a value's compact JSON: what it is, is said where every number in the value is held as an integer, and else that it is compact
+-- and in the value's order; that it reads back as the value, where the value nests no deeper than `serde_json` reads
+abbrev pub IsJsonOf : Data → List ℕ → Type 0
+IsJsonOf d json =
+    (has_float d ≡ false → json ≡ compact_text d) × (depth d ≤ max_depth → read json ≡ Some d)
+    × (has_float d ≡ true → (json ≡ print (tokens json)) × IsInOrder json d)
 
 -- a value's indented JSON: its layout, each item and member once and in order, and what it reads back as
 abbrev pub IsPrettyOf : Data → List ℕ → Type 0

@@ -72,6 +72,20 @@ impl LineEnd {
 
 impl Output {
     ghost use Rattle.jsonpath_lines.specs.Inside.{leaves_out_in, limit_in};
+    ghost use Rattle.jsonpath_lines.specs.Output.{compact_lines};
+
+    /// A compact line in a form for each node, ended by a line feed, as `jsonpath` writes them.
+    pub fn compact_lines(form: Form) -> Output
+        ensures { result ≡ compact_lines form }
+    {
+        Output {
+            form,
+            layout: Layout::Compact,
+            end: LineEnd::LineFeed,
+            unique: false,
+            most: None,
+        }
+    }
 
     /// How many nodes a walk is asked for at most: one is enough to know that there is one.
     pub(crate) fn limit(&self) -> Option<u64>

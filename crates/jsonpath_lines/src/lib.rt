@@ -1,26 +1,30 @@
 //! What a path selects, in many forms of output.
 //!
-//! [`append`] goes along a walk and appends what is shown of its nodes: a line for each, with its location, its pointer, its
-//! value, or several of these; or all nodes as one JSON array, or only how many there are.
+//! [`write_nodes`] goes along a walk and writes its nodes: a line for each, with its location, its pointer, its value, or several
+//! of these; or all nodes as one JSON array, or only how many there are. [`push_line`] appends one line, and [`distinct_nodes`]
+//! has each location once.
 //!
 //! ```text
-//! let (form, layout, end) = (Form::Pointer, Layout::Compact, LineEnd::LineFeed);
-//! let output = Output { form, layout, end, unique: false, most: Some(2) };
+//! let output = Output { most: Some(2), ..Output::compact_lines(Form::Pointer) };
 //! let walk = path.walk(alloc, &document, &Builtin)?;
-//! let count = append(alloc, &output, "", &mut text, walk)?;
+//! let written = write_nodes(alloc, &output, "", String::new(alloc), walk)?;
 //! ```
 //!
 //! [`colored`] gives such a line in the colours of a terminal.
 //!
-//! Definitions are in `specs/`: `Output` says what is shown, `Plain` what a line is without its colours.
+//! Definitions are in `specs/`: `Output` says what is shown, `Distinct` when distinct nodes are enough, `Plain` what a line is
+//! without its colours.
 #![tactic(auto)]
 
-mod appending;
 mod colours;
+mod distinct;
 mod forms;
-mod showing;
+mod line;
+mod nodes;
 mod values;
 
-pub use appending::append;
 pub use colours::colored;
+pub use distinct::distinct_nodes;
 pub use forms::{Form, Layout, LineEnd, Output};
+pub use line::push_line;
+pub use nodes::{Written, write_nodes};

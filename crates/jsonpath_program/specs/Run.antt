@@ -8,7 +8,8 @@ use Rattle.serde_json_path_functions.specs.Patterns.{builtin_functions}
 use Rattle.serde_json_path_functions.specs.declared.error.QueryError.{QueryError}
 use Rattle.serde_json_path_functions.specs.declared.error.QueryError.TheVariants as query_error
 use Rattle.serde_json_path_parser.specs.Errors.{position_of, message_of}
-use Rattle.jsonpath_program.specs.Report.{ReadsAs, CallsByPatternOn, IsReportOf}
+use Rattle.jsonpath_program.specs.Report.{CallsByPatternOn, IsReportOf}
+use Rattle.jsonpath_document.specs.Document.{ReadsAs}
 use Rattle.jsonpath_program.specs.declared.report.DocumentError.{DocumentError}
 use Rattle.jsonpath_program.specs.declared.report.DocumentError.TheVariants as document_error
 use Rattle.jsonpath_program.specs.declared.report.ReportError.{ReportError}

@@ -9,17 +9,12 @@
 //! ```
 //!
 //! [`run::run`] reads the document, writes the lines or tells a fault in a line, and answers the exit status of the program.
-//! [`arguments::words_after_first`] takes the program's name off its words. [`nodes::nodes_of`] makes a list of a walk.
-//! [`ruled::Ruled`] is a set under a rule for numbers that is chosen while a program runs, and [`samples::Samples`] a function
-//! set as an example for other programs.
+//! [`arguments::words_after_first`] takes the program's name off its words.
 //!
-//! Definitions are in `specs/`: `Report` says what the lines are, `Run` what the statuses mean and what is told, `Ruled` what a
-//! rule does to a set, `Samples` what the sample functions mean.
+//! Definitions are in `specs/`: `Report` says what a report is, `Run` what the statuses mean and what is told. A document's reading
+//! is that of `jsonpath_document`, and lines are those of `jsonpath_lines`.
 #![tactic(auto)]
 
 pub mod arguments;
-pub mod nodes;
 pub mod report;
-pub mod ruled;
 pub mod run;
-pub mod samples;

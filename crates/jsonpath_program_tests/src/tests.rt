@@ -6,4 +6,5 @@ mod failing;
 mod program;
 mod refused_memory;
 mod reports;
+mod sample_set;
 mod samples;

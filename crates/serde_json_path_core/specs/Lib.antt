@@ -14,6 +14,8 @@ pub mod PatternCalls
 pub mod Selects
 -- walks as contracts see them; `rest` may be read as opaque, as the clauses of `walk` and `next` say what it is
 pub mod Walks
+-- what a sink makes of a node
+pub mod Sinks
 -- how far down a value goes
 pub mod Height
 -- laws of the definitions

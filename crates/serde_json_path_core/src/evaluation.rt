@@ -5,6 +5,7 @@ pub(crate) mod cursor;
 pub(crate) mod frame;
 pub(crate) mod scope;
 pub(crate) mod single_children;
+pub(crate) mod sink;
 pub(crate) mod slice_positions;
 pub(crate) mod stack;
 pub(crate) mod walks;
@@ -99,12 +100,7 @@ pub fn evaluate_located<'b, F: Functions + Drop>(
     ensures refused { OnlyMemoryOrPattern (F.set functions) (tree_of query.now)
         (view document.now) result }
 {
-    let mut walk = walk(alloc, query, document, functions)?;
-    let mut found = Vec::new(alloc);
-    'nodes: while let Some(node) = walk.next()? {
-        found.push(node)?;
-    }
-    Ok(LocatedNodeList::from(found))
+    walk(alloc, query, document, functions)?.collect()
 }
 
 /// The values of what the query selects, in order, as [`evaluate_located`] gives them (RFC 9535, section 2.1.2). Errors

@@ -20,6 +20,7 @@ mod evaluation;
 mod filter;
 mod laws;
 
+pub use evaluation::sink::{Sink, Taken};
 pub use evaluation::walks::Walk;
 pub use evaluation::{evaluate, evaluate_located, walk};
 pub use laws::{

@@ -5,7 +5,7 @@ use std::process::Termination;
 use std::test::Fail;
 
 /// What is given, and what is wanted.
-fn ends(row: &str) -> (&str, &str) {
+pub fn ends(row: &str) -> (&str, &str) {
     row.split_once(" -> ").unwrap_or((row, "an end of the row"))
 }
 

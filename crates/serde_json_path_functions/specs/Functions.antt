@@ -85,9 +85,13 @@ both A B = record {
   numbers = A.numbers;
 }
 
+-- the functions of a set, where comparisons take numbers by a rule
+abbrev pub with_rule : Numbers → FunctionSet → FunctionSet
+with_rule rule F = record F { numbers = rule }
+
 -- the same functions, where comparisons take all numbers
 abbrev pub with_all_numbers : FunctionSet → FunctionSet
-with_all_numbers F = record F { numbers = all_numbers }
+with_all_numbers F = with_rule all_numbers F
 
 -- ---- the built-in functions
 

@@ -5,7 +5,7 @@
 -- Errors: the texts of errors.
 -- OwnSets: lemmas for a set of your own, that it keeps types and patterns.
 -- Kept: what contracts see of the patterns that are kept.
--- Inside: that the sets here keep theirs. A law of a trait may cite `specs` alone.
+-- Inside: that the sets here keep theirs, as a law of a trait may cite `specs` alone, and the built-in functions' names.
 pub mod Functions
 pub mod Patterns
 pub mod Terms

@@ -1,10 +1,11 @@
 //! The built-in functions (RFC 9535, sections 2.4.4 to 2.4.8).
 
-ghost use Rattle.std.specs.Prelude.{◌≡◌, [], ◌∷◌, length, map, IfOk, Err};
+ghost use Rattle.std.specs.Prelude.{◌≡◌, [], ◌∷◌, length, map, is_some, IfOk, IfSome, Err};
 ghost use Rattle.std.specs.Str.{chars};
 ghost use Rattle.serde_json_path_functions.specs.Functions.{value, logical, of_logical, kind_of_term, Takes, Gives, plain_signature, plain_meaning, counted, length_of, value_of_one};
 ghost use Rattle.serde_json_path_functions.specs.Patterns.{MayRefuse, pattern_meaning, builtin_functions};
 ghost use Rattle.serde_json_path_functions.specs.Terms.{term_view, value_view, nodes_view, matching_view};
+ghost use Rattle.serde_json_path_functions.specs.Inside.BuiltinNames.{name_of};
 ghost use Rattle.serde_json_path_functions.specs.Functions as spec;
 ghost use Rattle.serde_json_path_functions.specs.declared.error.QueryError.TheVariants.{Pattern};
 
@@ -20,6 +21,36 @@ use std::alloc::Global;
 /// The built-in functions `length`, `count`, `value`, `match` and `search`.
 #[derive(Clone, Copy, Debug)]
 pub struct Builtin;
+
+/// A built-in function.
+#[derive(Clone, Copy)]
+enum BuiltinFunction {
+    /// `length`.
+    Length,
+    /// `count`.
+    Count,
+    /// `value`.
+    Value,
+    /// `match`.
+    Match,
+    /// `search`.
+    Search,
+}
+
+/// The built-in function of a name.
+fn named(name: &str) -> Option<BuiltinFunction>
+    ensures names { IfSome result (λ function. name.now ≡ name_of function) }
+    ensures declared { is_some result ≡ is_some (builtin_functions.signature name.now) }
+{
+    match name {
+        "length" => Some(BuiltinFunction::Length),
+        "count" => Some(BuiltinFunction::Count),
+        "value" => Some(BuiltinFunction::Value),
+        "match" => Some(BuiltinFunction::Match),
+        "search" => Some(BuiltinFunction::Search),
+        _ => None,
+    }
+}
 
 /// A number as a value.
 fn counted<'b>(number: usize) -> ValueType<'b>
@@ -58,14 +89,15 @@ fn value_of_one<'b>(nodes: &NodesType<'b>) -> ValueType<'b>
 }
 
 /// The answer of `length`, `count` or `value`.
-fn plain_answer<'b>(name: &str, mut args: Vec<FunctionValue<'b>>) -> ValueType<'b>
-    requires { Takes (plain_signature name.now) (map term_view args.items) }
-    ensures { value (value_view result) ≡ plain_meaning name.now (map term_view args.entry.items) }
+fn plain_answer<'b>(function: BuiltinFunction, mut args: Vec<FunctionValue<'b>>) -> ValueType<'b>
+    requires { Takes (plain_signature (name_of function)) (map term_view args.items) }
+    ensures { value (value_view result)
+        ≡ plain_meaning (name_of function) (map term_view args.entry.items) }
 {
-    match (name, args.pop()) {
-        ("length", Some(FunctionValue::Value(value))) => length(&value),
-        ("count", Some(FunctionValue::Nodes(nodes))) => counted(nodes.len()),
-        ("value", Some(FunctionValue::Nodes(nodes))) => value_of_one(&nodes),
+    match (function, args.pop()) {
+        (BuiltinFunction::Length, Some(FunctionValue::Value(value))) => length(&value),
+        (BuiltinFunction::Count, Some(FunctionValue::Nodes(nodes))) => counted(nodes.len()),
+        (BuiltinFunction::Value, Some(FunctionValue::Nodes(nodes))) => value_of_one(&nodes),
         _ => unreachable!(),
     }
 }
@@ -144,10 +176,15 @@ pub(crate) fn answer_by<'b, P: FindsPatterns>(
     ensures pattern { result ≡ Err Pattern
         → MayRefuse (builtin_functions.by_regex name.now) (map term_view args.entry.items) }
 {
-    match name {
-        "match" => pattern_answer(patterns, alloc, Matching::WholeText, args.as_slice()),
-        "search" => pattern_answer(patterns, alloc, Matching::AnyPart, args.as_slice()),
-        _ => Ok(FunctionValue::Value(plain_answer(name, args))),
+    match named(name) {
+        Some(BuiltinFunction::Match) => {
+            pattern_answer(patterns, alloc, Matching::WholeText, args.as_slice())
+        }
+        Some(BuiltinFunction::Search) => {
+            pattern_answer(patterns, alloc, Matching::AnyPart, args.as_slice())
+        }
+        Some(function) => Ok(FunctionValue::Value(plain_answer(function, args))),
+        None => unreachable!(),
     }
 }
 
@@ -161,21 +198,22 @@ impl Functions for Builtin {
     ghost patterned = { λ _. builtin_keeps_patterns };
 
     fn signature(&self, name: &str) -> Option<Signature> {
-        match name {
-            "length" => Signature::new(&[FunctionArgType::Value], FunctionArgType::Value),
-            "count" | "value" => {
+        match named(name)? {
+            BuiltinFunction::Length => {
+                Signature::new(&[FunctionArgType::Value], FunctionArgType::Value)
+            }
+            BuiltinFunction::Count | BuiltinFunction::Value => {
                 Signature::new(&[FunctionArgType::Nodelist], FunctionArgType::Value)
             }
-            "match" | "search" => Signature::new(
+            BuiltinFunction::Match | BuiltinFunction::Search => Signature::new(
                 &[FunctionArgType::Value, FunctionArgType::Value],
                 FunctionArgType::Logical,
             ),
-            _ => None,
         }
     }
 
     fn declares(&self, name: &str) -> bool {
-        matches!(name, "length" | "count" | "value" | "match" | "search")
+        named(name).is_some()
     }
 
     fn numbers(&self) -> Numbers {

@@ -1,5 +1,5 @@
 -- Reading lists of characters, whatever is read: runs at the start, items one after another, and what a reader gives.
-use Rattle.serde_json_path_parser.proofs.Words.{cases_lt, eqb-true, encode_utf8_all, encode_utf8, ◌==◌, AllByRecursion, begins, is_blank, is_digit, value_from, front, past, length-append, IsBlank, past_blanks, Refusal, Parsed, ◌>>=◌, many_at, many, and_parts, begins_both, Joined, Failure, Fails, Signature, ParseErrorKind, ExpectedRoot, UndefinedFunction, TextAfterPath, NoMemory, IsUndeclared, byte_count, refusal, cases_Bool, false_from_ne_true, ◌≡◌, ℕ, ◌+◌, ◌-◌, ◌*◌, ◌<◌, ◌≤◌, min, Bool, true, false, true≢false, List, [], ◌∷◌, ◌++◌, length, refl, sym, ap, ◌∙◌, append_assoc, inl, inr, arith, zero, suc, Ok, Err, drop, Result, subst, ◌⊎◌, Option, cond, Memory, Refused, Context, append-nil, ◌||◌}
+use Rattle.serde_json_path_parser.proofs.Words.{cases_lt, eqb-true, encode_utf8_all, encode_utf8, ◌==◌, AllByRecursion, begins, is_blank, is_digit, value_from, front, past, length-append, IsBlank, past_blanks, Refusal, Parsed, ◌>>=◌, many_within, many, and_parts, begins_both, Joined, Failure, Fails, Signature, ParseErrorKind, ExpectedRoot, UndefinedFunction, TextAfterPath, NoMemory, IsUndeclared, byte_count, refusal, cases_Bool, false_from_ne_true, ◌≡◌, ℕ, ◌+◌, ◌-◌, ◌*◌, ◌<◌, ◌≤◌, min, Bool, true, false, true≢false, List, [], ◌∷◌, ◌++◌, length, refl, sym, ap, ◌∙◌, append_assoc, inl, inr, arith, zero, suc, Ok, Err, drop, Result, subst, ◌⊎◌, Option, cond, Memory, Refused, Context, append-nil, ◌||◌}
 
 -- ---- what begins a list
 
@@ -145,14 +145,14 @@ pub with_none : {A : Type 0} (read : Parsed (List A)) → with_front [] read ≡
 with_none (Ok x) = refl
 with_none (Err f) = refl
 
--- an item takes at least one character
-pub record Takes {A : Type 0} (more : List ℕ → Bool) (item : List ℕ → Parsed A) : Type 0 where
+-- an item consumes at least one character
+pub record Consumes {A : Type 0} (more : List ℕ → Bool) (item : List ℕ → Parsed A) : Type 0 where
   pub shorter : (cs rest : List ℕ) (x : A) → more cs ≡ true → item cs ≡ Ok (x, rest) → length rest < length cs
   pub some : (cs : List ℕ) → more cs ≡ true → 0 < length cs
 
 module _ {A : Type 0} (more : List ℕ → Bool) (item : List ℕ → Parsed A) where
-  stop : (n : ℕ) (cs : List ℕ) → more cs ≡ false → many_at more item n cs ≡ Ok ([], cs)
-  unfolding many_at
+  stop : (n : ℕ) (cs : List ℕ) → more cs ≡ false → many_within more item n cs ≡ Ok ([], cs)
+  unfolding many_within
   stop zero cs m = refl
   stop (suc n) cs m = rw m refl
 
@@ -161,28 +161,28 @@ module _ {A : Type 0} (more : List ℕ → Bool) (item : List ℕ → Parsed A) 
   unfolding many
   many_end cs t = stop (length cs) cs t
 
-module _ {A : Type 0} (more : List ℕ → Bool) (item : List ℕ → Parsed A) (takes : Takes more item) where
+module _ {A : Type 0} (more : List ℕ → Bool) (item : List ℕ → Parsed A) (consumes : Consumes more item) where
   none_more : (cs : List ℕ) → length cs ≤ 0 → more cs ≡ false
-  none_more cs l = false_from_ne_true (more cs) (λ e. omega (arith, takes.some cs e))
+  none_more cs l = false_from_ne_true (more cs) (λ e. omega (arith, consumes.some cs e))
 
   -- what is after an item, and the item
   abbrev others : ℕ → A × List ℕ → Parsed (List A)
-  others n x = many_at more item n x.1 >>= λ xs. Ok (x.0 ∷ xs.0, xs.1)
+  others n x = many_within more item n x.1 >>= λ xs. Ok (x.0 ∷ xs.0, xs.1)
 
-  one : (n : ℕ) (cs : List ℕ) → more cs ≡ true → many_at more item (suc n) cs ≡ (item cs >>= others n)
-  unfolding many_at
+  one : (n : ℕ) (cs : List ℕ) → more cs ≡ true → many_within more item (suc n) cs ≡ (item cs >>= others n)
+  unfolding many_within
   one n cs t = rw t refl
 
-  same_others : (n m : ℕ) (read : Parsed A) → ((x : A × List ℕ) → read ≡ Ok x → many_at more item n x.1 ≡ many_at more item m x.1) → (read >>= others n) ≡ (read >>= others m)
+  same_others : (n m : ℕ) (read : Parsed A) → ((x : A × List ℕ) → read ≡ Ok x → many_within more item n x.1 ≡ many_within more item m x.1) → (read >>= others n) ≡ (read >>= others m)
   same_others n m (Ok x) same = ap (λ (r : Parsed (List A)). r >>= λ xs. Ok (x.0 ∷ xs.0, xs.1)) (same x refl)
   same_others n m (Err f) same = refl
 
   -- any amount of fuel serves that is no less than the length
-  pub enough : (n m : ℕ) (cs : List ℕ) → length cs ≤ n → length cs ≤ m → many_at more item n cs ≡ many_at more item m cs
+  pub enough : (n m : ℕ) (cs : List ℕ) → length cs ≤ n → length cs ≤ m → many_within more item n cs ≡ many_within more item m cs
   enough zero m cs h k = let e = none_more cs h in stop more item 0 cs e ∙ sym (stop more item m cs e)
   enough (suc n) zero cs h k = let e = none_more cs k in stop more item (suc n) cs e ∙ sym (stop more item 0 cs e)
   enough (suc n) (suc m) cs h k = elim (cases_Bool (more cs)) [
-    | inl t ↦ one n cs t ∙ same_others n m (item cs) (λ x e. let l = takes.shorter cs x.1 x.0 t e in enough n m x.1 (omega (arith, l)) (omega (arith, l))) ∙ sym (one m cs t)
+    | inl t ↦ one n cs t ∙ same_others n m (item cs) (λ x e. let l = consumes.shorter cs x.1 x.0 t e in enough n m x.1 (omega (arith, l)) (omega (arith, l))) ∙ sym (one m cs t)
     | inr t ↦ stop more item (suc n) cs t ∙ sym (stop more item (suc m) cs t)
   ]
 
@@ -190,7 +190,7 @@ module _ {A : Type 0} (more : List ℕ → Bool) (item : List ℕ → Parsed A) 
   pub many_more : (cs rest : List ℕ) (x : A) → more cs ≡ true → item cs ≡ Ok (x, rest) → many more item cs ≡ with_front (x ∷ []) (many more item rest)
   unfolding many
   many_more cs rest x t e =
-      let l = takes.shorter cs rest x t e in
+      let l = consumes.shorter cs rest x t e in
       enough (length cs) (suc (length cs)) cs (omega arith) (omega arith) ∙ one (length cs) cs t ∙ rw e (ap (with_front (x ∷ [])) (enough (length cs) (length rest) rest (omega (arith, l)) (omega arith)))
 
   pub many_err : (cs : List ℕ) (f : Refusal) → more cs ≡ true → item cs ≡ Err f → many more item cs ≡ Err f
@@ -234,7 +234,7 @@ Spaced is t x = (a k : List ℕ) × is a x × IsBlank k × (t ≡ a ++ k)
 
 -- What makes a list of items be read again: each is, where it stops; each begins as an item; and before each an item stops.
 pub record Again {A : Type 0} (is : List ℕ → A → Type 0) (more : List ℕ → Bool) (item : List ℕ → Parsed A) (Stops : List ℕ → Type 0) : Type 0 where
-  pub takes : Takes more item
+  pub consumes : Consumes more item
   pub again : (t : List ℕ) (x : A) (rest : List ℕ) → is t x → Stops rest → item (t ++ rest) ≡ Ok (x, rest)
   pub starts : (t : List ℕ) (x : A) (rest : List ℕ) → is t x → more (t ++ rest) ≡ true
   pub failures : (t : List ℕ) (x : A) (rest : List ℕ) → is t x → Stops (t ++ rest)
@@ -249,7 +249,7 @@ module _ {A : Type 0} {is : List ℕ → A → Type 0} {more : List ℕ → Bool
   many_again t (x ∷ xs) rest h s e =
       let regrouped : t ++ rest ≡ h.0 ++ (h.1 ++ rest) = ap (λ (l : List ℕ). l ++ rest) h.4 ∙ append_assoc h.0 h.1 rest in
       ap (many more item) regrouped
-      ∙ many_more more item law.takes (h.0 ++ (h.1 ++ rest)) (h.1 ++ rest) x (law.starts h.0 x (h.1 ++ rest) h.2) (law.again h.0 x (h.1 ++ rest) h.2 (stops_at h.1 xs rest h.3 s))
+      ∙ many_more more item law.consumes (h.0 ++ (h.1 ++ rest)) (h.1 ++ rest) x (law.starts h.0 x (h.1 ++ rest) h.2) (law.again h.0 x (h.1 ++ rest) h.2 (stops_at h.1 xs rest h.3 s))
       ∙ ap (with_front (x ∷ [])) (many_again h.1 xs rest h.3 s e)
 
 -- ---- what stops where a step stops
@@ -290,31 +290,31 @@ pub record Stands (Tells : ParseErrorKind → List ℕ → Type 0) (cs : List �
 -- ---- what a reader gives, for both of its answers: what is read is so, or the refusal stands in the text
 
 -- what is given is so, and so is each refusal
-pub record Gives {A : Type 0} (Is : A → Type 0) (Refuses : Refusal → Type 0) (answer : Result A Refusal) : Type 0 where
+pub record IsOutcome {A : Type 0} (Is : A → Type 0) (Refuses : Refusal → Type 0) (answer : Result A Refusal) : Type 0 where
   pub reads : (x : A) → answer ≡ Ok x → Is x
   pub stands : (r : Refusal) → answer ≡ Err r → Refuses r
 
 module _ {A : Type 0} {Is : A → Type 0} {Refuses : Refusal → Type 0} where
-  pub gives : (x : A) → Is x → Gives Is Refuses (Ok x)
+  pub gives : (x : A) → Is x → IsOutcome Is Refuses (Ok x)
   gives x h = record { reads = λ y e. subst Is (ok_is x y e) h; stands = λ r e. absurd cc }
 
-  pub refuses : (d : Refusal) → Refuses d → Gives Is Refuses (Err d)
+  pub refuses : (d : Refusal) → Refuses d → IsOutcome Is Refuses (Err d)
   refuses d h = record { reads = λ x e. absurd cc; stands = λ r e. let same : d ≡ r = cc in subst Refuses same h }
 
-  pub choose : {b : Bool} {x y : Result A Refusal} → (b ≡ true → Gives Is Refuses x) → (b ≡ false → Gives Is Refuses y) → Gives Is Refuses (cond b x y)
+  pub choose : {b : Bool} {x y : Result A Refusal} → (b ≡ true → IsOutcome Is Refuses x) → (b ≡ false → IsOutcome Is Refuses y) → IsOutcome Is Refuses (cond b x y)
   choose {b = true} f g = f refl
   choose {b = false} f g = g refl
 
 module _ {A : Type 0} {Is : A → Type 0} {Refuses : Refusal → Type 0} where
   -- one step, and the next of what it reads
-  pub onward : {B : Type 0} {Is_next : B → Type 0} {read : Result A Refusal} {next : A → Result B Refusal} → Gives Is Refuses read
-      → ((x : A) → read ≡ Ok x → Is x → Gives Is_next Refuses (next x)) → Gives Is_next Refuses (read >>= next)
+  pub onward : {B : Type 0} {Is_next : B → Type 0} {read : Result A Refusal} {next : A → Result B Refusal} → IsOutcome Is Refuses read
+      → ((x : A) → read ≡ Ok x → Is x → IsOutcome Is_next Refuses (next x)) → IsOutcome Is_next Refuses (read >>= next)
   onward {read = Ok x} h more = more x refl (h.reads x refl)
   onward {read = Err d} h more = refuses d (h.stands d refl)
 
 -- what is read at cs, where a refusal stands in the text from start on
 abbrev pub OutcomeIn : {A : Type 0} → (List ℕ → A → Type 0) → (ParseErrorKind → List ℕ → Type 0) → List ℕ → List ℕ → Parsed A → Type 0
-OutcomeIn is Tells start cs answer = Gives (Read is cs) (Stands Tells start) answer
+OutcomeIn is Tells start cs answer = IsOutcome (Read is cs) (Stands Tells start) answer
 
 abbrev pub Outcome : {A : Type 0} → (List ℕ → A → Type 0) → (ParseErrorKind → List ℕ → Type 0) → List ℕ → Parsed A → Type 0
 Outcome is Tells cs answer = OutcomeIn is Tells cs cs answer
@@ -435,7 +435,7 @@ module _ {A : Type 0} (is : List ℕ → A → Type 0) (Tells : ParseErrorKind �
   none : (cs : List ℕ) → Outcome (Joined is) Tells cs (Ok ([], cs))
   none cs = gives ([], cs) (record { text = []; is_so = refl; split = refl })
 
-  pub many_outcome : (n : ℕ) (cs : List ℕ) → Outcome (Joined is) Tells cs (many_at more item n cs)
-  unfolding many_at
+  pub many_outcome : (n : ℕ) (cs : List ℕ) → Outcome (Joined is) Tells cs (many_within more item n cs)
+  unfolding many_within
   many_outcome zero cs = none cs
   many_outcome (suc n) cs = choose (λ e. after (each cs e) (λ x f r. made (λ xs. x.0 ∷ xs) (λ t xs h. (r.text, t, r.is_so, h, refl)) (many_outcome n x.1))) (λ e. none cs)

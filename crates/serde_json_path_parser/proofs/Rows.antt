@@ -1,6 +1,6 @@
 -- Items in a row, with a sign and blanks between them: as they are read, each with the blanks after it, and as the grammar has them, with blanks round each sign.
 use Rattle.serde_json_path_parser.proofs.Words.{◌==◌, ◌&&◌, ◌||◌, or_right, and_parts, eq-eqb, append-nil, length-append, drop-append_seam, Signature, Parsed, ◌>>=◌, past_blanks, many, begins, is_blank, IsBlank, IsSign, Joined, ◌≡◌, ℕ, Bool, true, false, List, [], ◌∷◌, ◌++◌, length, drop, Option, Ok, refl, sym, ap, ◌∙◌, append_assoc, arith}
-use Rattle.serde_json_path_parser.proofs.Reading.{Read, Spaced, after_one, Inner, Outcome, past_text, made, weaker, many_outcome, split_again, blanks_of, spread, some_begun, begins_where, begins_differs, Takes, many_end, many_more, with_front, past_run, front_each, whole}
+use Rattle.serde_json_path_parser.proofs.Reading.{Read, Spaced, after_one, Inner, Outcome, past_text, made, weaker, many_outcome, split_again, blanks_of, spread, some_begun, begins_where, begins_differs, Consumes, many_end, many_more, with_front, past_run, front_each, whole}
 
 -- after the blanks stands a character that passes
 abbrev pub Follows : (ℕ → Bool) → List ℕ → Type 0
@@ -124,8 +124,8 @@ module _ {A : Type 0} {signature : List ℕ → Option Signature} {k : ℕ} {oth
         joined = append_assoc sign j t ∙ ap (λ (l : List ℕ). sign ++ (j ++ l)) s.4;
       }) (law.outcome (past_blanks rest)))
 
-  pub next_takes : Takes more next
-  next_takes = record {
+  pub next_consumes : Consumes more next
+  next_consumes = record {
     shorter = λ cs rest x begun e.
         let read = (next_outcome cs begun).reads (x, rest) e in
         let next = read.is_so in
@@ -163,7 +163,7 @@ module _ {A : Type 0} {signature : List ℕ → Option Signature} {k : ℕ} {oth
       let one : next (sign ++ inside) ≡ Ok (x, past_blanks (b ++ rest)) =
       ap (λ (l : List ℕ). item (past_blanks l)) (drop-append_seam sign inside) ∙ ap item (past_run is_blank j (a ++ (b ++ rest)) after (law.starts a x (b ++ rest) h)) ∙ law.again a x (b ++ rest) h (rows_follow xs b rest rows follows) in
       ap (many more next) (at_sign sign t s i j a b rest (λ cs. law.sign_no_blank) before is_sign e)
-      ∙ many_more more next next_takes (sign ++ inside) (past_blanks (b ++ rest)) x (all_there k others inside) one
+      ∙ many_more more next next_consumes (sign ++ inside) (past_blanks (b ++ rest)) x (all_there k others inside) one
       ∙ ap (with_front (x ∷ [])) (rows_again xs b rest rows follows)
 
   pub row_again : {B : Type 0} (make : List A → B) (x : A) (xs : List A) (t a c rest : List ℕ) → is a x → AreRows sign is c xs → t ≡ a ++ c → Follows ends rest

@@ -1,11 +1,11 @@
 -- Steps of the code: rows of items that a loop reads, how the builder grows by them, arguments, and what stands in filters.
-use Rattle.serde_json_path_parser.proofs.Words.{◌↔◌, append-nil, map-append, name_of, names_of, calls_in_segments, calls_from, calls_in_arguments, KeepsParts, KeepsTrees, calls_in, AreDeclared, MayFinish, deepest, names_in, IsTyped, depth, Part, query, root, Segments, Call, call, Arguments, SyntaxBuilder, Signature, Grows, Parsed, Failure, Reader, Ghosts, SegmentKind, Segment, ArePartsOf, segment_list, length-append, Piece, IsPart, ArePartsFor, parts_for_kept, Fails, GrowsFrom, ◌>>=◌, many, Selector, LogicalOr, LogicalAnd, Basic, Deeper, a_selector, an_and, a_basic, segment_piece, segment_pieces, selector_pieces, or_pieces, and_pieces, calls_in_selectors, calls_in_or, calls_in_and, selector_list, or_list, and_list, past_blanks, is_at, is_small_letter, are_at, begins, opens, opens_next, level, segment_at, selector_at, and_at, basic_at, no_arguments, argument, Argument, Kind, ExpectedClosingParenthesis, calls_in_argument, an_argument, Gives, MakesArguments, refusal, ends_argument, argument_at, arguments_at, nat_tests, Literal, ExpectedExpression, Operand, a_literal, word, past_word, literal_word_at, literal_word, of_value, kind_view, is_result, ◌==◌, filter, byte_count, or_at, call_at, IsTrue, calls_in_operand, alone, is_singular, is_whole, is_value_literal, number, IsValueLiteral, Query, IsSingular, cases_Bool, not_test, result_kind, WrongReturnType, begins_call, named_call_at, named_at, negated_at, a_call, cond, ◌≡◌, ◌≤◌, ℕ, List, [], ◌∷◌, ◌++◌, inl, inr, Some, Option, Result, Ok, Err, refl, sym, ap, subst, ◌∙◌, append_assoc, ◌<◌, Bool, true, false, length, arith, drop, None, zero, suc, ◌-◌, Memory, Refused, Context, filter_at, LongHand, MakesSo, IsOperandOf, calls_in_piece, same_from_decides, query_singular}
+use Rattle.serde_json_path_parser.proofs.Words.{◌↔◌, append-nil, map-append, name_of, names_of, calls_in_segments, calls_from, calls_in_arguments, KeepsParts, KeepsTrees, calls_in, AreDeclared, MayFinish, deepest, names_in, IsTyped, depth, Part, query, root, Segments, Call, call, Arguments, SyntaxBuilder, Signature, Grows, Parsed, Failure, Reader, Ghosts, SegmentKind, Segment, ArePartsOf, segment_list, length-append, Piece, IsPart, ArePartsFor, parts_for_kept, Fails, GrowsFrom, ◌>>=◌, many, Selector, LogicalOr, LogicalAnd, Basic, Deeper, a_selector, an_and, a_basic, segment_piece, segment_pieces, selector_pieces, or_pieces, and_pieces, calls_in_selectors, calls_in_or, calls_in_and, selector_list, or_list, and_list, past_blanks, is_at, is_small_letter, are_at, begins, opens, opens_next, level, read_segment, read_selector, read_and, read_basic, no_arguments, argument, Argument, Kind, ExpectedClosingParenthesis, calls_in_argument, an_argument, IsAsRead, MakesArguments, refusal, ends_argument, read_argument, read_some_arguments, nat_tests, Literal, ExpectedExpression, Operand, a_literal, word, past_word, read_literal_word, literal_word, of_value, kind_view, is_result, ◌==◌, filter, byte_count, read_or, read_call, IsTrue, calls_in_operand, alone, is_singular, is_whole, is_value_literal, number, IsValueLiteral, Query, IsSingular, cases_Bool, not_test, result_kind, WrongReturnType, begins_call, read_named_call, read_named, read_negated, a_call, cond, ◌≡◌, ◌≤◌, ℕ, List, [], ◌∷◌, ◌++◌, inl, inr, Some, Option, Result, Ok, Err, refl, sym, ap, subst, ◌∙◌, append_assoc, ◌<◌, Bool, true, false, length, arith, drop, None, zero, suc, ◌-◌, Memory, Refused, Context, read_filter, LongHand, MakesSo, IsOperandOf, calls_in_piece, same_from_decides, query_singular}
 use Rattle.serde_json_path_syntax.proofs.Names.Finishing.{may_finish}
 use Rattle.serde_json_path_syntax.proofs.Lists.{in_append}
 use Rattle.serde_json_path_parser.proofs.Grammar.Calls.{level_laws, amount_whole, whole_amount}
-use Rattle.serde_json_path_parser.proofs.Grammar.LogicalExpressions.{next_basic_takes, next_and_takes}
+use Rattle.serde_json_path_parser.proofs.Grammar.LogicalExpressions.{next_basic_consumes, next_and_consumes}
 use Rattle.serde_json_path_parser.proofs.Grammar.Segments as segments
-use Rattle.serde_json_path_parser.proofs.Reading.{first_fails, begins_differs, Takes, many_end, many_err, many_more, with_front}
+use Rattle.serde_json_path_parser.proofs.Reading.{first_fails, begins_differs, Consumes, many_end, many_err, many_more, with_front}
 use Rattle.serde_json_path_parser.specs.declared.parser.operand.Operand as operands
 use Rattle.serde_json_path_parser.specs.declared.parser.operand.Operand.TheVariants as the_operands
 use denote.Enum.Bare.{sameb}
@@ -125,7 +125,7 @@ module _ {A B : Type 0} (row : Row A B) where
   after items read = read >>= λ xs. Ok (row.whole (items ++ xs.0), xs.1)
 
   pub record IsRow : Type 0 where
-    pub takes : Takes row.more next
+    pub consumes : Consumes row.more next
     pub pieces : Joins (λ x. row.piece x ∷ []) row.pieces
     pub calls : Joins (λ x. calls_in_piece (row.piece x)) row.calls
 
@@ -160,7 +160,7 @@ module _ {A B : Type 0} {row : Row A B} (law : IsRow row) where
         → (s : Failure) → Fails s (row.item ds) → Fails s read
     row_fails so_far Memory h = tt
     row_fails so_far (Refused d) h =
-        sym so_far.reads ∙ ap (after row so_far.items) (many_err row.more (next row) law.takes cs d there (ap row.item (sym past) ∙ h))
+        sym so_far.reads ∙ ap (after row so_far.items) (many_err row.more (next row) law.consumes cs d there (ap row.item (sym past) ∙ h))
 
     -- an item is made
     module _ {signature : List ℕ → Option Signature} {builder new : SyntaxBuilder} {part : Part} {rest : List ℕ}
@@ -169,7 +169,7 @@ module _ {A B : Type 0} {row : Row A B} (law : IsRow row) where
       reads_next = ap row.item (sym past) ∙ one.2
 
       pub row_shorter : length rest < length cs
-      row_shorter = law.takes.shorter cs rest one.0 there reads_next
+      row_shorter = law.consumes.shorter cs rest one.0 there reads_next
 
       pub row_goes_on : {old : SyntaxBuilder} {first : List Call} {parts pushed : List Part} {read : Parsed B} → SoFar row signature old builder first parts cs read
           → pushed ≡ parts ++ part ∷ [] → SoFar row signature old new first pushed rest read
@@ -177,7 +177,7 @@ module _ {A B : Type 0} {row : Row A B} (law : IsRow row) where
         items = so_far.items ++ one.0 ∷ [];
         are = rw (e, ← joined law.pieces so_far.items one.0) (pushed_part new parts (row.pieces so_far.items) part (row.piece one.0) (parts_for_kept builder new one.3.trees parts (row.pieces so_far.items) so_far.are) one.1);
         some = rw (e, length-append parts (part ∷ [])) (let some = so_far.some in omega arith);
-        reads = sym (regrouped so_far.items one.0 (many row.more (next row) rest)) ∙ ap (after row so_far.items) (sym (many_more row.more (next row) law.takes cs rest one.0 there reads_next)) ∙ so_far.reads;
+        reads = sym (regrouped so_far.items one.0 (many row.more (next row) rest)) ∙ ap (after row so_far.items) (sym (many_more row.more (next row) law.consumes cs rest one.0 there reads_next)) ∙ so_far.reads;
         grown = λ before h. grows_same (joined law.calls so_far.items one.0) (grows_then (so_far.grown before h) one.3);
       }
 
@@ -195,7 +195,7 @@ module _ (signature : List ℕ → Option Signature) (deeper : Deeper) where
   segment_row here = record {
     more = opens_next;
     before = past_blanks;
-    item = segment_at (filter_at signature deeper) here;
+    item = read_segment (read_filter signature deeper) here;
     piece = segment_piece;
     pieces = λ ss. segment_pieces (segment_list ss);
     calls = λ ss. calls_in_segments (segment_list ss);
@@ -207,7 +207,7 @@ module _ (signature : List ℕ → Option Signature) (deeper : Deeper) where
   selector_row = record {
     more = is_at ",";
     before = λ cs. past_blanks (drop 1 cs);
-    item = selector_at (filter_at signature deeper);
+    item = read_selector (read_filter signature deeper);
     piece = a_selector;
     pieces = λ ss. selector_pieces (selector_list ss);
     calls = λ ss. calls_in_selectors (selector_list ss);
@@ -219,7 +219,7 @@ module _ (signature : List ℕ → Option Signature) (deeper : Deeper) where
   or_row = record {
     more = are_at "||";
     before = λ cs. past_blanks (drop 2 cs);
-    item = and_at signature deeper;
+    item = read_and signature deeper;
     piece = an_and;
     pieces = λ xs. or_pieces (or_list xs);
     calls = λ xs. calls_in_or (or_list xs);
@@ -231,7 +231,7 @@ module _ (signature : List ℕ → Option Signature) (deeper : Deeper) where
   and_row = record {
     more = are_at "&&";
     before = λ cs. past_blanks (drop 2 cs);
-    item = basic_at signature deeper;
+    item = read_basic signature deeper;
     piece = a_basic;
     pieces = λ bs. and_pieces (and_list bs);
     calls = λ bs. calls_in_and (and_list bs);
@@ -245,31 +245,31 @@ module _ (signature : List ℕ → Option Signature) (n : ℕ) where
 
   pub segments_stand : (at : Context) → IsRow (segment_row signature here at)
   segments_stand at = record {
-    takes = segments.next_segment_takes signature n here (level_laws signature n) at;
+    consumes = segments.next_segment_consumes signature n here (level_laws signature n) at;
     pieces = record { none = refl; some = λ s ss. refl };
     calls = record { none = refl; some = λ s ss. refl };
   }
 
-  pub segment_shorter : (at : Context) (cs rest : List ℕ) (x : SegmentKind × Segment) → begins opens cs ≡ true → segment_at (filter_at signature here) at cs ≡ Ok (x, rest) → length rest < length cs
+  pub segment_shorter : (at : Context) (cs rest : List ℕ) (x : SegmentKind × Segment) → begins opens cs ≡ true → read_segment (read_filter signature here) at cs ≡ Ok (x, rest) → length rest < length cs
   segment_shorter at = segments.segment_shorter signature n here (level_laws signature n) at
 
   pub selectors_stand : IsRow (selector_row signature here)
   selectors_stand = record {
-    takes = segments.next_selector_takes signature n here (level_laws signature n);
+    consumes = segments.next_selector_consumes signature n here (level_laws signature n);
     pieces = record { none = refl; some = λ s ss. refl };
     calls = record { none = refl; some = λ s ss. refl };
   }
 
   pub ors_stand : IsRow (or_row signature here)
   ors_stand = record {
-    takes = next_and_takes signature n here (level_laws signature n);
+    consumes = next_and_consumes signature n here (level_laws signature n);
     pieces = record { none = refl; some = λ x xs. refl };
     calls = record { none = refl; some = λ x xs. refl };
   }
 
   pub ands_stand : IsRow (and_row signature here)
   ands_stand = record {
-    takes = next_basic_takes signature n here (level_laws signature n);
+    consumes = next_basic_consumes signature n here (level_laws signature n);
     pieces = record { none = refl; some = λ b bs. refl };
     calls = record { none = refl; some = λ b bs. refl };
   }
@@ -284,7 +284,7 @@ some_parts builder Are (part ∷ parts) pieces some are h = are part parts h
 
 -- no argument is put after others
 pub none_made : {S : Type 0} {g : Ghosts S} (signature : List ℕ → Option Signature) (builder : SyntaxBuilder) (parts : List Part) (result : Result Unit Failure) (reader : Reader S g) (read : Parsed Arguments)
-    → Gives (λ u. no_arguments) result reader read → MakesArguments signature builder builder parts parts result reader read
+    → IsAsRead (λ u. no_arguments) result reader read → MakesArguments signature builder builder parts parts result reader read
 none_made signature builder parts (Ok u) reader read h = (no_arguments, ([], sym (append-nil parts), tt), h, grows_none builder)
 none_made signature builder parts (Err s) reader read h = h
 
@@ -316,12 +316,12 @@ one_more {parts = parts} {read = read} {others = others} a so_far put is grown e
 -- ---- where the first of them is refused, or does not end
 
 module _ (signature : List ℕ → Option Signature) (deeper : Deeper) (start : ℕ) where
-  pub first_refused : (kinds : List Kind) (cs : List ℕ) (s : Failure) → Fails s (argument_at signature deeper cs) → Fails s (arguments_at signature deeper start kinds cs)
+  pub first_refused : (kinds : List Kind) (cs : List ℕ) (s : Failure) → Fails s (read_argument signature deeper cs) → Fails s (read_some_arguments signature deeper start kinds cs)
   first_refused [] cs s h = first_fails s _ _ h
   first_refused (kind ∷ kinds) cs s h = first_fails s _ _ h
 
-  pub first_open : (kinds : List Kind) (cs : List ℕ) (a : Argument × List ℕ) → argument_at signature deeper cs ≡ Ok a → begins ends_argument a.1 ≡ false
-      → arguments_at signature deeper start kinds cs ≡ Err (refusal ExpectedClosingParenthesis LongHand a.1)
+  pub first_open : (kinds : List Kind) (cs : List ℕ) (a : Argument × List ℕ) → read_argument signature deeper cs ≡ Ok a → begins ends_argument a.1 ≡ false
+      → read_some_arguments signature deeper start kinds cs ≡ Err (refusal ExpectedClosingParenthesis LongHand a.1)
   first_open [] cs a read no_end = rw (read, no_end) refl
   first_open (kind ∷ kinds) cs a read no_end = rw (read, no_end) refl
 
@@ -333,15 +333,15 @@ read_literal (Some l) cs = Ok (a_literal l, past_blanks (past_word cs))
 read_literal None cs = Err (refusal ExpectedExpression LongHand cs)
 
 -- the tests for each literal's word, one after another, give what the word's literal does
-pub literal_word_reads : (cs : List ℕ) → literal_word_at cs ≡ read_literal (literal_word (word cs)) cs
+pub literal_word_reads : (cs : List ℕ) → read_literal_word cs ≡ read_literal (literal_word (word cs)) cs
 literal_word_reads cs = grind (arith, nat_tests)
 
 -- ---- the steps of the code within a filter
 
 -- how what stands in a filter, a parenthesis or a call is read one level deeper
 pub level_down : (signature : List ℕ → Option Signature) (n m : ℕ) → 0 < n → m ≡ n - 1 → level signature n ≡ record {
-  expression = λ start cs. or_at signature (level signature m) cs;
-  call_of = λ start f cs. call_at signature (level signature m) start f (signature f) cs;
+  expression = λ start cs. read_or signature (level signature m) cs;
+  call_of = λ start f cs. read_call signature (level signature m) start f (signature f) cs;
 }
 unfolding level
 level_down signature zero m l e = absurd (omega (arith, l))
@@ -349,7 +349,7 @@ level_down signature (suc n) m l e = let same : m ≡ n = omega (arith, e) in rw
 
 module _ (signature : List ℕ → Option Signature) (deeper : Deeper) where
   -- a selector that begins with `?` is a filter
-  pub at_mark : (cs : List ℕ) → is_at "?" cs ≡ true → selector_at (filter_at signature deeper) cs ≡ (deeper.expression (byte_count cs) (past_blanks (drop 1 cs)) >>= λ e. Ok (filter e.0, e.1))
+  pub at_mark : (cs : List ℕ) → is_at "?" cs ≡ true → read_selector (read_filter signature deeper) cs ≡ (deeper.expression (byte_count cs) (past_blanks (drop 1 cs)) >>= λ e. Ok (filter e.0, e.1))
   at_mark cs mark =
       let other : (k : ℕ) → (k == 63) ≡ false → begins (λ c. c == k) cs ≡ false = λ k differs. begins_differs (λ c. c == 63) k cs differs mark in
       rw (other 39 refl, other 34 refl, other 42 refl, other 58 refl, mark) refl
@@ -375,9 +375,9 @@ module _ (signature : List ℕ → Option Signature) (cs : List ℕ) where
   no_call builder (the_operands.Call part kind) x rest other h = absurd (other part kind refl)
 
   module _ (deeper : Deeper) where
-    pub negated_named : begins is_small_letter cs ≡ true → negated_at signature deeper cs ≡ (named_at signature deeper cs >>= λ o. negated o.0 o.1)
+    pub negated_named : begins is_small_letter cs ≡ true → read_negated signature deeper cs ≡ (read_named signature deeper cs >>= λ o. negated o.0 o.1)
     negated_named letter = rw (begins_differs is_small_letter 40 cs refl letter, begins_differs is_small_letter 64 cs refl letter, begins_differs is_small_letter 36 cs refl letter) (elim (cases_Bool (begins_call cs)) [
-      | inl e ↦ rw e (by_call (named_call_at signature deeper cs))
+      | inl e ↦ rw e (by_call (read_named_call signature deeper cs))
       | inr e ↦ rw (e, literal_word_reads cs) (by_word (literal_word (word cs)))
     ])
       where

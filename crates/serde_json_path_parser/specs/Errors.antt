@@ -18,14 +18,16 @@ in_long_hand text = codes "in long-hand segment, " ++ text
 -- the message of a kind; that of a member name tells where it stands
 abbrev pub message : ParseErrorKind → declared.Context → List ℕ
 message ExpectedRoot here = codes "expected '$'"
-message BadMemberName here = beginning here ++ codes "must start with a letter, '_' or a non-ASCII character"
+message BadMemberName here =
+    beginning here ++ codes "must start with a letter, '_' or a non-ASCII character"
 message ExpectedClosingBracket here = in_long_hand (codes "expected closing ']'")
 message ExpectedEndingQuote here = in_long_hand (codes "expected an ending quote")
 message BadEscape here = in_long_hand (codes "bad escape")
 message ControlCharacter here = in_long_hand (codes "control character in a string")
 message ExpectedSelector here = in_long_hand (codes "expected a selector")
 message IntegerOutOfRange here = in_long_hand (codes "integer out of range")
-message ExponentOrEmptyFraction here = in_long_hand (codes "exponent or empty fraction not supported")
+message ExponentOrEmptyFraction here =
+    in_long_hand (codes "exponent or empty fraction not supported")
 message NumberOutOfRange here = in_long_hand (codes "number out of range")
 message ExpectedExpression here = in_long_hand (codes "expected an expression")
 message ExpectedClosingParenthesis here = in_long_hand (codes "expected closing ')'")

@@ -1,5 +1,5 @@
--- The grammar: which text has which tree (RFC 9535, sections 2.1 to 2.5). A text is a list of characters, and the
--- joining of the texts of its parts, of signs and of blanks.
+-- The grammar: which text has which tree (RFC 9535, sections 2.1 to 2.5). A text is a list of
+-- characters, and the joining of the texts of its parts, of signs and of blanks.
 use Rattle.std.specs.Prelude.{◌≡◌, ℕ, ℤ, List, [], ◌++◌, ◌⊎◌, true, false, Option, Some, None, codes}
 use Rattle.serde_json_path_parser.specs.Imports.{QueryKind, root, current, Query, query, Segments, no_segments, segment, SegmentKind, child, descendant, Segment, dot_name, dot_wildcard, long_hand, Selectors, no_selectors, selector, Selector, name, wildcard, index, slice, filter, Slice, LogicalOr, no_or, or, LogicalAnd, no_and, and, Basic, paren, not_paren, relation, exist, not_exist, test, not_test, Operator, equal, not_equal, less, less_or_equal, greater, greater_or_equal, Comparable, literal, singular, called, Call, call, Arguments, no_arguments, argument, Argument, literal_argument, query_argument, call_argument, logical_argument, Literal, text, number, truth, null, IsSingular}
 use Rattle.serde_json_path_parser.specs.Lexical.{IsBlank, IsName, IsFunctionName, IsInt, IsNumber, IsString}
@@ -11,7 +11,8 @@ abbrev pub query_sign : QueryKind → List ℕ
 query_sign root = codes "$"
 query_sign current = codes "@"
 
--- what stands before a name or `*` of a child segment (section 2.5.1.1), and of a descendant segment (section 2.5.2.1)
+-- what stands before a name or `*` of a child segment (section 2.5.1.1), and of a descendant
+-- segment (section 2.5.2.1)
 abbrev pub dots_before_name : SegmentKind → List ℕ
 dots_before_name child = codes "."
 dots_before_name descendant = codes ".."
@@ -60,7 +61,8 @@ IsLiteral null t = t ≡ codes "null"
 -- in parentheses
 abbrev pub InParentheses : (List ℕ → Type 0) → List ℕ → Type 0
 InParentheses ReadsInside t =
-    (j a k : List ℕ) × IsBlank j × ReadsInside a × IsBlank k × (t ≡ codes "(" ++ (j ++ (a ++ (k ++ codes ")"))))
+    (j a k : List ℕ) × IsBlank j × ReadsInside a × IsBlank k
+    × (t ≡ codes "(" ++ (j ++ (a ++ (k ++ codes ")"))))
 
 -- after `!` and blanks
 abbrev pub Negated : (List ℕ → Type 0) → List ℕ → Type 0
@@ -70,8 +72,8 @@ Negated ReadsInside t = (k a : List ℕ) × IsBlank k × ReadsInside a × (t ≡
 abbrev pub IsSign : List ℕ → List ℕ → Type 0
 IsSign sign t = (j k : List ℕ) × IsBlank j × IsBlank k × (t ≡ j ++ (sign ++ k))
 
--- A query or a call alone: as an argument it is read as that and not as a logical expression. The RFC's grammar allows
--- both; this is the project's own choice.
+-- A query or a call alone: as an argument it is read as that and not as a logical expression. The
+-- RFC's grammar allows both; this is the project's own choice.
 abbrev pub StandsAlone : LogicalOr → Type 0
 StandsAlone (or (and (exist q) no_and) no_or) = Unit {0}
 StandsAlone (or (and (test c) no_and) no_or) = Unit {0}
@@ -88,11 +90,13 @@ abbrev mutual
   pub ReadSegments : Segments → List ℕ → Type 0
   ReadSegments no_segments t = t ≡ []
   ReadSegments (segment kind seg more) t =
-      (k a b : List ℕ) × IsBlank k × ReadsSegment seg kind a × ReadSegments more b × (t ≡ k ++ (a ++ b))
+      (k a b : List ℕ) × IsBlank k × ReadsSegment seg kind a × ReadSegments more b
+      × (t ≡ k ++ (a ++ b))
 
   -- `.name`, `.*` and `[..]`, or with `..` before them (section 2.5)
   pub ReadsSegment : Segment → SegmentKind → List ℕ → Type 0
-  ReadsSegment (dot_name bytes) kind t = (a : List ℕ) × IsName a bytes × (t ≡ dots_before_name kind ++ a)
+  ReadsSegment (dot_name bytes) kind t =
+      (a : List ℕ) × IsName a bytes × (t ≡ dots_before_name kind ++ a)
   ReadsSegment dot_wildcard kind t = t ≡ dots_before_name kind ++ codes "*"
   ReadsSegment (long_hand sels) kind t =
       (j a k : List ℕ) × IsBlank j × ReadSelectors sels a × IsBlank k
@@ -101,12 +105,14 @@ abbrev mutual
   -- one or more, with commas and blanks round them
   pub ReadSelectors : Selectors → List ℕ → Type 0
   ReadSelectors no_selectors t = ⊥
-  ReadSelectors (selector sel more) t = (a b : List ℕ) × ReadsSelector sel a × ReadMoreSelectors more b × (t ≡ a ++ b)
+  ReadSelectors (selector sel more) t =
+      (a b : List ℕ) × ReadsSelector sel a × ReadMoreSelectors more b × (t ≡ a ++ b)
 
   pub ReadMoreSelectors : Selectors → List ℕ → Type 0
   ReadMoreSelectors no_selectors t = t ≡ []
   ReadMoreSelectors (selector sel more) t =
-      (s a b : List ℕ) × IsSign (codes ",") s × ReadsSelector sel a × ReadMoreSelectors more b × (t ≡ s ++ (a ++ b))
+      (s a b : List ℕ) × IsSign (codes ",") s × ReadsSelector sel a × ReadMoreSelectors more b
+      × (t ≡ s ++ (a ++ b))
 
   -- a name, `*`, an index, a slice or a filter (section 2.3)
   pub ReadsSelector : Selector → List ℕ → Type 0
@@ -114,7 +120,8 @@ abbrev mutual
   ReadsSelector wildcard t = t ≡ codes "*"
   ReadsSelector (index i) t = IsInt t i
   ReadsSelector (slice s) t = IsSlice s t
-  ReadsSelector (filter e) t = (k a : List ℕ) × IsBlank k × ReadsOr e a × (t ≡ codes "?" ++ (k ++ a))
+  ReadsSelector (filter e) t =
+      (k a : List ℕ) × IsBlank k × ReadsOr e a × (t ≡ codes "?" ++ (k ++ a))
 
   -- one or more parts, with `||` and blanks between them (section 2.3.5.1)
   pub ReadsOr : LogicalOr → List ℕ → Type 0
@@ -124,23 +131,27 @@ abbrev mutual
   pub ReadMoreOrs : LogicalOr → List ℕ → Type 0
   ReadMoreOrs no_or t = t ≡ []
   ReadMoreOrs (or part more) t =
-      (s a b : List ℕ) × IsSign (codes "||") s × ReadsAnd part a × ReadMoreOrs more b × (t ≡ s ++ (a ++ b))
+      (s a b : List ℕ) × IsSign (codes "||") s × ReadsAnd part a × ReadMoreOrs more b
+      × (t ≡ s ++ (a ++ b))
 
   -- one or more parts, with `&&` and blanks between them
   pub ReadsAnd : LogicalAnd → List ℕ → Type 0
   ReadsAnd no_and t = ⊥
-  ReadsAnd (and part more) t = (a b : List ℕ) × ReadsBasic part a × ReadMoreAnds more b × (t ≡ a ++ b)
+  ReadsAnd (and part more) t =
+      (a b : List ℕ) × ReadsBasic part a × ReadMoreAnds more b × (t ≡ a ++ b)
 
   pub ReadMoreAnds : LogicalAnd → List ℕ → Type 0
   ReadMoreAnds no_and t = t ≡ []
   ReadMoreAnds (and part more) t =
-      (s a b : List ℕ) × IsSign (codes "&&") s × ReadsBasic part a × ReadMoreAnds more b × (t ≡ s ++ (a ++ b))
+      (s a b : List ℕ) × IsSign (codes "&&") s × ReadsBasic part a × ReadMoreAnds more b
+      × (t ≡ s ++ (a ++ b))
 
   pub ReadsBasic : Basic → List ℕ → Type 0
   ReadsBasic (paren e) t = InParentheses (ReadsOr e) t
   ReadsBasic (not_paren e) t = Negated (InParentheses (ReadsOr e)) t
   ReadsBasic (relation left op right) t =
-      (a s b : List ℕ) × ReadsComparable left a × IsSign (operator_sign op) s × ReadsComparable right b × (t ≡ a ++ (s ++ b))
+      (a s b : List ℕ) × ReadsComparable left a × IsSign (operator_sign op) s
+      × ReadsComparable right b × (t ≡ a ++ (s ++ b))
   ReadsBasic (exist q) t = Reads q t
   ReadsBasic (not_exist q) t = Negated (Reads q) t
   ReadsBasic (test c) t = ReadsCall c t
@@ -161,12 +172,14 @@ abbrev mutual
   -- none, or some with commas and blanks between them
   pub ReadArguments : Arguments → List ℕ → Type 0
   ReadArguments no_arguments t = t ≡ []
-  ReadArguments (argument arg more) t = (a b : List ℕ) × ReadsArgument arg a × ReadMoreArguments more b × (t ≡ a ++ b)
+  ReadArguments (argument arg more) t =
+      (a b : List ℕ) × ReadsArgument arg a × ReadMoreArguments more b × (t ≡ a ++ b)
 
   pub ReadMoreArguments : Arguments → List ℕ → Type 0
   ReadMoreArguments no_arguments t = t ≡ []
   ReadMoreArguments (argument arg more) t =
-      (s a b : List ℕ) × IsSign (codes ",") s × ReadsArgument arg a × ReadMoreArguments more b × (t ≡ s ++ (a ++ b))
+      (s a b : List ℕ) × IsSign (codes ",") s × ReadsArgument arg a × ReadMoreArguments more b
+      × (t ≡ s ++ (a ++ b))
 
   -- a literal, a query or a call that stands alone is that, and all else is a logical expression
   pub ReadsArgument : Argument → List ℕ → Type 0

@@ -12,7 +12,7 @@ pub use Rattle.serde_json_path_syntax.specs.Parts.{AreAndPartsOf, AreArgumentsOf
 pub use Rattle.serde_json_path_syntax.specs.Piece.{Piece, a_basic, a_comparable, a_query, a_segment, a_selector, an_and, an_argument, an_or, calls_in_piece}
 pub use Rattle.serde_json_path_syntax.specs.SliceView.{slice_view}
 pub use Rattle.serde_json_path_syntax.specs.Text.{query_text}
-pub use Rattle.serde_json_path_syntax.specs.Tree.{AreSingular, Argument, Arguments, Basic, Call, Comparable, IsInteger, IsSingular, IsSingularSegment, Literal, LogicalAnd, LogicalOr, Operator, Query, QueryKind, Segment, SegmentKind, Segments, Selector, Selectors, Slice, and, argument, call, call_argument, called, child, current, descendant, dot_name, dot_wildcard, equal, exist, filter, greater, greater_or_equal, index, kind_of, largest, less, less_or_equal, literal, literal_argument, logical_argument, long_hand, name, no_and, no_arguments, no_or, no_segments, no_selectors, not_equal, not_exist, not_paren, not_test, null, number, or, paren, query, query_argument, relation, root, segment, selector, singular, slice, test, text, truth, wildcard}
+pub use Rattle.serde_json_path_syntax.specs.Tree.{AreSingular, Argument, Arguments, Basic, Call, Comparable, IsInteger, IsSingular, IsSingularSegment, Literal, LogicalAnd, LogicalOr, Operator, Query, QueryKind, Segment, SegmentKind, Segments, Selector, Selectors, Slice, and, argument, call, call_argument, called, child, current, descendant, dot_name, dot_wildcard, equal, exist, filter, greater, greater_or_equal, index, kind_of as query_kind, largest, less, less_or_equal, literal, literal_argument, logical_argument, long_hand, name, no_and, no_arguments, no_or, no_segments, no_selectors, not_equal, not_exist, not_paren, not_test, null, number, or, paren, query, query_argument, relation, root, segment, selector, singular, slice, test, text, truth, wildcard}
 pub use Rattle.serde_json_path_syntax.specs.Typing.{IsTyped, result_kind}
 pub use Rattle.serde_json_path_syntax.specs.Used.{AreCalled, AreDeclared, deepest, names_in}
 pub use Rattle.serde_json_path_syntax.specs.WellFormed.{IsLiteralAmount, IsOptionalInteger}

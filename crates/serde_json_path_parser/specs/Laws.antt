@@ -6,8 +6,10 @@ use Rattle.serde_json_path_parser.specs.Grammar.{Reads}
 
 -- a text is accepted with one tree at most
 abbrev pub OneTreeAtMost : Type 0
-OneTreeAtMost = (signature : List ℕ → Option Signature) (text : List ℕ) (p q : Query) → IsAccepted signature text p → IsAccepted signature text q → p ≡ q
+OneTreeAtMost = (signature : List ℕ → Option Signature) (text : List ℕ) (p q : Query)
+    → IsAccepted signature text p → IsAccepted signature text q → p ≡ q
 
 -- a tree that some text reads as has its own printed text read as it
 abbrev pub PrintedTextReadsBack : Type 0
-PrintedTextReadsBack = (text : List ℕ) (q : Query) → IsUtf8 text → Reads q (chars text) → Reads q (chars (query_text q))
+PrintedTextReadsBack = (text : List ℕ) (q : Query)
+    → IsUtf8 text → Reads q (chars text) → Reads q (chars (query_text q))

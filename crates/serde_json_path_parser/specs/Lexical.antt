@@ -1,5 +1,6 @@
--- The pieces of a path's text (RFC 9535, sections 2.1.1, 2.3.1.1, 2.3.3.1, 2.3.5.1, 2.5 and 2.5.1.1). A text is a list of
--- characters, each a Unicode scalar value; names and strings in trees are the bytes of their characters.
+-- The pieces of a path's text (RFC 9535, sections 2.1.1, 2.3.1.1, 2.3.3.1, 2.3.5.1, 2.5 and
+-- 2.5.1.1). A text is a list of characters, each a Unicode scalar value; names and strings in trees
+-- are the bytes of their characters.
 use Rattle.std.specs.Prelude.{◌≡◌, ◌==◌, ℕ, suc, ◌+◌, ◌-◌, ◌*◌, ◌<◌, ◌≤◌, ◌^◌, ◌⊎◌, ◌&&◌, ◌||◌, not, nat_le, ℤ, pos, negsuc, ◌-ℤ◌, Bool, true, false, List, [], ◌∷◌, ◌++◌, length, drop, codes, slice_index, Option, Some, None, if◌then◌else◌}
 use Rattle.serde_json_path_parser.specs.Imports.{AllByRecursion, encode_utf8_all, code, IsInteger, IsLiteralAmount}
 use Prim.Native.String.{String}
@@ -105,14 +106,15 @@ pub record IsDecimal (text : List ℕ) (n : ℕ) : Type 0 where
 -- an `int`: a decimal number, or `-` and one that is not 0
 abbrev pub IsIntText : List ℕ → ℤ → Type 0
 IsIntText text (pos n) = IsDecimal text n
-IsIntText text (negsuc n) = (digits : List ℕ) × IsDecimal digits (suc n) × (text ≡ codes "-" ++ digits)
+IsIntText text (negsuc n) =
+    (digits : List ℕ) × IsDecimal digits (suc n) × (text ≡ codes "-" ++ digits)
 
 -- an index, or a part of a slice
 abbrev pub IsInt : List ℕ → ℤ → Type 0
 IsInt text i = IsIntText text i × IsInteger i
 
--- ---- number literals (section 2.3.5.1); that there is no exponent, that a fraction has at most nine digits, and the
--- range are this project's own rules
+-- ---- number literals (section 2.3.5.1); that there is no exponent, that a fraction has at most
+-- nine digits, and the range are this project's own rules
 
 -- the billionths that the digits after a point write
 abbrev pub fraction_of : List ℕ → ℕ
@@ -122,18 +124,21 @@ fraction_of digits = (value_from 0 digits) * (10 ^ (9 - length digits))
 abbrev pub IsFraction : List ℕ → ℕ → Type 0
 IsFraction text n =
     ((text ≡ []) × (n ≡ 0))
-    ⊎ ((digits : List ℕ) × (text ≡ codes "." ++ digits) × AllPass is_digit digits × (1 ≤ length digits) × (length digits ≤ 9) × (n ≡ fraction_of digits))
+    ⊎ ((digits : List ℕ) × (text ≡ codes "." ++ digits) × AllPass is_digit digits
+    × (1 ≤ length digits) × (length digits ≤ 9) × (n ≡ fraction_of digits))
 
 -- a decimal number and its fraction, in billionths
 abbrev pub IsAmount : List ℕ → ℕ → Type 0
 IsAmount text n =
-    (a b : List ℕ) × (whole fraction : ℕ) × IsDecimal a whole × IsFraction b fraction × (text ≡ a ++ b)
-    × (n ≡ (whole * 1000000000) + fraction)
+    (a b : List ℕ) × (whole fraction : ℕ) × IsDecimal a whole × IsFraction b fraction
+    × (text ≡ a ++ b) × (n ≡ (whole * 1000000000) + fraction)
 
 -- a number with or without `-`, of -2 ^ 63 to 2 ^ 64 - 1; `-0` is 0
 abbrev pub IsNumber : List ℕ → ℤ → Type 0
 IsNumber text amount =
-    ((n : ℕ) × ((IsAmount text n × (amount ≡ pos n)) ⊎ ((digits : List ℕ) × IsAmount digits n × (text ≡ codes "-" ++ digits) × (amount ≡ (pos 0 -ℤ pos n)))))
+    ((n : ℕ) × ((IsAmount text n × (amount ≡ pos n))
+    ⊎ ((digits : List ℕ) × IsAmount digits n × (text ≡ codes "-" ++ digits)
+    × (amount ≡ (pos 0 -ℤ pos n)))))
     × IsLiteralAmount amount
 
 -- ---- strings (section 2.3.1.1)
@@ -150,7 +155,8 @@ hexadecimal_of c =
 abbrev pub IsHex4 : List ℕ → ℕ → Type 0
 IsHex4 text n =
     (a b c d p q r s : ℕ) × (text ≡ a ∷ b ∷ c ∷ d ∷ [])
-    × (hexadecimal_of a ≡ Some p) × (hexadecimal_of b ≡ Some q) × (hexadecimal_of c ≡ Some r) × (hexadecimal_of d ≡ Some s)
+    × (hexadecimal_of a ≡ Some p) × (hexadecimal_of b ≡ Some q)
+    × (hexadecimal_of c ≡ Some r) × (hexadecimal_of d ≡ Some s)
     × (n ≡ (((4096 * p) + (256 * q)) + (16 * r)) + s)
 
 -- D800 to DBFF, and DC00 to DFFF
@@ -176,7 +182,8 @@ escaped_by c =
     else if c ∈ "\\" then Some (code "\\")
     else None
 
--- a character that stands for itself: from U+0020 on, but for the backslash and the quote round the string
+-- a character that stands for itself: from U+0020 on, but for the backslash and the quote round
+-- the string
 abbrev pub is_plain : ℕ → ℕ → Bool
 is_plain quote c = nat_le 0x20 c && not (c ∈ "\\") && not (c == quote)
 
@@ -184,9 +191,13 @@ is_plain quote c = nat_le 0x20 c && not (c ∈ "\\") && not (c == quote)
 pub data IsPiece (quote : ℕ) : List ℕ → ℕ → Type 0 where
   plain : (c : ℕ) → is_plain quote c ≡ true → IsPiece quote (c ∷ []) c
   quote_escape : IsPiece quote (codes "\\" ++ quote ∷ []) quote
-  letter_escape : (letter c : ℕ) → escaped_by letter ≡ Some c → IsPiece quote (codes "\\" ++ letter ∷ []) c
-  hex_escape : (digits : List ℕ) (c : ℕ) → IsHex4 digits c → (c < 0xd800) ⊎ (0xdfff < c) → IsPiece quote (codes "\\u" ++ digits) c
-  pair_escape : (a b : List ℕ) (high low : ℕ) → IsHex4 a high → IsHex4 b low → IsHighSurrogate high → IsLowSurrogate low → IsPiece quote ((codes "\\u" ++ a) ++ (codes "\\u" ++ b)) (pair_of high low)
+  letter_escape : (letter c : ℕ) → escaped_by letter ≡ Some c
+      → IsPiece quote (codes "\\" ++ letter ∷ []) c
+  hex_escape : (digits : List ℕ) (c : ℕ) → IsHex4 digits c → (c < 0xd800) ⊎ (0xdfff < c)
+      → IsPiece quote (codes "\\u" ++ digits) c
+  pair_escape : (a b : List ℕ) (high low : ℕ) → IsHex4 a high → IsHex4 b low
+      → IsHighSurrogate high → IsLowSurrogate low
+      → IsPiece quote ((codes "\\u" ++ a) ++ (codes "\\u" ++ b)) (pair_of high low)
 
 -- the text is the joining of pieces that stand for these characters
 abbrev pub ArePieces : ℕ → List ℕ → List ℕ → Type 0

@@ -22,7 +22,8 @@ pub mod Errors
 
 -- which refusal a parse reports: the one that the computed reading meets first
 pub mod Reported
--- the computed reading, on lists of characters: what reading a piece gives, and how pieces follow one another
+-- the computed reading, on lists of characters: what reading a piece gives, and how pieces follow
+-- one another
 pub mod Parsed
 -- string literals
 pub mod Strings

@@ -1,6 +1,7 @@
--- Number literals, as they are read from left to right (RFC 9535, section 2.3.5.1), on lists of characters. That there is
--- no exponent, that a fraction has one to nine digits, and the range are this project's own rules. Each refusal is
--- reported where the literal begins: `start` bytes are left there.
+-- Number literals, as they are read from left to right (RFC 9535, section 2.3.5.1), on lists of
+-- characters. That there is no exponent, that a fraction has one to nine digits, and the range are
+-- this project's own rules. Each refusal is reported where the literal begins: `start` bytes are
+-- left there.
 use Rattle.std.specs.Prelude.{ℕ, ◌+◌, ◌-◌, ◌*◌, ◌^◌, min, nat_le, ℤ, pos, ◌-ℤ◌, Bool, List, length, drop, Ok, Err, if◌then◌else◌}
 use Rattle.serde_json_path_parser.specs.declared.error.ParseErrorKind.TheVariants.{ExpectedExpression, ExponentOrEmptyFraction, FractionTooLong, NumberOutOfRange}
 use Rattle.serde_json_path_parser.specs.declared.error.Context.TheVariants as context
@@ -12,44 +13,52 @@ abbrev pub is_exponent : ℕ → Bool
 is_exponent c = c ∈ "eE"
 
 -- `0`, or digits that do not begin with it
-abbrev pub whole_at : ℕ → List ℕ → Parsed ℕ
-whole_at start cs =
+abbrev pub read_whole : ℕ → List ℕ → Parsed ℕ
+read_whole start cs =
     if is_at "0" cs then Ok (0, drop 1 cs)
     else if begins is_first_digit cs then Ok (value_from 0 (front is_digit cs), past is_digit cs)
     else Err (refusal_at ExpectedExpression context.LongHand start)
 
 -- after a point: the billionths of the digits there, which are read whole
-abbrev pub digits_after_point_at : ℕ → List ℕ → Parsed ℕ
-digits_after_point_at start cs =
+abbrev pub read_digits_after_point : ℕ → List ℕ → Parsed ℕ
+read_digits_after_point start cs =
     if begins is_digit cs then
-    (if begins is_exponent (past is_digit cs) then Err (refusal_at ExponentOrEmptyFraction context.LongHand start)
-    else if nat_le (length (front is_digit cs)) 9 then Ok (fraction_of (front is_digit cs), past is_digit cs)
+    (if begins is_exponent (past is_digit cs) then
+    Err (refusal_at ExponentOrEmptyFraction context.LongHand start)
+    else if nat_le (length (front is_digit cs)) 9 then
+    Ok (fraction_of (front is_digit cs), past is_digit cs)
     else Err (refusal_at FractionTooLong context.LongHand start))
     else Err (refusal_at ExponentOrEmptyFraction context.LongHand start)
 
 -- after a whole number: a point and digits, or nothing
-unfoldable pub fraction_at : ℕ → List ℕ → Parsed ℕ
-fraction_at start cs =
-    if is_at "." cs then digits_after_point_at start (drop 1 cs)
-    else if begins is_exponent cs then Err (refusal_at ExponentOrEmptyFraction context.LongHand start)
+unfoldable pub read_fraction : ℕ → List ℕ → Parsed ℕ
+read_fraction start cs =
+    if is_at "." cs then read_digits_after_point start (drop 1 cs)
+    else if begins is_exponent cs then
+    Err (refusal_at ExponentOrEmptyFraction context.LongHand start)
     else Ok (0, cs)
 
 -- without a sign, in billionths
-unfoldable pub amount_at : ℕ → List ℕ → Parsed ℕ
-amount_at start cs = whole_at start cs >>= λ whole. fraction_at start whole.1 >>= λ fraction. Ok ((whole.0 * 1000000000) + fraction.0, fraction.1)
+unfoldable pub read_amount : ℕ → List ℕ → Parsed ℕ
+read_amount start cs = do
+  whole ← read_whole start cs
+  fraction ← read_fraction start whole.1
+  Ok ((whole.0 * 1000000000) + fraction.0, fraction.1)
 
 -- 2 ^ 64 - 1 in billionths
 abbrev pub greatest_amount : ℕ
 greatest_amount = (2 ^ 64 - 1) * 1000000000
 
 -- -2 ^ 63 to 2 ^ 64 - 1
-abbrev pub number_at : List ℕ → Parsed ℤ
-number_at cs =
+abbrev pub read_number : List ℕ → Parsed ℤ
+read_number cs =
     if is_at "-" cs then
-    (amount_at (byte_count cs) (drop 1 cs) >>= λ n.
-    if nat_le n.0 (2 ^ 63 * 1000000000) then Ok (pos 0 -ℤ pos n.0, n.1) else Err (refusal NumberOutOfRange context.LongHand cs))
-    else (amount_at (byte_count cs) cs >>= λ n.
-    if nat_le n.0 greatest_amount then Ok (pos n.0, n.1) else Err (refusal NumberOutOfRange context.LongHand cs))
+    (read_amount (byte_count cs) (drop 1 cs) >>= λ n.
+    if nat_le n.0 (2 ^ 63 * 1000000000) then Ok (pos 0 -ℤ pos n.0, n.1)
+    else Err (refusal NumberOutOfRange context.LongHand cs))
+    else (read_amount (byte_count cs) cs >>= λ n.
+    if nat_le n.0 greatest_amount then Ok (pos n.0, n.1)
+    else Err (refusal NumberOutOfRange context.LongHand cs))
 
 -- what is read, as a number that stops at the greatest u128
 abbrev pub capped : Parsed ℕ → Parsed ℕ

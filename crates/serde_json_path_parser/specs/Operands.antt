@@ -1,5 +1,5 @@
--- What a filter compares or tests: a literal, a query or a call, which is read before its use is known; and what decides
--- how it may be used.
+-- What a filter compares or tests: a literal, a query or a call, which is read before its use is
+-- known; and what decides how it may be used.
 use Rattle.std.specs.Prelude.{ℕ, ◌+◌, ◌%◌, ◌==◌, ◌||◌, Bool, true, false, ℤ, pos, negsuc, List, [], Option, Some}
 use Rattle.serde_json_path_parser.specs.Imports.{calls_of, calls_from, is_singular, Query, Call, Argument, literal_argument, query_argument, call_argument, logical_argument, Literal, number, result_kind, Kind, of_value, of_nodes, of_logical, Signature}
 
@@ -43,12 +43,12 @@ abbrev pub is_value_literal : Literal → Bool
 is_value_literal (number amount) = is_whole amount
 is_value_literal _ = true
 
--- the argument, whose parts are well-typed, is one for a parameter of that type
-abbrev pub fits : (List ℕ → Option Signature) → Argument → Kind → Bool
-fits signature (literal_argument l) of_value = is_value_literal l
-fits signature (literal_argument l) _ = false
-fits signature (query_argument q) of_value = is_singular q
-fits signature (query_argument q) _ = true
-fits signature (call_argument c) kind = takes_result kind (result_kind signature c)
-fits signature (logical_argument e) of_logical = true
-fits signature (logical_argument e) _ = false
+-- the argument, whose parts are well-typed, suits a parameter of that type
+abbrev pub suits : (List ℕ → Option Signature) → Argument → Kind → Bool
+suits signature (literal_argument l) of_value = is_value_literal l
+suits signature (literal_argument l) _ = false
+suits signature (query_argument q) of_value = is_singular q
+suits signature (query_argument q) _ = true
+suits signature (call_argument c) kind = takes_result kind (result_kind signature c)
+suits signature (logical_argument e) of_logical = true
+suits signature (logical_argument e) _ = false

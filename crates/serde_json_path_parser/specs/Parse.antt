@@ -1,4 +1,5 @@
--- Acceptance: which texts a parse accepts, each with which tree, and what it may refuse for want of memory.
+-- Acceptance: which texts a parse accepts, each with which tree, and what it may refuse for want of
+-- memory.
 use Rattle.std.specs.Prelude.{◌≡◌, ◌≢◌, ℕ, ◌<◌, ◌⊎◌, Bool, false, List, ◌++◌, length, codes, Option, Result, IfOk, IfErr, IsErrAnd}
 use Rattle.serde_json_path_parser.specs.Imports.{result_map_both, chars, Checked, tree_of, signatures_of, Query, AreCalled, Signature}
 use Rattle.serde_json_path_parser.specs.declared.error.ParseErrorKind.TheVariants.{NoMemory}
@@ -15,7 +16,8 @@ is_dollar c = c ∈ "$"
 abbrev pub NeedsNoMemory : List ℕ → Type 0
 NeedsNoMemory text =
     (begins is_dollar text ≡ false)
-    ⊎ ((blanks rest : List ℕ) × (text ≡ codes "$" ++ (blanks ++ rest)) × IsBlank blanks × (begins is_blank rest ≡ false) × (begins opens rest ≡ false))
+    ⊎ ((blanks rest : List ℕ) × (text ≡ codes "$" ++ (blanks ++ rest)) × IsBlank blanks
+    × (begins is_blank rest ≡ false) × (begins opens rest ≡ false))
 
 -- a tree, and the names that it calls, each with its signature
 pub record ParsedQuery : Type 0 where
@@ -23,7 +25,8 @@ pub record ParsedQuery : Type 0 where
   pub signatures : List (List ℕ × Signature)
 
 -- What a parse answers of a text, which is given by the bytes of its UTF-8.
-pub record Answers (signature : List ℕ → Option Signature) (text : List ℕ) (answer : Result ParsedQuery ParseError) : Type 0 where
+pub record IsParse (signature : List ℕ → Option Signature) (text : List ℕ)
+    (answer : Result ParsedQuery ParseError) : Type 0 where
   -- what is accepted is in the typed grammar, with this tree
   pub accepted : IfOk answer (λ read. IsAccepted signature (chars text) read.tree)
   -- it keeps the names that it calls, each once, and no other
@@ -31,17 +34,20 @@ pub record Answers (signature : List ℕ → Option Signature) (text : List ℕ)
   -- and is accepted with no other tree
   pub only : IfOk answer (λ read. (q : Query) → IsAccepted signature (chars text) q → q ≡ read.tree)
   -- a refusal, unless memory was refused, means that the text is accepted with no tree
-  pub refused : IfErr answer (λ e. kind_of e ≢ NoMemory → (q : Query) → IsAccepted signature (chars text) q → ⊥)
+  pub refused : IfErr answer (λ e.
+      kind_of e ≢ NoMemory → (q : Query) → IsAccepted signature (chars text) q → ⊥)
   -- want of memory is one error, at position 1,
   pub memory : IfErr answer (λ e. kind_of e ≡ NoMemory → e ≡ no_memory)
   -- and is never reported where there is nothing to store,
-  pub spares_memory : length text < greatest_usize → NeedsNoMemory (chars text) → IfErr answer (λ e. kind_of e ≢ NoMemory)
+  pub spares_memory : length text < greatest_usize → NeedsNoMemory (chars text)
+      → IfErr answer (λ e. kind_of e ≢ NoMemory)
   -- except for a text so long that its end has no position
   pub too_long : length text ≡ greatest_usize → IsErrAnd answer (λ e. kind_of e ≡ NoMemory)
 
 -- the same of a result that is seen as a tree and its signatures
-abbrev pub IsParseOf : {A : Type 0} → (A → ParsedQuery) → (List ℕ → Option Signature) → List ℕ → Result A ParseError → Type 0
-IsParseOf view signature text result = Answers signature text (result_map_both view (λ e. e) result)
+abbrev pub IsParseOf : {A : Type 0} → (A → ParsedQuery) → (List ℕ → Option Signature) → List ℕ
+    → Result A ParseError → Type 0
+IsParseOf view signature text result = IsParse signature text (result_map_both view (λ e. e) result)
 
 -- a finished query, seen so
 abbrev pub checked_view : Checked → ParsedQuery

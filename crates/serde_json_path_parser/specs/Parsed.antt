@@ -1,5 +1,5 @@
--- What reading from left to right gives, on lists of characters: what was read and the characters after it, or the first
--- refusal that is met.
+-- What reading from left to right gives, on lists of characters: what was read and the characters
+-- after it, or the first refusal that is met.
 use Rattle.std.specs.Prelude.{ℕ, zero, suc, Bool, List, [], ◌∷◌, length, Result, Ok, Err, if◌then◌else◌}
 use Rattle.serde_json_path_parser.specs.Imports.{encode_utf8_all}
 use Rattle.serde_json_path_parser.specs.declared.error.ParseErrorKind.{ParseErrorKind}
@@ -41,10 +41,14 @@ abbrev pub past_blanks : List ℕ → List ℕ
 past_blanks cs = past is_blank cs
 
 -- as many items as there are while more says that one begins, and at most fuel of them
-unfoldable pub many_at : {A : Type 0} → (List ℕ → Bool) → (List ℕ → Parsed A) → ℕ → List ℕ → Parsed (List A)
-many_at more item zero cs = Ok ([], cs)
-many_at more item (suc fuel) cs =
-    if more cs then (item cs >>= λ x. many_at more item fuel x.1 >>= λ xs. Ok (x.0 ∷ xs.0, xs.1)) else Ok ([], cs)
+unfoldable pub many_within : {A : Type 0} → (List ℕ → Bool) → (List ℕ → Parsed A) → ℕ → List ℕ
+    → Parsed (List A)
+many_within more item zero cs = Ok ([], cs)
+many_within more item (suc fuel) cs =
+    if more cs then
+    (item cs >>= λ x. many_within more item fuel x.1 >>= λ xs. Ok (x.0 ∷ xs.0, xs.1))
+    else Ok ([], cs)
 
-unfoldable pub many : {A : Type 0} → (List ℕ → Bool) → (List ℕ → Parsed A) → List ℕ → Parsed (List A)
-many more item cs = many_at more item (length cs) cs
+unfoldable pub many : {A : Type 0} → (List ℕ → Bool) → (List ℕ → Parsed A) → List ℕ
+    → Parsed (List A)
+many more item cs = many_within more item (length cs) cs

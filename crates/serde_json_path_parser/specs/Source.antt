@@ -5,7 +5,8 @@ use Rattle.std.specs.Prelude.{ℕ, ◌+◌, ◌-◌, ◌^◌, List, if◌then◌
 abbrev pub greatest_usize : ℕ
 greatest_usize = 2 ^ 64 - 1
 
--- the text's bytes, the number of looks, and the number of the farthest byte looked at, from 1, or 0
+-- the text's bytes, the number of looks, and the number of the farthest byte looked at, from 1,
+-- or 0
 pub record Told : Type 0 where
   pub text : List ℕ
   pub looks : ℕ
@@ -15,6 +16,10 @@ pub record Told : Type 0 where
 abbrev pub one_more : ℕ → ℕ
 one_more looks = if nat_lt looks (2 ^ 128 - 1) then looks + 1 else looks
 
--- the source after a look at the byte of that index, from 0
+-- the source after a look at the byte at that index, from 0
 abbrev pub looked : Told → ℕ → Told
-looked told index = record { text = told.text; looks = one_more told.looks; farthest = max told.farthest (index + 1) }
+looked told index = record {
+  text = told.text;
+  looks = one_more told.looks;
+  farthest = max told.farthest (index + 1);
+}

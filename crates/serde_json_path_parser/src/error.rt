@@ -140,7 +140,7 @@ impl ParseError {
     }
 
     /// Where it is wrong: the number of a byte of the text, counted from 1, or one more than the text's length for
-    /// its end. Of an error of a parse it is at the start of a character, and 1 for `NoMemory`.
+    /// its end. In an error that a parse returns it is at the start of a character, and 1 for `NoMemory`.
     pub fn position(&self) -> usize
         ensures { result ≡ position_of self.now }
     {

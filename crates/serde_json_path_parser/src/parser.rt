@@ -28,7 +28,7 @@ use serde_json_path_functions::Functions;
 use serde_json_path_syntax::Checked;
 use std::alloc::Global;
 
-/// Parses the path of a source, from left to right, looking at the text only through `byte`.
+/// Parses the path that a source holds, from left to right, looking at the text only through `byte`.
 ///
 /// Filters may call only functions of this set, and the query fits it. A text of n bytes is looked at no more than
 /// 32(n + 1) times. Where a root, a name, a selector or a closing bracket is missing, the parser looks at most one byte

@@ -14,7 +14,7 @@ pub trait PathSource {
         ensures bytes { result ≡ length (told self.now).text }
         ensures utf8 { IsUtf8 (told self.now).text };
 
-    /// The byte of that index, from 0.
+    /// The byte at that index, from 0.
     fn byte(&mut self, index: usize) -> u8
         requires { index < length (told self.old).text }
         ensures value { result ≡ slice_index (told self.old).text index }
@@ -54,7 +54,7 @@ impl<'t> TextSource<'t> {
         self.other_looks.saturating_add(self.in_order as u128)
     }
 
-    /// Counts a look at the byte of that index which is not the next in order.
+    /// Counts a look at the byte at that index, which is not the next in order.
     #[cold]
     #[inline(never)]
     fn look_elsewhere(&mut self, index: usize)

@@ -6,96 +6,47 @@ use serde_json_path_core_tests::texts::long;
 use std::alloc::Global;
 use std::test::Fail;
 
-/// Bytes that are no document, and what is told of them.
-const REFUSED: &[(&[u8], &str)] = &[
-    (
-        b"\xef\xbb\xbf{}",
-        "line 1, column 1: a byte order mark, which JSON does not begin with",
-    ),
-    (
-        b"{\n  // first\n}",
-        "line 2, column 3: a comment, which JSON does not have",
-    ),
-    (
-        b"[1, /* one */ 2]",
-        "line 1, column 5: a comment, which JSON does not have",
-    ),
-    (
-        b"# first\n{}",
-        "line 1, column 1: a comment, which JSON does not have",
-    ),
-    (
-        b"{}\n// last",
-        "line 2, column 1: a comment, which JSON does not have",
-    ),
-    (
-        b"{\"a\":1}\n{\"a\":2}\n",
-        "line 2, column 1: a second document (is it NDJSON? use -L)",
-    ),
-    (
-        b"1 2",
-        "line 1, column 3: a second document (is it NDJSON? use -L)",
-    ),
-    (
-        b"\"[\" \"a\"",
-        "line 1, column 5: a second document (is it NDJSON? use -L)",
-    ),
-    (b"", "line 1, column 1: no document, the input is empty"),
-    (
-        b" \t\r\n ",
-        "line 2, column 2: no document, the input is empty",
-    ),
-    (
-        b"[\"\xc3\xa9\",\n\"\xc3\xa9\xff\"]",
-        "line 2, column 3: a byte that is not UTF-8",
-    ),
-    (
-        b"\xff\xfe{\x00}\x00",
-        "line 1, column 1: a byte that is not UTF-8",
-    ),
-    (
-        b"{'a':1}",
-        "line 1, column 2: a single quote, where JSON has double quotes",
-    ),
-    (
-        b"{\"\xc3\xa9\":'x'}",
-        "line 1, column 6: a single quote, where JSON has double quotes",
-    ),
-    (
-        b"[NaN]",
-        "line 1, column 2: NaN or Infinity, which JSON does not have",
-    ),
-    (
-        b"{\"a\": -Infinity}",
-        "line 1, column 7: NaN or Infinity, which JSON does not have",
-    ),
-    (b"[1,]", "line 1, column 3: a comma with nothing after it"),
-    (
-        b"{\"a\":1,\n}",
-        "line 1, column 7: a comma with nothing after it",
-    ),
-    (b"1e400", "line 1, column 1: a number that is too large"),
-    (
-        b"[1, -1e400]",
-        "line 1, column 5: a number that is too large",
-    ),
-    (
-        b"{\"a\": [1, 2",
-        "line 1, column 12: the document ends too soon",
-    ),
-    (
-        b"[\"abc\",\n",
-        "line 2, column 1: the document ends too soon",
-    ),
-    (b"[\"abc", "line 1, column 6: the document ends too soon"),
-    (b"[\"a\nb\"]", "line 1, column 2: not JSON"),
-    (b"{\"a\":1}}", "line 1, column 8: not JSON"),
-    (b"[01]", "line 1, column 2: not JSON"),
-    (b"{a:1}", "line 1, column 2: not JSON"),
-    (b"[\"\\x\"]", "line 1, column 2: not JSON"),
-    (b"[1 2]", "line 1, column 4: not JSON"),
-    (b"[,]", "line 1, column 2: not JSON"),
+/// A text that is no document, and what is told of it.
+const REFUSED: &[&str] = &[
+    "\u{feff}{} -> line 1, column 1: a byte order mark, which JSON does not begin with",
+    "{\n  // first\n} -> line 2, column 3: a comment, which JSON does not have",
+    "[1, /* one */ 2] -> line 1, column 5: a comment, which JSON does not have",
+    "# first\n{} -> line 1, column 1: a comment, which JSON does not have",
+    "{}\n// last -> line 2, column 1: a comment, which JSON does not have",
+    "{\"a\":1}\n{\"a\":2}\n -> line 2, column 1: a second document (is it NDJSON? use -L)",
+    "1 2 -> line 1, column 3: a second document (is it NDJSON? use -L)",
+    r#""[" "a" -> line 1, column 5: a second document (is it NDJSON? use -L)"#,
+    " -> line 1, column 1: no document, the input is empty",
+    " \t\r\n  -> line 2, column 2: no document, the input is empty",
+    "{'a':1} -> line 1, column 2: a single quote, where JSON has double quotes",
+    r#"{"é":'x'} -> line 1, column 6: a single quote, where JSON has double quotes"#,
+    "[NaN] -> line 1, column 2: NaN or Infinity, which JSON does not have",
+    r#"{"a": -Infinity} -> line 1, column 7: NaN or Infinity, which JSON does not have"#,
+    "[1,] -> line 1, column 3: a comma with nothing after it",
+    "{\"a\":1,\n} -> line 1, column 7: a comma with nothing after it",
+    "1e400 -> line 1, column 1: a number that is too large",
+    "[1, -1e400] -> line 1, column 5: a number that is too large",
+    r#"{"a": [1, 2 -> line 1, column 12: the document ends too soon"#,
+    "[\"abc\",\n -> line 2, column 1: the document ends too soon",
+    r#"["abc -> line 1, column 6: the document ends too soon"#,
+    "[\"a\nb\"] -> line 1, column 2: not JSON",
+    r#"{"a":1}} -> line 1, column 8: not JSON"#,
+    "[01] -> line 1, column 2: not JSON",
+    "{a:1} -> line 1, column 2: not JSON",
+    r#"["\x"] -> line 1, column 2: not JSON"#,
+    "[1 2] -> line 1, column 4: not JSON",
+    "[,] -> line 1, column 2: not JSON",
 ];
+
+/// Bytes that are not UTF-8, and what is told of them.
+const NOT_UTF8: &[(&[u8], &str)] = &[
+    (b"[\"\xc3\xa9\",\n\"\xc3\xa9\xff\"]", LATER_BYTE),
+    (b"\xff\xfe{\x00}\x00", FIRST_BYTE),
+];
+
+const LATER_BYTE: &str = "line 2, column 3: a byte that is not UTF-8";
+
+const FIRST_BYTE: &str = "line 1, column 1: a byte that is not UTF-8";
 
 /// What is told of bytes, or the JSON of the document that they are.
 fn told(alloc: Global, bytes: &[u8]) -> Result<String, Fail> {
@@ -153,12 +104,12 @@ fn takes_127_levels(rt: HostRuntime) -> Result<(), Fail> {
 #[test]
 fn tells_what_is_no_document(rt: HostRuntime) -> Result<(), Fail> {
     let mut table = Table::new(&rt);
-    for &(bytes, wanted) in REFUSED {
+    table.hold_each("documents", REFUSED, |alloc, text| {
+        told(alloc, text.as_bytes())
+    });
+    for &(bytes, wanted) in NOT_UTF8 {
         let given = format!(in rt.alloc(); "{bytes:?}")?;
-        table.hold(
-            ("documents", given.as_str(), wanted),
-            told(rt.alloc(), bytes),
-        );
+        table.hold(("bytes", given.as_str(), wanted), told(rt.alloc(), bytes));
     }
     table.end()
 }

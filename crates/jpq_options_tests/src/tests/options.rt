@@ -1,6 +1,6 @@
 //! Command lines, and what they ask for.
 
-use jpq_options::options::{Asked, Color, Options, command, read};
+use jpq_options::options::{Request, Color, Options, command, read};
 use jsonpath_lines::{Form, Layout, LineEnd};
 use serde_json_path_core_tests::rows::{Table, hold_rows};
 use std::alloc::{AllocError, Global};
@@ -165,11 +165,11 @@ fn of_options(alloc: Global, options: &Options<'_>) -> Result<String, AllocError
 }
 
 /// What is asked for: options, a text, or the kind and the fault that is told.
-pub(crate) fn of_asked(alloc: Global, asked: Asked<'_>) -> Result<String, AllocError> {
+pub(crate) fn of_asked(alloc: Global, asked: Request<'_>) -> Result<String, AllocError> {
     match asked {
-        Asked::Run(options) => of_options(alloc, &options),
-        Asked::Print(text) => Ok(text),
-        Asked::WrongUse(kind, text) => {
+        Request::Run(options) => of_options(alloc, &options),
+        Request::Print(text) => Ok(text),
+        Request::WrongUse(kind, text) => {
             let fault = text.split("\n\n").next().unwrap_or("");
             format!(in alloc; "{kind:?}: {fault}")
         }

@@ -4,8 +4,8 @@
 //! A call that answers no memory is made again, and then answers as its row says.
 
 use crate::tests::options::{of_asked, words_of};
-use jsonpath_document::{DocumentFault, read_document};
 use jpq_options::options::{command, paths_in, read};
+use jsonpath_document::{DocumentFault, read_document};
 use serde_json_path_core_tests::rows::hold_answers;
 use std::alloc::Global;
 use std::test::Fail;

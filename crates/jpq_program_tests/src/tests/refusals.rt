@@ -1,161 +1,37 @@
 //! What a person is told of a refused path.
 
 use crate::tests::inputs::run_line;
-use serde_json_path_core_tests::rows::Table;
+use serde_json_path_core_tests::rows::{Table, ends, fields};
 use std::alloc::Global;
 use std::test::Fail;
 
 /// A path of ASCII characters, the byte of the caret, what is wrong there, and what was probably meant.
-const REFUSALS: &[(&str, usize, &str, &str)] = &[
-    (
-        "$[?@.price = 10]",
-        12,
-        "expected closing ']', found '='",
-        "equality is written ==",
-    ),
-    (
-        "$[?@.a == 1 and @.b]",
-        13,
-        "expected closing ']', found 'and'",
-        "write `&&`",
-    ),
-    (
-        "$[?@.a == 1 & @.b]",
-        13,
-        "expected closing ']', found '&'",
-        "write `&&`",
-    ),
-    ("$[?not @.a]", 4, EXPRESSION_NOT, "write `!`"),
-    (
-        "$[?@.a =~ 'b.*']",
-        8,
-        "expected closing ']', found '=~'",
-        "write `match(@.a, 'b.*')`, or `search` for a part of the text",
-    ),
-    (
-        "$[?@.a in ['x']]",
-        8,
-        "expected closing ']', found 'in'",
-        "write `@.a == 'x' || @.a == 'y'`",
-    ),
-    (
-        "$[?@.a.length() > 1]",
-        14,
-        "expected closing ']', found '('",
-        "write `length(@.a)`: the value stands in the parentheses",
-    ),
-    (
-        "$.a.length()",
-        11,
-        "the path ends before this, found '('",
-        "a function only stands in a filter: `$[?length(@.a) > 1]`",
-    ),
-    (
-        "$[(@.length-1)]",
-        3,
-        SELECTOR_PARENTHESIS,
-        "write `[-1]` for the last item",
-    ),
-    (
-        "$.a-b",
-        4,
-        "the path ends before this, found '-'",
-        "write `$['a-b']`: such a name is quoted in brackets",
-    ),
-    (
-        "$.a b",
-        4,
-        "the path ends before this, found ' '",
-        "write `$['a b']`: such a name is quoted in brackets",
-    ),
-    (
-        "a.b",
-        1,
-        "a path begins with '$', found 'a'",
-        "write `$.` before it, as in `$.a.b`",
-    ),
-    (
-        "$.['a']",
-        3,
-        "expected a name or '*' after the dot, found '['",
-        "no dot before a bracket, as in `$['a']`",
-    ),
-    (
-        "$.a.",
-        5,
-        "expected a name or '*' after the dot, found the end",
-        "no dot at the end of a path",
-    ),
-    (
-        "$[a]",
-        3,
-        SELECTOR_A,
-        "write `['a']`: a name in brackets is quoted",
-    ),
-    (
-        "$[?@.a + 1 == 2]",
-        8,
-        "expected closing ']', found '+'",
-        "there is no arithmetic in paths",
-    ),
-    (
-        "$[?length(@.*) > 1]",
-        11,
-        "an argument of the wrong type",
-        "write `count(@.*)`: `length` takes one value",
-    ),
-    (
-        "/a/b",
-        1,
-        "a path begins with '$', found '/'",
-        "write `$.a.b` for the JSON pointer or XPath `/a/b`",
-    ),
-    (
-        "$[?@ == 1e3]",
-        9,
-        "a number has no exponent, and digits after its point",
-        "write `1000` for `1e3`, `1` for `1.`",
-    ),
-    (
-        "$[?lenght(@.a) > 1]",
-        4,
-        "no such function, found 'lenght'",
-        "write `length`",
-    ),
-    (
-        "$[?@.a == @.b.*]",
-        11,
-        "this path may select several nodes, so it can't be compared",
-        "a query of one node, or a filter within: `@..[?@.a == 1]`",
-    ),
-    (
-        "$[?length(@.a)]",
-        4,
-        "the function's result doesn't fit here",
-        "a comparison, as in `length(@.a) > 0`",
-    ),
-    (
-        "$[?match(@.a, 'b') == true]",
-        4,
-        "the function's result doesn't fit here",
-        "write `match(@.a, 'b.*')` alone: it is a test already",
-    ),
-    (
-        "$['a",
-        3,
-        "the string that begins here has no ending quote",
-        "the ending quote",
-    ),
+const REFUSALS: &[&str] = &[
+    "$[?@.price = 10] -> 12 ~ expected closing ']', found '=' ~ equality is written ==",
+    "$[?@.a == 1 and @.b] -> 13 ~ expected closing ']', found 'and' ~ write `&&`",
+    "$[?@.a == 1 & @.b] -> 13 ~ expected closing ']', found '&' ~ write `&&`",
+    "$[?not @.a] -> 4 ~ expected a path, a number, a string, true, false, null or a call, found 'not' ~ write `!`",
+    "$[?@.a =~ 'b.*'] -> 8 ~ expected closing ']', found '=~' ~ write `match(@.a, 'b.*')`, or `search` for a part of the text",
+    "$[?@.a in ['x']] -> 8 ~ expected closing ']', found 'in' ~ write `@.a == 'x' || @.a == 'y'`",
+    "$[?@.a.length() > 1] -> 14 ~ expected closing ']', found '(' ~ write `length(@.a)`: the value stands in the parentheses",
+    "$.a.length() -> 11 ~ the path ends before this, found '(' ~ a function only stands in a filter: `$[?length(@.a) > 1]`",
+    "$[(@.length-1)] -> 3 ~ expected a selector (a name in quotes, an index, a slice, '*' or '?'), found '(' ~ write `[-1]` for the last item",
+    "$.a-b -> 4 ~ the path ends before this, found '-' ~ write `$['a-b']`: such a name is quoted in brackets",
+    "$.a b -> 4 ~ the path ends before this, found ' ' ~ write `$['a b']`: such a name is quoted in brackets",
+    "a.b -> 1 ~ a path begins with '$', found 'a' ~ write `$.` before it, as in `$.a.b`",
+    "$.['a'] -> 3 ~ expected a name or '*' after the dot, found '[' ~ no dot before a bracket, as in `$['a']`",
+    "$.a. -> 5 ~ expected a name or '*' after the dot, found the end ~ no dot at the end of a path",
+    "$[a] -> 3 ~ expected a selector (a name in quotes, an index, a slice, '*' or '?'), found 'a' ~ write `['a']`: a name in brackets is quoted",
+    "$[?@.a + 1 == 2] -> 8 ~ expected closing ']', found '+' ~ there is no arithmetic in paths",
+    "$[?length(@.*) > 1] -> 11 ~ an argument of the wrong type ~ write `count(@.*)`: `length` takes one value",
+    "/a/b -> 1 ~ a path begins with '$', found '/' ~ write `$.a.b` for the JSON pointer or XPath `/a/b`",
+    "$[?@ == 1e3] -> 9 ~ a number has no exponent, and digits after its point ~ write `1000` for `1e3`, `1` for `1.`",
+    "$[?lenght(@.a) > 1] -> 4 ~ no such function, found 'lenght' ~ write `length`",
+    "$[?@.a == @.b.*] -> 11 ~ this path may select several nodes, so it can't be compared ~ a query of one node, or a filter within: `@..[?@.a == 1]`",
+    "$[?length(@.a)] -> 4 ~ the function's result doesn't fit here ~ a comparison, as in `length(@.a) > 0`",
+    "$[?match(@.a, 'b') == true] -> 4 ~ the function's result doesn't fit here ~ write `match(@.a, 'b.*')` alone: it is a test already",
+    "$['a -> 3 ~ the string that begins here has no ending quote ~ the ending quote",
 ];
-
-const EXPRESSION_NOT: &str =
-    "expected a path, a number, a string, true, false, null or a call, found 'not'";
-
-const SELECTOR_PARENTHESIS: &str =
-    "expected a selector (a name in quotes, an index, a slice, '*' or '?'), found '('";
-
-const SELECTOR_A: &str =
-    "expected a selector (a name in quotes, an index, a slice, '*' or '?'), found 'a'";
 
 /// What is told of a refused path. Fails where its status is not 2, or something is written.
 fn told(alloc: Global, path: &str) -> Result<String, Fail> {
@@ -166,61 +42,56 @@ fn told(alloc: Global, path: &str) -> Result<String, Fail> {
     Ok(ran.err)
 }
 
+/// What is told of a refused path, whole: the byte of the caret, what is wrong there, and what was probably meant are told
+/// in lines of their own.
+fn whole(alloc: Global, path: &str, parts: &str) -> Result<String, Fail> {
+    let (place, parts) = fields(parts)?;
+    let (wrong, meant) = fields(parts)?;
+    let bytes = place.parse::<usize>()?.saturating_sub(1);
+    let blanks = " ".repeat(alloc, path.get(..bytes).unwrap_or("").len())?;
+    Ok(format!(in alloc;
+        "jpq: the path is refused at byte {place}: {wrong}\n  {path}\n  {blanks}^\n  {meant}\n"
+    )?)
+}
+
 #[test]
 fn shows_where_a_path_is_refused(rt: HostRuntime) -> Result<(), Fail> {
     let mut table = Table::new(&rt);
-    for &(path, place, wrong, meant) in REFUSALS {
-        let before = path.get(..place.saturating_sub(1)).unwrap_or("");
-        let blanks = " ".repeat(rt.alloc(), before.len())?;
-        let wanted = format!(in rt.alloc();
-            "jpq: the path is refused at byte {place}: {wrong}\n  {path}\n  {blanks}^\n  {meant}\n"
-        )?;
+    for &row in REFUSALS {
+        let (path, parts) = ends(row);
+        let wanted = whole(rt.alloc(), path, parts)?;
         table.hold(("a refusal", path, wanted.as_str()), told(rt.alloc(), path));
     }
     table.end()
 }
 
 /// The path, and what is told, whole: wide and combining characters, a tab, a line feed, a long path.
-const SHOWN: &[(&str, &str)] = &[
-    (
-        "$['日本' x]",
-        "jpq: the path is refused at byte 12: expected closing ']', found 'x'
+const SHOWN: &[&str] = &[
+    "$['日本' x] -> jpq: the path is refused at byte 12: expected closing ']', found 'x'
   $['日本' x]
            ^
   write `'it\\'s'`: a quote in a string follows `\\`
 ",
-    ),
-    (
-        "$['e\u{301}' x]",
-        "jpq: the path is refused at byte 9: expected closing ']', found 'x'
+    "$['e\u{301}' x] -> jpq: the path is refused at byte 9: expected closing ']', found 'x'
   $['e\u{301}' x]
         ^
   write `'it\\'s'`: a quote in a string follows `\\`
 ",
-    ),
-    (
-        "$['a'\t\n x]",
-        "jpq: the path is refused at byte 9: expected closing ']', found 'x'
+    "$['a'\t\n x] -> jpq: the path is refused at byte 9: expected closing ']', found 'x'
   $['a'\t\\n x]
        \t   ^
   write `'it\\'s'`: a quote in a string follows `\\`
 ",
-    ),
-    (
-        "$.aaaaaaaaaabbbbbbbbbbccccccccccddddddddddeeeeeeeeeeffffffffffgggggggggg;12345678901234567890123456789012345678901234567890",
-        "jpq: the path is refused at byte 73: the path ends before this, found ';'
+    "$.aaaaaaaaaabbbbbbbbbbccccccccccddddddddddeeeeeeeeeeffffffffffgggggggggg;12345678901234567890123456789012345678901234567890 -> jpq: the path is refused at byte 73: the path ends before this, found ';'
   ...bbbbbbbbbbccccccccccddddddddddeeeeeeeeeeffffffffffgggggggggg;123456789012345678901234567890123456789...
                                                                  ^
   no `;` after a path
 ",
-    ),
 ];
 
 #[test]
 fn shows_wide_characters_tabs_and_long_paths(rt: HostRuntime) -> Result<(), Fail> {
     let mut table = Table::new(&rt);
-    for &(path, wanted) in SHOWN {
-        table.hold(("a refusal", path, wanted), told(rt.alloc(), path));
-    }
+    table.hold_each("a refusal", SHOWN, told);
     table.end()
 }

@@ -1,7 +1,7 @@
 //! Which nodes are chosen.
 
 use crate::tests::forms::{output, shown};
-use jsonpath_lines::{Form, Layout, Output, append};
+use jsonpath_lines::{Form, Layout, Output, write_nodes};
 use serde_json::Value;
 use serde_json_path::JsonPath;
 use serde_json_path::functions::Builtin;
@@ -9,66 +9,57 @@ use serde_json_path_core_tests::rows::{Table, fields};
 use std::alloc::Global;
 use std::test::Fail;
 
-/// Whether each location is shown once, how many are shown at most, and rows of a path, a document, how many nodes are
-/// chosen, and their locations.
-const CHOSEN: &[(bool, Option<u64>, &[&str])] = &[
-    (false, None, &["$[0,0,1] ~ [1,2] -> 3 |$[0]\n$[0]\n$[1]\n"]),
-    (
-        false,
-        Some(2),
-        &[
-            "$[0,0,1] ~ [1,2] -> 2 |$[0]\n$[0]\n",
-            "$[0] ~ [1] -> 1 |$[0]\n",
-        ],
-    ),
-    (false, Some(0), &["$ ~ 1 -> 0 |"]),
-    (
-        true,
-        None,
-        &["$[1,0,1,0] ~ [1,2] -> 2 |$[1]\n$[0]\n", "$..* ~ [] -> 0 |"],
-    ),
-    (
-        true,
-        Some(2),
-        &[
-            "$[0,0,1,1,2] ~ [1,2,3] -> 2 |$[0]\n$[1]\n",
-            "$[0,0] ~ [1] -> 1 |$[0]\n",
-        ],
-    ),
-    (true, Some(0), &["$ ~ 1 -> 0 |"]),
+/// Whether each location is shown once, how many are shown at most, and a path, a document, how many nodes are chosen, and
+/// their locations.
+const CHOSEN: &[(bool, Option<u64>, &str)] = &[
+    (false, None, "$[0,0,1] ~ [1,2] -> 3 |$[0]\n$[0]\n$[1]\n"),
+    (false, Some(2), "$[0,0,1] ~ [1,2] -> 2 |$[0]\n$[0]\n"),
+    (false, Some(2), "$[0] ~ [1] -> 1 |$[0]\n"),
+    (false, Some(0), "$ ~ 1 -> 0 |"),
+    (true, None, "$[1,0,1,0] ~ [1,2] -> 2 |$[1]\n$[0]\n"),
+    (true, None, "$..* ~ [] -> 0 |"),
+    (true, Some(2), "$[0,0,1,1,2] ~ [1,2,3] -> 2 |$[0]\n$[1]\n"),
+    (true, Some(2), "$[0,0] ~ [1] -> 1 |$[0]\n"),
+    (true, Some(0), "$ ~ 1 -> 0 |"),
 ];
 
 #[test]
 fn nodes_that_are_chosen(rt: HostRuntime) -> Result<(), Fail> {
     let mut table = Table::new(&rt);
-    for &(unique, most, rows) in CHOSEN {
+    for &(unique, most, row) in CHOSEN {
         let output = Output {
             unique,
             most,
             ..output(Form::Location, Layout::Compact)
         };
-        table.hold_each("chosen", rows, |alloc, row| shown(alloc, &output, "", row));
+        table.hold_each("chosen", &[row], |alloc, row| {
+            shown(alloc, &output, "", row)
+        });
     }
     table.end()
 }
 
 /// Of no node at most, of many at most, and each once: whether there is a node.
-const NOTHING: &[(bool, Option<u64>, &[&str])] = &[
-    (false, Some(0), &["$[*] ~ [1,2] -> 0 |"]),
-    (false, Some(9), &["$[*] ~ [1,2] -> 1 |", "$[*] ~ [] -> 0 |"]),
-    (true, None, &["$[0,0] ~ [1,2] -> 1 |", "$[*] ~ [] -> 0 |"]),
+const NOTHING: &[(bool, Option<u64>, &str)] = &[
+    (false, Some(0), "$[*] ~ [1,2] -> 0 |"),
+    (false, Some(9), "$[*] ~ [1,2] -> 1 |"),
+    (false, Some(9), "$[*] ~ [] -> 0 |"),
+    (true, None, "$[0,0] ~ [1,2] -> 1 |"),
+    (true, None, "$[*] ~ [] -> 0 |"),
 ];
 
 #[test]
 fn whether_there_is_a_node(rt: HostRuntime) -> Result<(), Fail> {
     let mut table = Table::new(&rt);
-    for &(unique, most, rows) in NOTHING {
+    for &(unique, most, row) in NOTHING {
         let output = Output {
             unique,
             most,
             ..output(Form::Nothing, Layout::Compact)
         };
-        table.hold_each("nothing", rows, |alloc, row| shown(alloc, &output, "", row));
+        table.hold_each("nothing", &[row], |alloc, row| {
+            shown(alloc, &output, "", row)
+        });
     }
     table.end()
 }
@@ -104,25 +95,24 @@ fn no_node_beyond_the_last_is_asked_for(rt: HostRuntime) -> Result<(), Fail> {
     table.end()
 }
 
-/// Why a path and a document are refused, and the text after that.
+/// Why the query of a path on a document is refused.
 fn refusal(alloc: Global, given: &str) -> Result<String, Fail> {
     let (path, document) = fields(given)?;
     let path = JsonPath::parse_with(alloc, path, &Builtin)?;
     let document = Value::from_str(alloc, document)?;
     let walk = path.walk(alloc, &document, &Builtin)?;
     let output = output(Form::Location, Layout::Compact);
-    let mut text = String::from_str(alloc, "|")?;
-    match append(alloc, &output, "", &mut text, walk) {
-        Ok(count) => Ok(format!(in alloc; "{count} {text}")?),
-        Err(e) => Ok(format!(in alloc; "{e} {text}")?),
+    match write_nodes(alloc, &output, "", String::new(alloc), walk) {
+        Ok(written) => Ok(written.text),
+        Err(e) => Ok(format!(in alloc; "{e}")?),
     }
 }
 
 #[test]
-fn a_refusal_appends_nothing(rt: HostRuntime) -> Result<(), Fail> {
+fn a_refused_query_is_told(rt: HostRuntime) -> Result<(), Fail> {
     let mut table = Table::new(&rt);
     table.hold(
-        ("all nodes", REFUSED_LATER, "pattern refused |"),
+        ("all nodes", REFUSED_LATER, "pattern refused"),
         refusal(rt.alloc(), REFUSED_LATER),
     );
     table.end()

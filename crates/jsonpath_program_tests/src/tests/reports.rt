@@ -1,8 +1,8 @@
 //! The lines of reports, and refusals of paths and documents.
 
-use jsonpath_program::report::{LineForm, report, report_in};
-use jsonpath_program::ruled::Ruled;
-use serde_json_path::functions::{Builtin, Functions, Numbers};
+use jsonpath_lines::Form;
+use jsonpath_program::report::{report, report_in};
+use serde_json_path::functions::{Builtin, Functions, Numbers, Ruled};
 use serde_json_path_core_tests::rows::{Table, fields, hold_rows};
 use serde_json_path_core_tests::texts::{BOOKSTORE, long};
 use std::alloc::{AllocError, Global};
@@ -90,8 +90,8 @@ const HALVES: &[&str] = &[
 fn halves(alloc: Global, given: &str) -> Result<String, Fail> {
     let (path, document) = fields(given)?;
     let document = document.as_bytes();
-    let locations = report_in(alloc, LineForm::Location, path, document, &Builtin)?;
-    let values = report_in(alloc, LineForm::Value, path, document, &Builtin)?;
+    let locations = report_in(alloc, Form::Location, path, document, &Builtin)?;
+    let values = report_in(alloc, Form::Value, path, document, &Builtin)?;
     Ok(format!(in alloc; "{locations} ~ {values}")?)
 }
 

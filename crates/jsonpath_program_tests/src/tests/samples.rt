@@ -1,7 +1,7 @@
 //! The sample functions, as filters call them.
 
 use crate::tests::reports::of_row;
-use jsonpath_program::samples::Samples;
+use crate::tests::sample_set::Samples;
 use serde_json::Value;
 use serde_json_path::JsonPath;
 use serde_json_path::functions::{Builtin, Functions};

@@ -1,5 +1,5 @@
 use Rattle.std.proofs.Common.{◌≡◌, ◌+◌, length, map, take, [], drop, option_map, get_or, true, false, MatchOption, None, refl, sym, subst, ap, ◌∙◌, arith, ◌∷◌, ◌++◌, ◌⊎◌, inl, inr, rules, append_assoc, Option, Some, List, slice_get, ◌<◌}
-use Rattle.serde_json_path_core.proofs.Words.{slice_get_within, get_or_default, map-append, common_steps, option_map_or, length-set, ∥∥₁_map, iter_rest, Data, view, Located, node_value, Passes, child, descendant, cursor_left, segment_kind_view, segment_in, segments_at, piece_at, basic_at, comparable_at, call_at, part_query, pieces, operator_view, term_view, StandsIn, Sound, IsTypedOr, IsTypedAnd, AreTypedArguments, calls_in_or, calls_in_and, name_of, arguments_of, nodes_of, top_of, frame_view, frames_view, admitted, rest_of, work, IsStack, IsStackIn, IsInside, selector_view, stage_at, stages_at, child_view, values_from, Bor, Value, IsIn, within_get, within_bound, below_length, past_length, signatures_of, params_of, Step, EndsIn, AllStandIn, FunctionSet, LogicalOr, filter, or_at, kind_view, query_of, set_of}
+use Rattle.serde_json_path_core.proofs.Words.{slice_get_within, get_or_default, map-append, common_steps, option_map_or, length-set, ∥∥₁_map, iter_rest, Data, view, Located, node_value, Passes, child, descendant, cursor_left, segment_kind_view, segment_in, segments_at, piece_at, basic_at, comparable_at, call_at, part_query, pieces, operator_view, term_view, StandsIn, Sound, IsTypedAnd, AreTypedArguments, calls_in_and, name_of, arguments_of, nodes_of, top_of, frame_view, frames_view, admitted, rest_of, work, IsStack, IsStackIn, IsInside, selector_view, stage_at, stages_at, child_view, values_from, Bor, Value, IsIn, within_get, within_bound, below_length, past_length, signatures_of, params_of, Step, EndsIn, AllStandIn, FunctionSet, LogicalOr, filter, or_at, kind_view, query_of, set_of}
 use Rattle.serde_json_path_core.specs.declared.child.Child.{Child}
 use Rattle.serde_json_path_core.specs.Inside.Evaluates.{IsKept}
 use Rattle.serde_json_path_core.specs.Inside.Computed as computed
@@ -287,19 +287,19 @@ filter::query::first_from-find_next-requires g t c =
     let inside : ∥ IsStackIn (top_of scope) frames ∥₁ = ∣ entered-inside _ (view c.args.value.now) _ _ c.requires.inside c.in_ok-frames.ensures ∣₁ in
     search rules
 
-pub filter::query::first_from-returns-in-Some-clause-means : goal.filter::query::first_from-returns-in-Some-clause-means
-filter::query::first_from-returns-in-Some-clause-means g t c =
+pub filter::query::first_from-returns-in-Some : goal.filter::query::first_from-returns-in-Some
+filter::query::first_from-returns-in-Some g t c =
     let scope = c.args.scope.now in
     let begins = rest-started (set_of scope) (top_of scope) (segments_at (nodes_of scope) c.args.segments.now) (view c.args.value.now) _ c.in_ok-frames.ensures in
     let at = found-some _ _ c.in_ok-found.field-0 c.in-Some.found c.in-Some.is c.in_ok-found.ensures.found in
-    rw (sym begins, c.find_next.ensures.kept.0, at.1.0) refl
+    record { means = rw (sym begins, c.find_next.ensures.kept.0, at.1.0) refl; refused = search rules }
 
-pub filter::query::first_from-returns-clause-means : goal.filter::query::first_from-returns-clause-means
-filter::query::first_from-returns-clause-means g t c =
+pub filter::query::first_from-returns : goal.filter::query::first_from-returns
+filter::query::first_from-returns g t c =
     let scope = c.args.scope.now in
     let begins = rest-started (set_of scope) (top_of scope) (segments_at (nodes_of scope) c.args.segments.now) (view c.args.value.now) _ c.in_ok-frames.ensures in
     let none = found-none _ _ c.in_ok-found.field-0 c.in-None.is c.in_ok-found.ensures.found in
-    rw (sym begins, c.find_next.ensures.kept.0, none) refl
+    record { means = rw (sym begins, c.find_next.ensures.kept.0, none) refl; refused = search rules }
 
 pub filter::query::all_from-values-init : goal.filter::query::all_from-values-init
 filter::query::all_from-values-init g t c =
@@ -343,13 +343,17 @@ filter::query::all_from-values-preserved g t c =
       inside = ∥∥₁_map c.values.invariant.inside (λ h. (h.0, h.1, subst (IsStack h.0) (sym c.pass_found.ensures) (at.1.2 h.0 (c.find_next.ensures.kept.2 h.0 h.2))));
     }
 
-pub filter::query::first-returns-in-None-clause-means : goal.filter::query::first-returns-in-None-clause-means
-filter::query::first-returns-in-None-clause-means g t c =
+pub filter::query::first-returns-in-None : goal.filter::query::first-returns-in-None
+filter::query::first-returns-in-None g t c =
     let scope = c.args.scope.now in
     let reached = c.reached-reached.result in
     let below : Option (Bor Value) → List Data = λ o. option_map_or (λ (v : Bor Value). values_from (set_of scope) (top_of scope) (segments_at (nodes_of scope) reached.segments.now) (view v.now)) o [] in
-    sym (first-of-values (computed.results (set_of scope) (top_of scope) (part_query (nodes_of scope) c.args.query) (view c.args.current.now))
-    ∙ ap (λ vs. slice_get vs 0) (c.reached-reached.ensures.selects ∙ ap below c.in-None.is))
+    record {
+      means =
+          sym (first-of-values (computed.results (set_of scope) (top_of scope) (part_query (nodes_of scope) c.args.query) (view c.args.current.now))
+          ∙ ap (λ vs. slice_get vs 0) (c.reached-reached.ensures.selects ∙ ap below c.in-None.is));
+      refused = search rules;
+    }
 
 -- ---- logical expressions and calls
 
@@ -414,26 +418,20 @@ filter::call::answer-loop-argument-preserved g t c =
       means = grind (arith, common_steps);
     }
 
-pub filter::call::answer-returns-clause-refused : goal.filter::call::answer-returns-clause-refused
-filter::call::answer-returns-clause-refused g t c =
+pub filter::call::answer-returns-clause-computes : goal.filter::call::answer-returns-clause-computes
+filter::call::answer-returns-clause-computes g t c =
     let scope = c.args.scope.now in
+    let F = set_of scope in
     let asked = call_at (nodes_of scope) c.args.call in
+    let name = c.called_name-name.result.now in
     let v = view c.args.current.now in
     let parts = iter_rest c.loop-argument.argument-iterator.a in
     let kinds = iter_rest c.loop-argument.argument-iterator.b in
     let given = map term_view c.loop-argument.given.items in
     let over : (length parts ≡ 0) ⊎ (length kinds ≡ 0) = elim c.in-None.ensures.steps [ inl h ↦ inl h.1.0 | inr h ↦ inr h.1.0 ] in
-    let all = given-all (set_of scope) (top_of scope) (pieces (nodes_of scope)) parts kinds v given _ over c.loop-argument.invariant.means in
-    if_refused c.call.result (λ may. by_pattern (set_of scope) (top_of scope) (query_of scope) asked c.called_name-name.result.now v given c.called_name-name.ensures c.requires.sound c.requires.inside all may) c.call.ensures.pattern
-
-pub filter::call::answer-returns-clause-means : goal.filter::call::answer-returns-clause-means
-filter::call::answer-returns-clause-means g t c =
-    let scope = c.args.scope.now in
-    let asked = call_at (nodes_of scope) c.args.call in
-    let v = view c.args.current.now in
-    let parts = iter_rest c.loop-argument.argument-iterator.a in
-    let kinds = iter_rest c.loop-argument.argument-iterator.b in
-    let given = map term_view c.loop-argument.given.items in
-    let over : (length parts ≡ 0) ⊎ (length kinds ≡ 0) = elim c.in-None.ensures.steps [ inl h ↦ inl h.1.0 | inr h ↦ inr h.1.0 ] in
-    answered (set_of scope) (top_of scope) asked c.called_name-name.result.now v given c.call.result c.requires.sound.0 c.called_name-name.ensures
-    (given-all (set_of scope) (top_of scope) (pieces (nodes_of scope)) parts kinds v given _ over c.loop-argument.invariant.means) c.call.ensures.means
+    let all = given-all F (top_of scope) (pieces (nodes_of scope)) parts kinds v given _ over c.loop-argument.invariant.means in
+    record {
+      means = answered F (top_of scope) asked name v given c.call.result c.requires.sound.0 c.called_name-name.ensures all c.call.ensures.means;
+      refused =
+          if_refused c.call.result (λ may. by_pattern F (top_of scope) (query_of scope) asked name v given c.called_name-name.ensures c.requires.sound c.requires.inside all may) c.call.ensures.pattern;
+    }

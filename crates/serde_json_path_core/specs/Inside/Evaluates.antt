@@ -1,12 +1,13 @@
 -- The words of the functions that evaluate: what is asked of a part, and what it computes to where `@` is a value.
-use Rattle.std.specs.Prelude.{ℕ, List, map, Bool, Option}
-use Rattle.serde_json_path_core.specs.Imports.{Data, Step, Located, Kind, Signature, Term, Call, calls_of, calls_in_segments, calls_in_segment, calls_in_selector, calls_in_or, calls_in_and, calls_in_basic, calls_in_comparable, calls_from, calls_in_argument, IsTyped, AreTypedSegments, IsTypedSegment, IsTypedSelector, IsTypedOr, IsTypedAnd, IsTypedBasic, IsTypedComparable, IsTypedCall, IsTypedArgument, Part, SelectorRef, or_at, and_at, basic_at, comparable_at, call_at, argument_at, part_query, segment_at, segments_at, ors_in, pieces, pieces_named, selector_view, stage_at, stages_at}
+use Rattle.std.specs.Prelude.{◌≡◌, ℕ, ◌<◌, List, length, map, Bool, Option, Result, IfOk, IfErr}
+use Rattle.serde_json_path_core.specs.Imports.{Data, QueryError, Pattern, Step, Located, Kind, Signature, Term, Call, calls_of, calls_in_segments, calls_in_segment, calls_in_selector, calls_in_or, calls_in_and, calls_in_basic, calls_in_comparable, calls_from, calls_in_argument, IsTyped, AreTypedSegments, IsTypedSegment, IsTypedSelector, IsTypedOr, IsTypedAnd, IsTypedBasic, IsTypedComparable, IsTypedCall, IsTypedArgument, Part, SelectorRef, or_at, and_at, basic_at, comparable_at, call_at, argument_at, part_query, segment_at, segments_at, ors_in, pieces, pieces_named, selector_view, stage_at, stages_at}
 use Rattle.serde_json_path_core.specs.Inside.Rest as advances
 use Rattle.serde_json_path_core.specs.Compared.{Compared}
+use Rattle.serde_json_path_core.specs.PatternCalls.{StandsIn}
 use Rattle.serde_json_path_core.specs.Inside.Computed as computed
 use Rattle.serde_json_path_core.specs.Inside.Rest.{Frame}
 use Rattle.serde_json_path_core.specs.Inside.SingleChildren.{values_from}
-use Rattle.serde_json_path_core.specs.Inside.Scopes.{nodes_of, query_of, set_of, top_of, IsSound}
+use Rattle.serde_json_path_core.specs.Inside.Scopes.{nodes_of, query_of, set_of, top_of, IsSound, MayRefuse}
 use Rattle.serde_json_path_core.specs.declared.evaluation.scope.Scope.{Scope}
 
 -- ---- the part is well-typed under the set, and its calls are among the query's
@@ -48,6 +49,23 @@ SoundCall scope part = Sound scope IsTypedCall calls_from (call_at (nodes_of sco
 -- the same of an argument, as a parameter of that type takes it
 abbrev pub SoundArgument : {F : Type 0} {g : _} → Scope F g → Kind → Part → Type 0
 SoundArgument scope kind part = Sound scope (λ signature a. IsTypedArgument signature a kind) calls_in_argument (argument_at (nodes_of scope) part)
+
+-- ---- what an evaluation asks, and what it gives
+
+-- the part is one of the query's, and sound, and `@` is a value of the document
+pub record MayEvaluate {F : Type 0} {g : _} (scope : Scope F g) (is_sound : Part → Type 0) (part : Part) (v : Data) : Type 0 where
+  pub below : part.number < length (nodes_of scope)
+  pub sound : is_sound part
+  pub inside : StandsIn (top_of scope) v
+
+-- the answer is the computed one, and `Pattern` is refused only where some call of the query goes by a pattern
+pub record Computes {F : Type 0} {g : _} {A : Type 0} (scope : Scope F g) (result : Result A QueryError) (is_computed : A → Type 0) : Type 0 where
+  pub means : IfOk result is_computed
+  pub refused : IfErr result (λ e. e ≡ Pattern → MayRefuse scope)
+
+-- the same of an answer whether something holds
+abbrev pub Tells : {F : Type 0} {g : _} → Scope F g → Result Bool QueryError → Bool → Type 0
+Tells scope result holds = Computes scope result (λ told. told ≡ holds)
 
 -- ---- what a part computes to
 

@@ -3,7 +3,7 @@ pub use Rattle.serde_json_path_core.specs.Imports.{AreSingular, AreTypedArgument
 pub use Rattle.serde_json_path_core.specs.Compared.{AreEqual, AreEqualAmounts, AreEqualExact, AreRisingAmounts, AreRisingExact, Compared, Compares, EqualData, EqualItems, EqualMembers, EqualNumbers, EqualSides, IsLess, RisingSides, amount_of, billionths, exact_of, literal_compared, nothing, value_compared}
 pub use Rattle.serde_json_path_core.specs.Inside.Comparisons.{IsComparisonOf, SoundForm, SoundPlain, compared_by, compared_with, first_compared, form_bound, holds_by, plain_compared, relation_holds}
 pub use Rattle.serde_json_path_core.specs.Inside.Computed.{SlicePositions, all_true, answer, answer_compared, answer_holds, are_taken, argument_as, arguments, at_positions, basic_true, below_member, child_by, children, chosen, chosen_by, comes_before, compare, compare_sides, compared, count_within, descents, falling, in_order, is_answered, is_nonempty, is_same, is_taken, is_true, item_at, items_descents, items_from, itself, members_all, members_descents, next_position, of_both, placed, position_in, positions_by, reached, results, results_from, rising, rising_sides, same_data, same_items, same_members, same_number, same_sides, selected, sliced, strided}
-pub use Rattle.serde_json_path_core.specs.Inside.Evaluates.{IsAtAdmitted, IsAtNode, IsAtTask, IsKept, Passes, Skips, Sound, SoundAnd, SoundArgument, SoundBasic, SoundCall, SoundComparable, SoundOperands, SoundOr, SoundQuery, SoundSegment, SoundSegments, SoundSelector, and_holds, answer_at, any_holds, basic_holds, compared_at, given_at, or_holds, results_at, values_at, values_of_segments}
+pub use Rattle.serde_json_path_core.specs.Inside.Evaluates.{Computes, IsAtAdmitted, IsAtNode, IsAtTask, IsKept, MayEvaluate, Passes, Skips, Sound, SoundAnd, SoundArgument, SoundBasic, SoundCall, SoundComparable, SoundOperands, SoundOr, SoundQuery, SoundSegment, SoundSegments, SoundSelector, Tells, and_holds, answer_at, any_holds, basic_holds, compared_at, given_at, or_holds, results_at, values_at, values_of_segments}
 pub use Rattle.serde_json_path_core.specs.Inside.Rest.{AllStandIn, ComesTo, EndsIn, Frame, IsAtChild, IsAtStart, IsChain, IsDone, IsInside, IsOfValue, IsSameFrame, IsStack, IsStackIn, admitted, begun, candidates, entered, entering, frame_tasks, here, is_leaf, last_passed, lower, opened, passed, rest_of, stack_path, tasks, unfiltered, visit, visit_place, visit_rest, visit_stack, without_node, work}
 pub use Rattle.serde_json_path_core.specs.Inside.Scopes.{IsSound, MayRefuse, nodes_of, query_of, set_of, top_of}
 pub use Rattle.serde_json_path_core.specs.Inside.Sides.{side_view}

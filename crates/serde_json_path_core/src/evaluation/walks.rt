@@ -6,9 +6,10 @@ ghost use Rattle.serde_json_path_core.specs.Inside.Views.{frames_view};
 
 use crate::evaluation::frame::Frame;
 use crate::evaluation::scope::Scope;
+use crate::evaluation::sink::{Sink, Taken};
 use crate::evaluation::stack::{find_next, located_at, pass_found};
 use serde_json_path_functions::{Functions, QueryError};
-use serde_json_path_nodes::{LocatedNode, PathElement};
+use serde_json_path_nodes::{LocatedNode, LocatedNodeList, PathElement};
 
 /// The nodes that a query selects, one at a time, in order.
 ///
@@ -79,6 +80,8 @@ impl<'q, 'b, F: Functions> Walk<'q, 'b, F> {
     ///     steps = node.into_steps();
     /// }
     /// ```
+    // Inlined, since each loop over a walk calls it at one place, and programs with several kinds of loops would call it.
+    #[inline(always)]
     pub fn next_into(
         &mut self,
         steps: Vec<PathElement<'b>>,
@@ -107,5 +110,52 @@ impl<'q, 'b, F: Functions> Walk<'q, 'b, F> {
                 Ok(Some(node))
             }
         }
+    }
+}
+
+impl<'b, F: Functions + Drop> Walk<'_, 'b, F> {
+    ghost use Rattle.std.specs.Prelude.{◌≡◌, [], Ok, false, true, IfOk};
+    ghost use Rattle.serde_json_path_nodes.specs.Views.{located_nodes};
+    ghost use Rattle.serde_json_path_core.specs.Selects.{OnlyMemoryOrPattern};
+    ghost use Rattle.serde_json_path_core.specs.Walks.{query_of, set_of, document_of, rest};
+
+    /// Gives the nodes that remain to a sink, one after the other, until it has enough. Says whether it took all.
+    ///
+    /// The error is of memory or, as that of [`Walk::next`], `Pattern`. No clause says what the sink has then.
+    ///
+    /// ```text
+    /// let mut nodes = Vec::new(alloc);
+    /// walk.feed(&mut nodes)? == true, and `nodes` has all nodes
+    /// ```
+    pub fn feed<S: Sink<'b>>(mut self, sink: &mut S) -> Result<bool, QueryError>
+        requires { S.took sink.old [] sink.old }
+        ensures all { result ≡ Ok true → S.took sink.old (rest self.entry) sink.new }
+        ensures enough { result ≡ Ok false → S.filled sink.old (rest self.entry) sink.new }
+        ensures refused { OnlyMemoryOrPattern (set_of self.entry) (query_of self.entry)
+            (document_of self.entry) result }
+    {
+        let mut steps = Vec::new(self.scope.alloc);
+        'nodes: while let Some(node) = self.next_into(steps)? {
+            match sink.take(node)? {
+                Taken::More(left) => steps = left,
+                Taken::Enough => return Ok(false),
+            }
+        }
+        Ok(true)
+    }
+
+    /// The nodes that remain, as a list. Errors come as those of [`Walk::next`].
+    ///
+    /// ```text
+    /// let nodes = path.walk(alloc, &document, &Builtin)?.collect()?;
+    /// ```
+    pub fn collect(self) -> Result<LocatedNodeList<'b>, QueryError>
+        ensures nodes { IfOk result (λ nodes. located_nodes nodes ≡ rest self.entry) }
+        ensures refused { OnlyMemoryOrPattern (set_of self.entry) (query_of self.entry)
+            (document_of self.entry) result }
+    {
+        let mut nodes = Vec::new(self.scope.alloc);
+        self.feed(&mut nodes)?;
+        Ok(LocatedNodeList::from(nodes))
     }
 }

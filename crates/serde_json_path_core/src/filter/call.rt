@@ -1,7 +1,7 @@
 //! Calls of functions in filters (RFC 9535, section 2.4).
 
-ghost use Rattle.std.specs.Prelude.{◌≡◌, ◌<◌, Some, IfOk, IfErr, length};
-ghost use Rattle.serde_json_path_core.specs.Inside.Words.{view, kind_of_term, SoundArgument, SoundCall, SoundQuery, answer_at, given_at, results_at, kind_view, term_view, result_kind, StandsIn, call_at, MayRefuse, nodes_of, set_of, top_of, Pattern};
+ghost use Rattle.std.specs.Prelude.{◌≡◌, Some, IfOk};
+ghost use Rattle.serde_json_path_core.specs.Inside.Words.{view, kind_of_term, MayEvaluate, Computes, SoundArgument, SoundCall, SoundQuery, answer_at, given_at, results_at, kind_view, term_view, result_kind, call_at, nodes_of, set_of};
 ghost use Rattle.serde_json_path_core.specs.Inside.Computed as computed;
 
 use crate::evaluation::scope::Scope;
@@ -43,15 +43,12 @@ pub(crate) fn answer<'x, 'q: 'x, 'b: 'x, F: Functions>(
     call: Part,
     current: &'b Value,
 ) -> Result<FunctionValue<'x>, QueryError>
-    requires below { call.number < length (nodes_of scope.now) }
-    requires sound { SoundCall scope.now call }
-    requires inside { StandsIn (top_of scope.now) (view current.now) }
+    requires { MayEvaluate scope.now (SoundCall scope.now) call (view current.now) }
     ensures kind { IfOk result (λ answer.
         Some (kind_of_term (term_view answer))
         ≡ result_kind (set_of scope.now).signature (call_at (nodes_of scope.now) call)) }
-    ensures means { IfOk result (λ answer.
+    ensures computes { Computes scope.now result (λ answer.
         term_view answer ≡ answer_at scope.now call (view current.now)) }
-    ensures refused { IfErr result (λ e. e ≡ Pattern → MayRefuse scope.now) }
 {
     let name = scope.query.called_name(call);
     let parameters = scope.query.parameters(call);
@@ -71,13 +68,11 @@ fn argument_as<'x, 'q: 'x, 'b: 'x, F: Functions>(
     kind: FunctionArgType,
     current: &'b Value,
 ) -> Result<FunctionValue<'x>, QueryError>
-    requires below { argument.number < length (nodes_of scope.now) }
-    requires sound { SoundArgument scope.now (kind_view kind) argument }
-    requires inside { StandsIn (top_of scope.now) (view current.now) }
+    requires { MayEvaluate scope.now (SoundArgument scope.now (kind_view kind))
+        argument (view current.now) }
     ensures kind { IfOk result (λ term. kind_of_term (term_view term) ≡ kind_view kind) }
-    ensures means { IfOk result (λ term.
+    ensures computes { Computes scope.now result (λ term.
         term_view term ≡ given_at scope.now argument (kind_view kind) (view current.now)) }
-    ensures refused { IfErr result (λ e. e ≡ Pattern → MayRefuse scope.now) }
 {
     match scope.query.node(argument) {
         Node::Argument(argument) => match argument {
@@ -110,14 +105,11 @@ fn result_as<'x, 'q: 'x, 'b: 'x, F: Functions>(
     kind: FunctionArgType,
     current: &'b Value,
 ) -> Result<FunctionValue<'x>, QueryError>
-    requires below { query.number < length (nodes_of scope.now) }
-    requires sound { SoundQuery scope.now query }
-    requires inside { StandsIn (top_of scope.now) (view current.now) }
+    requires { MayEvaluate scope.now (SoundQuery scope.now) query (view current.now) }
     ensures kind { IfOk result (λ term. kind_of_term (term_view term) ≡ kind_view kind) }
-    ensures means { IfOk result (λ term.
+    ensures computes { Computes scope.now result (λ term.
         term_view term
         ≡ computed.result_as (kind_view kind) (results_at scope.now query (view current.now))) }
-    ensures refused { IfErr result (λ e. e ≡ Pattern → MayRefuse scope.now) }
 {
     match kind {
         FunctionArgType::Value => match first(scope, query, current)? {

@@ -1,7 +1,7 @@
 //! Logical expressions of filters (RFC 9535, section 2.3.5).
 
-ghost use Rattle.std.specs.Prelude.{◌≡◌, ◌<◌, ◌≤◌, Some, IfOk, IfErr, length};
-ghost use Rattle.serde_json_path_core.specs.Inside.Words.{view, SoundForm, compared_by, compared_with, holds_by, relation_holds, is_nonempty, SoundAnd, SoundBasic, SoundCall, SoundComparable, SoundOperands, SoundOr, SoundQuery, and_holds, answer_at, any_holds, basic_holds, or_holds, results_at, side_view, StandsIn, MayRefuse, nodes_of, top_of, operator_view, parts_bound, Pattern};
+ghost use Rattle.std.specs.Prelude.{◌≤◌, Some, length};
+ghost use Rattle.serde_json_path_core.specs.Inside.Words.{view, MayEvaluate, Tells, SoundForm, compared_by, compared_with, holds_by, relation_holds, is_nonempty, SoundAnd, SoundBasic, SoundCall, SoundComparable, SoundOperands, SoundOr, SoundQuery, and_holds, answer_at, any_holds, basic_holds, or_holds, results_at, side_view, StandsIn, nodes_of, top_of, operator_view, parts_bound};
 ghost use Rattle.serde_json_path_core.specs.Inside.Computed.{answer_holds as holds_as_test};
 
 use crate::evaluation::scope::Scope;
@@ -21,12 +21,8 @@ pub(crate) fn or_holds<'b, F: Functions>(
     expression: Part,
     current: &'b Value,
 ) -> Result<bool, QueryError>
-    requires below { expression.number < length (nodes_of scope.now) }
-    requires sound { SoundOr scope.now expression }
-    requires inside { StandsIn (top_of scope.now) (view current.now) }
-    ensures means { IfOk result (λ holds.
-        holds ≡ or_holds scope.now expression (view current.now)) }
-    ensures refused { IfErr result (λ e. e ≡ Pattern → MayRefuse scope.now) }
+    requires { MayEvaluate scope.now (SoundOr scope.now) expression (view current.now) }
+    ensures { Tells scope.now result (or_holds scope.now expression (view current.now)) }
 {
     any_holds(scope, scope.query.or_parts(expression), current)
 }
@@ -42,9 +38,7 @@ pub(crate) fn any_holds<'b, F: Functions>(
     requires below { parts_bound operands.now ≤ length (nodes_of scope.now) }
     requires sound { SoundOperands scope.now operands.now }
     requires inside { StandsIn (top_of scope.now) (view current.now) }
-    ensures means { IfOk result (λ holds.
-        holds ≡ any_holds scope.now operands.now (view current.now)) }
-    ensures refused { IfErr result (λ e. e ≡ Pattern → MayRefuse scope.now) }
+    ensures { Tells scope.now result (any_holds scope.now operands.now (view current.now)) }
 {
     for operand in operands {
         if and_holds(scope, *operand, current)? {
@@ -62,12 +56,8 @@ fn and_holds<'b, F: Functions>(
     expression: Part,
     current: &'b Value,
 ) -> Result<bool, QueryError>
-    requires below { expression.number < length (nodes_of scope.now) }
-    requires sound { SoundAnd scope.now expression }
-    requires inside { StandsIn (top_of scope.now) (view current.now) }
-    ensures means { IfOk result (λ holds.
-        holds ≡ and_holds scope.now expression (view current.now)) }
-    ensures refused { IfErr result (λ e. e ≡ Pattern → MayRefuse scope.now) }
+    requires { MayEvaluate scope.now (SoundAnd scope.now) expression (view current.now) }
+    ensures { Tells scope.now result (and_holds scope.now expression (view current.now)) }
 {
     for part in scope.query.and_parts(expression) {
         if !basic_holds(scope, *part, current)? {
@@ -85,12 +75,8 @@ fn basic_holds<'b, F: Functions>(
     expression: Part,
     current: &'b Value,
 ) -> Result<bool, QueryError>
-    requires below { expression.number < length (nodes_of scope.now) }
-    requires sound { SoundBasic scope.now expression }
-    requires inside { StandsIn (top_of scope.now) (view current.now) }
-    ensures means { IfOk result (λ holds.
-        holds ≡ basic_holds scope.now expression (view current.now)) }
-    ensures refused { IfErr result (λ e. e ≡ Pattern → MayRefuse scope.now) }
+    requires { MayEvaluate scope.now (SoundBasic scope.now) expression (view current.now) }
+    ensures { Tells scope.now result (basic_holds scope.now expression (view current.now)) }
 {
     match scope.query.node(expression) {
         Node::Basic(basic) => match basic {
@@ -118,12 +104,8 @@ fn exists<'b, F: Functions>(
     query: Part,
     current: &'b Value,
 ) -> Result<bool, QueryError>
-    requires below { query.number < length (nodes_of scope.now) }
-    requires sound { SoundQuery scope.now query }
-    requires inside { StandsIn (top_of scope.now) (view current.now) }
-    ensures means { IfOk result (λ holds.
-        holds ≡ is_nonempty (results_at scope.now query (view current.now))) }
-    ensures refused { IfErr result (λ e. e ≡ Pattern → MayRefuse scope.now) }
+    requires { MayEvaluate scope.now (SoundQuery scope.now) query (view current.now) }
+    ensures { Tells scope.now result (is_nonempty (results_at scope.now query (view current.now))) }
 {
     Ok(first(scope, query, current)?.is_some())
 }
@@ -136,12 +118,8 @@ fn call_holds<'b, F: Functions>(
     call: Part,
     current: &'b Value,
 ) -> Result<bool, QueryError>
-    requires below { call.number < length (nodes_of scope.now) }
-    requires sound { SoundCall scope.now call }
-    requires inside { StandsIn (top_of scope.now) (view current.now) }
-    ensures means { IfOk result (λ holds.
-        holds ≡ holds_as_test (answer_at scope.now call (view current.now))) }
-    ensures refused { IfErr result (λ e. e ≡ Pattern → MayRefuse scope.now) }
+    requires { MayEvaluate scope.now (SoundCall scope.now) call (view current.now) }
+    ensures { Tells scope.now result (holds_as_test (answer_at scope.now call (view current.now))) }
 {
     let answer = answer(scope, call, current)?;
     Ok(answer_holds(&answer))
@@ -158,14 +136,10 @@ fn relation_holds<'b, F: Functions>(
     right: Part,
     current: &'b Value,
 ) -> Result<bool, QueryError>
-    requires left_below { left.number < length (nodes_of scope.now) }
-    requires right_below { right.number < length (nodes_of scope.now) }
-    requires left { SoundComparable scope.now left }
-    requires right { SoundComparable scope.now right }
-    requires inside { StandsIn (top_of scope.now) (view current.now) }
-    ensures means { IfOk result (λ holds.
-        holds ≡ relation_holds scope.now left (operator_view operator) right (view current.now)) }
-    ensures refused { IfErr result (λ e. e ≡ Pattern → MayRefuse scope.now) }
+    requires left { MayEvaluate scope.now (SoundComparable scope.now) left (view current.now) }
+    requires right { MayEvaluate scope.now (SoundComparable scope.now) right (view current.now) }
+    ensures { Tells scope.now result
+        (relation_holds scope.now left (operator_view operator) right (view current.now)) }
 {
     match form_of(scope, left) {
         SideForm::Plain(left) => {
@@ -190,9 +164,7 @@ pub(crate) fn compares<'b, F: Functions>(
     requires left { SoundForm scope.now comparison.now.left }
     requires right { SoundForm scope.now comparison.now.right }
     requires inside { StandsIn (top_of scope.now) (view current.now) }
-    ensures means { IfOk result (λ holds.
-        holds ≡ holds_by scope.now comparison.now (view current.now)) }
-    ensures refused { IfErr result (λ e. e ≡ Pattern → MayRefuse scope.now) }
+    ensures { Tells scope.now result (holds_by scope.now comparison.now (view current.now)) }
 {
     match comparison.left {
         SideForm::Plain(left) => {
@@ -218,11 +190,9 @@ fn answer_compares<'b, F: Functions>(
     requires left { SoundForm scope.now (SideForm.Called call) }
     requires right { SoundForm scope.now right }
     requires inside { StandsIn (top_of scope.now) (view current.now) }
-    ensures means { IfOk result (λ holds.
-        holds ≡ compared_with scope.now
+    ensures { Tells scope.now result (compared_with scope.now
         (compared_by scope.now (SideForm.Called call) (view current.now))
         (operator_view operator) right.entry (view current.now)) }
-    ensures refused { IfErr result (λ e. e ≡ Pattern → MayRefuse scope.now) }
 {
     let answer = answer(scope, call, current)?;
     compares_with(scope, side_of_answer(&answer), operator, right, current)
@@ -240,10 +210,8 @@ fn compares_with<'b, F: Functions>(
 ) -> Result<bool, QueryError>
     requires right { SoundForm scope.now right }
     requires inside { StandsIn (top_of scope.now) (view current.now) }
-    ensures means { IfOk result (λ holds.
-        holds ≡ compared_with scope.now (Some (side_view left.entry))
+    ensures { Tells scope.now result (compared_with scope.now (Some (side_view left.entry))
         (operator_view operator) right.entry (view current.now)) }
-    ensures refused { IfErr result (λ e. e ≡ Pattern → MayRefuse scope.now) }
 {
     match right {
         SideForm::Plain(right) => {
@@ -267,10 +235,8 @@ fn compares_with_answer<'b, F: Functions>(
 ) -> Result<bool, QueryError>
     requires right { SoundForm scope.now (SideForm.Called call) }
     requires inside { StandsIn (top_of scope.now) (view current.now) }
-    ensures means { IfOk result (λ holds.
-        holds ≡ compared_with scope.now (Some (side_view left.entry))
+    ensures { Tells scope.now result (compared_with scope.now (Some (side_view left.entry))
         (operator_view operator) (SideForm.Called call) (view current.now)) }
-    ensures refused { IfErr result (λ e. e ≡ Pattern → MayRefuse scope.now) }
 {
     let answer = answer(scope, call, current)?;
     let right = side_of_answer(&answer);

@@ -1,7 +1,7 @@
 //! The queries in filters and in arguments of calls.
 
-ghost use Rattle.std.specs.Prelude.{◌≡◌, ◌<◌, ◌≤◌, IfOk, IfErr, IfSome, length, map, option_map, slice_get};
-ghost use Rattle.serde_json_path_core.specs.Inside.Words.{view, node_value, SoundQuery, SoundSegments, results_at, values_at, values_of_segments, StandsIn, first_value, parts_bound, values_reached, MayRefuse, nodes_of, set_of, top_of, Pattern};
+ghost use Rattle.std.specs.Prelude.{◌≡◌, ◌≤◌, IfSome, length, map, option_map, slice_get};
+ghost use Rattle.serde_json_path_core.specs.Inside.Words.{view, node_value, MayEvaluate, Computes, SoundQuery, SoundSegments, results_at, values_at, values_of_segments, StandsIn, first_value, parts_bound, values_reached, nodes_of, set_of, top_of};
 
 use crate::evaluation::child_values::child_values;
 use crate::evaluation::frame::first_frames;
@@ -20,9 +20,7 @@ fn reached<'q, 'b, F: Functions>(
     query: Part,
     current: &'b Value,
 ) -> Reached<'q, 'b>
-    requires below { query.number < length (nodes_of scope.now) }
-    requires sound { SoundQuery scope.now query }
-    requires inside { StandsIn (top_of scope.now) (view current.now) }
+    requires { MayEvaluate scope.now (SoundQuery scope.now) query (view current.now) }
     ensures selects { values_at scope.now query (view current.now)
         ≡ values_reached (set_of scope.now) (top_of scope.now) (nodes_of scope.now) result }
     ensures below { parts_bound result.segments.now ≤ query.number }
@@ -43,9 +41,8 @@ fn first_from<'b, F: Functions>(
     requires below { parts_bound segments.now ≤ length (nodes_of scope.now) }
     requires sound { SoundSegments scope.now segments.now }
     requires inside { StandsIn (top_of scope.now) (view value.now) }
-    ensures means { IfOk result (λ found. option_map node_value found
+    ensures { Computes scope.now result (λ found. option_map node_value found
         ≡ slice_get (values_of_segments scope.now segments.now (view value.now)) 0) }
-    ensures refused { IfErr result (λ e. e ≡ Pattern → MayRefuse scope.now) }
 {
     let mut frames = first_frames(scope.alloc, scope.query, segments, value)?;
     match find_next(scope, segments, &mut frames)? {
@@ -62,12 +59,9 @@ pub(crate) fn first<'b, F: Functions>(
     query: Part,
     current: &'b Value,
 ) -> Result<Option<&'b Value>, QueryError>
-    requires below { query.number < length (nodes_of scope.now) }
-    requires sound { SoundQuery scope.now query }
-    requires inside { StandsIn (top_of scope.now) (view current.now) }
-    ensures means { IfOk result (λ found.
+    requires { MayEvaluate scope.now (SoundQuery scope.now) query (view current.now) }
+    ensures { Computes scope.now result (λ found.
         option_map node_value found ≡ first_value (results_at scope.now query (view current.now))) }
-    ensures refused { IfErr result (λ e. e ≡ Pattern → MayRefuse scope.now) }
 {
     let reached = reached(scope, query, current);
     match reached.value {
@@ -91,9 +85,8 @@ pub(crate) fn all_from<'x, 'b: 'x, F: Functions>(
     requires below { parts_bound segments.now ≤ length (nodes_of scope.now) }
     requires sound { SoundSegments scope.now segments.now }
     requires inside { StandsIn (top_of scope.now) (view value.now) }
-    ensures means { IfOk result (λ found. map node_value found.items
+    ensures { Computes scope.now result (λ found. map node_value found.items
         ≡ values_of_segments scope.now segments.now (view value.now)) }
-    ensures refused { IfErr result (λ e. e ≡ Pattern → MayRefuse scope.now) }
 {
     let mut frames = first_frames(scope.alloc, scope.query, segments, value)?;
     let mut found: Vec<&'x Value> = Vec::new(scope.alloc);
@@ -112,12 +105,9 @@ pub(crate) fn all_values<'x, 'q: 'x, 'b: 'x, F: Functions>(
     query: Part,
     current: &'b Value,
 ) -> Result<Vec<&'x Value>, QueryError>
-    requires below { query.number < length (nodes_of scope.now) }
-    requires sound { SoundQuery scope.now query }
-    requires inside { StandsIn (top_of scope.now) (view current.now) }
-    ensures means { IfOk result (λ found.
+    requires { MayEvaluate scope.now (SoundQuery scope.now) query (view current.now) }
+    ensures { Computes scope.now result (λ found.
         map node_value found.items ≡ values_at scope.now query (view current.now)) }
-    ensures refused { IfErr result (λ e. e ≡ Pattern → MayRefuse scope.now) }
 {
     let reached = reached(scope, query, current);
     match reached.value {

@@ -3,7 +3,7 @@ use Rattle.std.proofs.Common.{◌≡◌, ℕ, List, [], ◌∷◌, Bool, true, f
 use Rattle.std.proofs.lemmas.Bool.{cases_Bool}
 use Rattle.std.proofs.lemmas.Slice.Eq.{bytes_eq-Decides}
 use Rattle.serde_json_path_functions.specs.OwnSets.{Keeps, KeepsPattern, declared_keeps, pattern_kept, pattern_typed}
-use Rattle.serde_json_path_functions.specs.Functions.{of_value, of_nodes, Signature, Term, value, nodes, logical, kind_of_term, Matching, whole_text, any_part, KeepsTypes, matching_signature, first_signature, length_meaning, count_meaning, value_meaning, plain_meaning, plain_signature, pattern_signature, builtin_by_regex}
+use Rattle.serde_json_path_functions.specs.Functions.{of_value, of_nodes, Signature, Term, value, nodes, kind_of_term, Matching, whole_text, any_part, KeepsTypes, matching_signature, first_signature, length_meaning, count_meaning, value_meaning, plain_meaning, plain_signature, pattern_signature, builtin_by_regex}
 use Rattle.serde_json_path_functions.specs.Patterns.{pattern_meaning, KeepsPatterns, meaning_by, builtin_functions}
 
 length_typed : (ts : List Term) → kind_of_term (length_meaning ts) ≡ of_value

@@ -1,5 +1,5 @@
 -- Arguments and calls, by what holds one level deeper; and the laws of these pieces at every level.
-use Rattle.serde_json_path_parser.proofs.Words.{Call, ◌==◌, ◌||◌, ℤ, pos, negsuc, ◌*ℤ◌, ◌-ℤ◌, ◌/◌, ◌%◌, ◌*◌, eqb-true, eq-eqb, or_parts, ints, cases_Bool, div-add-mod', LogicalOr, LogicalAnd, Basic, exist, test, Argument, literal_argument, query_argument, call_argument, logical_argument, number, Operator, no_or, or, no_and, and, result_kind, TakesResult, IsTypedArgument, argument_depth, Kind, of_value, of_nodes, of_logical, Signature, WrongReturnType, is_at, are_at, begins, begins_both, IsBlank, StandsAlone, ReadsArgument, ◌>>=◌, refusal, past_blanks, byte_count, Operand, a_literal, a_call, is_result, is_test, takes_result, is_whole, fits, alone, ends_argument, Deeper, operand_at, test_at, relation_at, basic_from, basic_at, next_basic_at, and_from, and_at, next_and_at, or_from, or_at, argument_at, mul-mod_left, is_blank, ReadsCall, append-nil, Reads, Parsed, codes, call, Arguments, no_arguments, argument, AreTypedArguments, IsTypedCall, arguments_depth, call_depth, ExpectedClosingParenthesis, WrongArgumentType, UndefinedFunction, WrongNumberOfArguments, IsFunctionName, ReadMoreArguments, ReadArguments, ended, arguments_at, parameters_at, call_at, NestedTooDeep, level, cond, ◌≡◌, ℕ, ◌≤◌, inl, inr, Bool, true, false, List, [], ◌∷◌, ◌++◌, Option, Some, Ok, Err, refl, sym, ap, subst, ◌∙◌, append_assoc, arith, ◌+◌, zero, suc, drop, None, LongHand, a_query, begins_operator, query_singular, IsTypedOr, or_depth}
+use Rattle.serde_json_path_parser.proofs.Words.{Call, ◌==◌, ◌||◌, ℤ, pos, negsuc, ◌*ℤ◌, ◌-ℤ◌, ◌/◌, ◌%◌, ◌*◌, eqb-true, eq-eqb, or_parts, ints, cases_Bool, div-add-mod', LogicalOr, LogicalAnd, Basic, exist, test, Argument, literal_argument, query_argument, call_argument, logical_argument, number, Operator, no_or, or, no_and, and, result_kind, TakesResult, IsTypedArgument, argument_depth, Kind, of_value, of_nodes, of_logical, Signature, WrongReturnType, is_at, are_at, begins, begins_both, IsBlank, StandsAlone, ReadsArgument, ◌>>=◌, refusal, past_blanks, byte_count, Operand, a_literal, a_call, is_result, is_test, takes_result, is_whole, suits, alone, ends_argument, Deeper, read_operand, read_test, read_relation, read_basic_from, read_basic, read_next_basic, read_and_from, read_and, read_next_and, read_or_from, read_or, read_argument, mul-mod_left, is_blank, ReadsCall, append-nil, Reads, Parsed, codes, call, Arguments, no_arguments, argument, AreTypedArguments, IsTypedCall, arguments_depth, call_depth, ExpectedClosingParenthesis, WrongArgumentType, UndefinedFunction, WrongNumberOfArguments, IsFunctionName, ReadMoreArguments, ReadArguments, read_end, read_some_arguments, read_arguments, read_call, NestedTooDeep, level, cond, ◌≡◌, ℕ, ◌≤◌, inl, inr, Bool, true, false, List, [], ◌∷◌, ◌++◌, Option, Some, Ok, Err, refl, sym, ap, subst, ◌∙◌, append_assoc, arith, ◌+◌, zero, suc, drop, None, LongHand, a_query, begins_operator, query_singular, IsTypedOr, or_depth}
 use Rattle.serde_json_path_parser.proofs.Reading.{split_again, blanks_of, spread, begins_where, differs, no_blank, begins_differs, Read, Spaced, bind_ok, ok_is, after_one, many_end, Inner, onward, choose, remade, read_as, Outcome, weaker_spaced, refused, past_text, Past, read_spaced, after_sign, past_spaced, past_through, past_run, front_each, whole, moved, begins_other}
 use Rattle.serde_json_path_parser.proofs.Grammar.LogicalForms.{IsGoodQuery, IsGoodCall, DeeperLaws, singular_query, ends_operand, ends_or, IsOperandText, IsOrText, begins_operand, begins_expression, operand_begins, as_expression, or_begins, no_blank_begins}
 use Rattle.serde_json_path_parser.proofs.Grammar.LogicalExpressions.{or_again, or_outcome, and_from_outcome, or_from_outcome}
@@ -44,14 +44,14 @@ amount_whole (negsuc m) (negsuc w) e =
     eq-eqb ((m + 1) % 1000000000) 0 (ap (λ (k : ℕ). k % 1000000000) same ∙ mul-mod_left (w + 1) 1000000000)
 amount_whole _ _ e = absurd (omega (arith, ints, e))
 
-pub typed_fits : (signature : List ℕ → Option Signature) (a : Argument) (kind : Kind) → IsTypedArgument signature a kind → fits signature a kind ≡ true
-typed_fits signature (literal_argument (number amount)) of_value h = amount_whole amount h.0 h.1
-typed_fits signature (literal_argument l) of_value h = refl
-typed_fits signature (query_argument q) of_value h = query_singular q h.1
-typed_fits signature (query_argument q) kind h = refl
-typed_fits signature (call_argument c) kind h = taken signature kind (result_kind signature c) h.1
-typed_fits signature (logical_argument e) of_logical h = refl
-typed_fits signature _ _ h = absurd h
+pub typed_suits : (signature : List ℕ → Option Signature) (a : Argument) (kind : Kind) → IsTypedArgument signature a kind → suits signature a kind ≡ true
+typed_suits signature (literal_argument (number amount)) of_value h = amount_whole amount h.0 h.1
+typed_suits signature (literal_argument l) of_value h = refl
+typed_suits signature (query_argument q) of_value h = query_singular q h.1
+typed_suits signature (query_argument q) kind h = refl
+typed_suits signature (call_argument c) kind h = taken signature kind (result_kind signature c) h.1
+typed_suits signature (logical_argument e) of_logical h = refl
+typed_suits signature _ _ h = absurd h
 
 -- ---- what follows an argument
 
@@ -87,15 +87,15 @@ module _ (signature : List ℕ → Option Signature) (n : ℕ) where
   IsLooseArgument t (logical_argument e) = IsOrText signature n t e
   IsLooseArgument t a = IsArgument t a
 
-  -- a good argument that fits the parameter is well-typed
-  pub fits_typed : (a : Argument) (kind : Kind) → IsGoodArgument a → fits signature a kind ≡ true → IsTypedArgument signature a kind
-  fits_typed (literal_argument (number amount)) of_value h e = whole_amount amount e
-  fits_typed (literal_argument l) of_value h e = tt
-  fits_typed (query_argument q) of_value h e = (h.0, singular_query q e)
-  fits_typed (query_argument q) kind h e = h.0
-  fits_typed (call_argument c) kind h e = (h.0, takes signature kind (result_kind signature c) e)
-  fits_typed (logical_argument f) of_logical h e = h.0
-  fits_typed _ _ h e = absurd cc
+  -- a good argument that suits the parameter is well-typed
+  pub suits_typed : (a : Argument) (kind : Kind) → IsGoodArgument a → suits signature a kind ≡ true → IsTypedArgument signature a kind
+  suits_typed (literal_argument (number amount)) of_value h e = whole_amount amount e
+  suits_typed (literal_argument l) of_value h e = tt
+  suits_typed (query_argument q) of_value h e = (h.0, singular_query q e)
+  suits_typed (query_argument q) kind h e = h.0
+  suits_typed (call_argument c) kind h e = (h.0, takes signature kind (result_kind signature c) e)
+  suits_typed (logical_argument f) of_logical h e = h.0
+  suits_typed _ _ h e = absurd cc
 
   pub good_depth : (a : Argument) → IsGoodArgument a → argument_depth a ≤ n
   good_depth (literal_argument l) h = omega arith
@@ -117,8 +117,8 @@ module _ (signature : List ℕ → Option Signature) (n : ℕ) where
 module _ (signature : List ℕ → Option Signature) (n : ℕ) (deeper : Deeper) (laws : DeeperLaws signature n deeper) where
   -- ---- what a reading gives
 
-  pub argument_outcome : (cs : List ℕ) → Outcome (Spaced (IsLooseArgument signature n)) (Inner signature) cs (argument_at signature deeper cs)
-  unfolding argument_at
+  pub argument_outcome : (cs : List ℕ) → Outcome (Spaced (IsLooseArgument signature n)) (Inner signature) cs (read_argument signature deeper cs)
+  unfolding read_argument
   argument_outcome cs =
       choose {b = begins (λ c. c == 40 || c == 33) cs} (λ e. remade (λ e. logical_argument e) (λ t e h. h) (or_outcome signature n deeper laws cs)) (λ _.
       onward (operand_outcome signature n deeper laws cs) (λ o e s.
@@ -128,8 +128,8 @@ module _ (signature : List ℕ → Option Signature) (n : ℕ) (deeper : Deeper)
 
   -- ---- an operand alone is read as that
 
-  operand_argument : (t : List ℕ) (o : Operand) (rest : List ℕ) → IsOperandText signature n t o → Follows ends_argument rest → argument_at signature deeper (t ++ rest) ≡ Ok (alone o, past_blanks rest)
-  unfolding argument_at
+  operand_argument : (t : List ℕ) (o : Operand) (rest : List ℕ) → IsOperandText signature n t o → Follows ends_argument rest → read_argument signature deeper (t ++ rest) ≡ Ok (alone o, past_blanks rest)
+  unfolding read_argument
   operand_argument t o rest h ends =
       let plain : begins (λ c. c == 40 || c == 33) (t ++ rest) ≡ false = begins_where begins_operand (λ c. c == 40 || c == 33) false (t ++ rest) (λ c e. grind (arith, e)) (operand_begins o t rest h.1) in
       let read = operand_again signature n deeper laws t o rest h (begins_where ends_argument ends_operand true (past_blanks rest) (λ c e. grind (arith, e)) ends) in
@@ -143,72 +143,72 @@ module _ (signature : List ℕ → Option Signature) (n : ℕ) (deeper : Deeper)
   alone_text _ t h stands = absurd stands
 
   -- so no expression that is read before an argument's end is one
-  not_alone : (e : LogicalOr) (t k rest : List ℕ) → IsOrText signature n t e → IsBlank k → begins ends_argument rest ≡ true → argument_at signature deeper (t ++ (k ++ rest)) ≡ Ok (logical_argument e, rest) → StandsAlone e → ⊥
+  not_alone : (e : LogicalOr) (t k rest : List ℕ) → IsOrText signature n t e → IsBlank k → begins ends_argument rest ≡ true → read_argument signature deeper (t ++ (k ++ rest)) ≡ Ok (logical_argument e, rest) → StandsAlone e → ⊥
   not_alone e t k rest h blank ends read stands =
       let o = alone_text e t h stands in
       let past : past_blanks (k ++ rest) ≡ rest = past_run is_blank k rest blank (begins_where ends_argument is_blank false rest (λ c e. no_blank ends_argument c refl refl refl refl e) ends) in
       let again = operand_argument t o.0 (k ++ rest) o.1 (ap (begins ends_argument) past ∙ ends) in
       o.2 (ap (λ y. y.0) (ok_is (alone o.0, past_blanks (k ++ rest)) (logical_argument e, rest) (sym again ∙ read)))
 
-  pub argument_is : (cs : List ℕ) (x : Argument × List ℕ) (s : Read (Spaced (IsLooseArgument signature n)) cs x) → argument_at signature deeper cs ≡ Ok x → begins ends_argument x.1 ≡ true → IsArgument signature n s.is_so.0 x.0
+  pub argument_is : (cs : List ℕ) (x : Argument × List ℕ) (s : Read (Spaced (IsLooseArgument signature n)) cs x) → read_argument signature deeper cs ≡ Ok x → begins ends_argument x.1 ≡ true → IsArgument signature n s.is_so.0 x.0
   argument_is cs (logical_argument f, rest) s e ends =
       let t = s.is_so.0 in
       let k = s.is_so.1 in
       let split : cs ≡ t ++ (k ++ rest) = s.split ∙ ap (λ (l : List ℕ). l ++ rest) s.is_so.4 ∙ append_assoc t k rest in
-      (s.is_so.2.0, (not_alone f t k rest s.is_so.2 s.is_so.3 ends (ap (argument_at signature deeper) (sym split) ∙ e), s.is_so.2.1))
+      (s.is_so.2.0, (not_alone f t k rest s.is_so.2 s.is_so.3 ends (ap (read_argument signature deeper) (sym split) ∙ e), s.is_so.2.1))
   argument_is cs (_, rest) s e ends = s.is_so.2
 
   -- ---- a logical expression, which does not stand alone
 
   abbrev more_of : Basic × List ℕ → Parsed LogicalOr
-  more_of b = and_from signature deeper b.0 b.1 >>= λ a. or_from signature deeper a.0 a.1
+  more_of b = read_and_from signature deeper b.0 b.1 >>= λ a. read_or_from signature deeper a.0 a.1
 
   -- before an argument's end nothing is joined to it
   none_joined : (b : Basic) (cs : List ℕ) (x : LogicalOr × List ℕ) → begins ends_argument cs ≡ true → more_of (b, cs) ≡ Ok x → or (and b no_and) no_or ≡ x.0
   none_joined b cs x ends e =
-      let ands = many_end (are_at "&&") (next_basic_at signature deeper) cs (no_sign 38 cs refl ends) in
-      let ors = many_end (are_at "||") (next_and_at signature deeper) cs (no_sign 124 cs refl ends) in
+      let ands = many_end (are_at "&&") (read_next_basic signature deeper) cs (no_sign 38 cs refl ends) in
+      let ors = many_end (are_at "||") (read_next_and signature deeper) cs (no_sign 124 cs refl ends) in
       let whole : more_of (b, cs) ≡ Ok (or (and b no_and) no_or, cs) = rw (ands, ors) refl in
       ap (λ y. y.0) (ok_is (or (and b no_and) no_or, cs) x (sym whole ∙ e))
 
-  operand_alone : (start : List ℕ) (o : Operand) (cs : List ℕ) (x : LogicalOr × List ℕ) → begins ends_argument cs ≡ true → (basic_from signature deeper (byte_count start) o cs >>= more_of) ≡ Ok x → StandsAlone x.0
+  operand_alone : (start : List ℕ) (o : Operand) (cs : List ℕ) (x : LogicalOr × List ℕ) → begins ends_argument cs ≡ true → (read_basic_from signature deeper (byte_count start) o cs >>= more_of) ≡ Ok x → StandsAlone x.0
   operand_alone start o cs x ends e =
-      by_operand o (ap (λ (op : Option (Operator × List ℕ)). relation_at signature deeper (byte_count start) o op cs >>= more_of) (sym (no_operator cs (begins_where ends_argument begins_operator false cs (λ c e. grind (arith, e)) ends))) ∙ e)
+      by_operand o (ap (λ (op : Option (Operator × List ℕ)). read_relation signature deeper (byte_count start) o op cs >>= more_of) (sym (no_operator cs (begins_where ends_argument begins_operator false cs (λ c e. grind (arith, e)) ends))) ∙ e)
     where
       by_result : (c : Call) (value : Bool) → (cond value (Err (refusal WrongReturnType LongHand start)) (Ok (test c, cs)) >>= more_of) ≡ Ok x → StandsAlone x.0
       by_result c true e = absurd cc
       by_result c false e = subst StandsAlone (none_joined (test c) cs x ends e) tt
 
-      by_operand : (o : Operand) → (test_at signature deeper (byte_count start) o cs >>= more_of) ≡ Ok x → StandsAlone x.0
+      by_operand : (o : Operand) → (read_test signature deeper (byte_count start) o cs >>= more_of) ≡ Ok x → StandsAlone x.0
       by_operand (a_literal l) e = absurd cc
       by_operand (a_query q) e = subst StandsAlone (none_joined (exist q) cs x ends e) tt
       by_operand (a_call c) e = by_result c (is_result of_value (result_kind signature c)) e
 
   -- an operand and what is joined to it
   joined_again : (cs : List ℕ) (x : LogicalOr × List ℕ) (o : Operand × List ℕ) (b : Basic × List ℕ) (a : LogicalAnd × List ℕ) → begins (λ c. c == 40 || c == 33) cs ≡ false → (StandsAlone x.0 → ⊥)
-      → operand_at signature deeper cs ≡ Ok o → basic_from signature deeper (byte_count cs) o.0 o.1 ≡ Ok b → and_from signature deeper b.0 b.1 ≡ Ok a → or_from signature deeper a.0 a.1 ≡ Ok x → argument_at signature deeper cs ≡ Ok (logical_argument x.0, x.1)
-  unfolding argument_at
+      → read_operand signature deeper cs ≡ Ok o → read_basic_from signature deeper (byte_count cs) o.0 o.1 ≡ Ok b → read_and_from signature deeper b.0 b.1 ≡ Ok a → read_or_from signature deeper a.0 a.1 ≡ Ok x → read_argument signature deeper cs ≡ Ok (logical_argument x.0, x.1)
+  unfolding read_argument
   joined_again cs x o b a plain free first second third fourth = elim (cases_Bool (begins ends_argument o.1)) [
     | inl ends ↦ absurd (free (operand_alone cs o.0 o.1 x ends (rw (second, third) fourth)))
     | inr ends ↦ rw (plain, first, ends, second, third, fourth) refl
   ]
 
-  logical_again : (cs : List ℕ) (x : LogicalOr × List ℕ) → (StandsAlone x.0 → ⊥) → or_at signature deeper cs ≡ Ok x → argument_at signature deeper cs ≡ Ok (logical_argument x.0, x.1)
-  unfolding argument_at
+  logical_again : (cs : List ℕ) (x : LogicalOr × List ℕ) → (StandsAlone x.0 → ⊥) → read_or signature deeper cs ≡ Ok x → read_argument signature deeper cs ≡ Ok (logical_argument x.0, x.1)
+  unfolding read_argument
   logical_again cs x free e = elim (cases_Bool (begins (λ c. c == 40 || c == 33) cs)) [
     | inl opened ↦ rw (opened, e) refl
     | inr opened ↦
         let others = neither cs opened in
-        let a = bind_ok (and_at signature deeper cs) (λ a. or_from signature deeper a.0 a.1) x e in
-        let b = bind_ok (basic_at signature deeper cs) (λ b. and_from signature deeper b.0 b.1) a.0 a.1 in
-        let read : (operand_at signature deeper cs >>= λ o. basic_from signature deeper (byte_count cs) o.0 o.1) ≡ Ok b.0 = sym (rw (others.0, others.1) refl) ∙ b.1 in
-        let o = bind_ok (operand_at signature deeper cs) (λ o. basic_from signature deeper (byte_count cs) o.0 o.1) b.0 read in
+        let a = bind_ok (read_and signature deeper cs) (λ a. read_or_from signature deeper a.0 a.1) x e in
+        let b = bind_ok (read_basic signature deeper cs) (λ b. read_and_from signature deeper b.0 b.1) a.0 a.1 in
+        let read : (read_operand signature deeper cs >>= λ o. read_basic_from signature deeper (byte_count cs) o.0 o.1) ≡ Ok b.0 = sym (rw (others.0, others.1) refl) ∙ b.1 in
+        let o = bind_ok (read_operand signature deeper cs) (λ o. read_basic_from signature deeper (byte_count cs) o.0 o.1) b.0 read in
         joined_again cs x o.0 b.0 a.0 opened free o.1 o.2 b.2 a.2
   ]
 
   -- ---- each argument
 
-  pub argument_again : (t : List ℕ) (a : Argument) (rest : List ℕ) → IsArgument signature n t a → Follows ends_argument rest → argument_at signature deeper (t ++ rest) ≡ Ok (a, past_blanks rest)
+  pub argument_again : (t : List ℕ) (a : Argument) (rest : List ℕ) → IsArgument signature n t a → Follows ends_argument rest → read_argument signature deeper (t ++ rest) ≡ Ok (a, past_blanks rest)
   argument_again t (literal_argument l) rest h ends = operand_argument t (a_literal l) rest h ends
   argument_again t (query_argument q) rest h ends = operand_argument t (a_query q) rest h ends
   argument_again t (call_argument c) rest h ends = operand_argument t (a_call c) rest h ends
@@ -261,13 +261,13 @@ module _ (signature : List ℕ → Option Signature) (n : ℕ) (deeper : Deeper)
       ((((typed, good.0), omega (arith, good_depth signature n a is.0, good.1)), t ++ c, j, (t, c, is.1, are, refl), blank, split_again t c (j ++ 41 ∷ []) (append_assoc t k u) same), λ e. cc)
 
   -- at `)`
-  ended_outcome : {is : List ℕ → Arguments → Type 0} (start before : List ℕ) (kinds : List Kind) (cs : List ℕ) → start ≡ before ++ cs → (kinds ≡ [] → is before no_arguments)
-      → Outcome (Spaced is) (Inner signature) start (ended (byte_count start) kinds cs)
-  ended_outcome start before [] cs split good = read_spaced (no_arguments, cs) (record { text = before; is_so = good refl; split = split })
-  ended_outcome start before (kind ∷ kinds) cs split good = refused WrongNumberOfArguments LongHand (inl refl)
+  end_outcome : {is : List ℕ → Arguments → Type 0} (start before : List ℕ) (kinds : List Kind) (cs : List ℕ) → start ≡ before ++ cs → (kinds ≡ [] → is before no_arguments)
+      → Outcome (Spaced is) (Inner signature) start (read_end (byte_count start) kinds cs)
+  end_outcome start before [] cs split good = read_spaced (no_arguments, cs) (record { text = before; is_so = good refl; split = split })
+  end_outcome start before (kind ∷ kinds) cs split good = refused WrongNumberOfArguments LongHand (inl refl)
 
   arguments_outcome : (before start : List ℕ) (kinds : List Kind) (cs : List ℕ) → start ≡ before ++ cs
-      → Outcome (Spaced (Past before (AreSome kinds))) (Inner signature) start (arguments_at signature deeper (byte_count start) kinds cs)
+      → Outcome (Spaced (Past before (AreSome kinds))) (Inner signature) start (read_some_arguments signature deeper (byte_count start) kinds cs)
   arguments_outcome before start [] cs split =
       onward (moved before split (argument_outcome signature n deeper laws cs)) (λ a f s. choose (λ _. refused WrongNumberOfArguments LongHand (inl refl)) (λ _.
       past_text (before ++ s.text) (split_again before s.text a.1 split s.split) (refused ExpectedClosingParenthesis LongHand (inl refl))))
@@ -281,28 +281,28 @@ module _ (signature : List ℕ → Option Signature) (n : ℕ) (deeper : Deeper)
       let is = argument_is signature n deeper laws cs a s f ends in
       choose (λ fit.
       remade {is = Past here (AreMore k kinds)} (λ more. argument a.0 more)
-      (λ u more h. ((t ++ k) ++ h.0, with_first a.0 kind kinds t k h.0 more is (fits_typed signature n a.0 kind is.0 fit) h.1, h.2 ∙ append_assoc before (t ++ k) h.0))
+      (λ u more h. ((t ++ k) ++ h.0, with_first a.0 kind kinds t k h.0 more is (suits_typed signature n a.0 kind is.0 fit) h.1, h.2 ∙ append_assoc before (t ++ k) h.0))
       (choose (λ comma.
       let i = blanks_of (drop 1 a.1) in
       weaker_spaced (λ u args h. (44 ∷ (i ++ h.0), after_comma k i kinds h.0 args s.is_so.3 (front_each is_blank (drop 1 a.1)) h.1, h.2 ∙ append_assoc here (44 ∷ i) h.0))
       (arguments_outcome (here ++ (44 ∷ i)) start kinds (past_blanks (drop 1 a.1)) (split_again here (44 ∷ i) (past_blanks (drop 1 a.1)) whole (after_sign 44 a.1 comma))))
       (λ no_comma.
-      ended_outcome start (here ++ 41 ∷ []) kinds (drop 1 a.1) (split_again here (41 ∷ []) (drop 1 a.1) whole (after_one 41 a.1 (begins_other 44 41 a.1 ends no_comma))) (λ none. (41 ∷ [], ((none, omega arith), [], k, refl, s.is_so.3, refl), refl)))))
+      end_outcome start (here ++ 41 ∷ []) kinds (drop 1 a.1) (split_again here (41 ∷ []) (drop 1 a.1) whole (after_one 41 a.1 (begins_other 44 41 a.1 ends no_comma))) (λ none. (41 ∷ [], ((none, omega arith), [], k, refl, s.is_so.3, refl), refl)))))
       (λ _. past_text before split (refused WrongArgumentType LongHand (inl refl))))
       (λ _. past_text here whole (refused ExpectedClosingParenthesis LongHand (inl refl))))
 
   -- ---- calls: what a reading gives
 
   -- after `(` and blanks
-  parameters_outcome : (before start : List ℕ) (kinds : List Kind) (cs : List ℕ) → start ≡ before ++ cs → Outcome (Spaced (Past before (AreClosed kinds))) (Inner signature) start (parameters_at signature deeper (byte_count start) kinds cs)
+  parameters_outcome : (before start : List ℕ) (kinds : List Kind) (cs : List ℕ) → start ≡ before ++ cs → Outcome (Spaced (Past before (AreClosed kinds))) (Inner signature) start (read_arguments signature deeper (byte_count start) kinds cs)
   parameters_outcome before start kinds cs split =
       choose (λ e.
-      ended_outcome start (before ++ 41 ∷ []) kinds (drop 1 cs) (split_again before (41 ∷ []) (drop 1 cs) split (after_one 41 cs e)) (λ none. (41 ∷ [], ((none, omega arith), [], [], refl, tt, refl), refl))) (λ _.
+      end_outcome start (before ++ 41 ∷ []) kinds (drop 1 cs) (split_again before (41 ∷ []) (drop 1 cs) split (after_one 41 cs e)) (λ none. (41 ∷ [], ((none, omega arith), [], [], refl, tt, refl), refl))) (λ _.
       weaker_spaced (λ u args h. (h.0, h.1.0, h.2)) (arguments_outcome before start kinds cs split))
 
   -- a call of this name, which begins at start
   pub call_outcome : (start f cs : List ℕ) (sig : Option Signature) → IsFunctionName f f → start ≡ f ++ (40 ∷ cs) → signature f ≡ sig
-      → Outcome (Spaced (λ t c. (IsTypedCall signature c × (call_depth c ≤ n + 1)) × ReadsCall c t)) (Inner signature) start (call_at signature deeper (byte_count start) f sig cs)
+      → Outcome (Spaced (λ t c. (IsTypedCall signature c × (call_depth c ≤ n + 1)) × ReadsCall c t)) (Inner signature) start (read_call signature deeper (byte_count start) f sig cs)
   call_outcome start f cs None named split undeclared = refused UndefinedFunction LongHand (inr (refl, (f, cs, named, split, undeclared)))
   call_outcome start f cs (Some s) named split declared =
       let j = blanks_of cs in
@@ -327,23 +327,23 @@ module _ (signature : List ℕ → Option Signature) (n : ℕ) (deeper : Deeper)
         ap (begins ends_argument) (at_sign (codes ",") t s j i b c closing (λ cs. refl) blanks sign e)
 
     arguments_again : (start : List ℕ) (kinds : List Kind) (a : Argument) (more : Arguments) (t others : List ℕ) → AreTypedArguments signature (argument a more) kinds → arguments_depth (argument a more) ≤ n
-        → ReadsArgument a t → ReadMoreArguments more others → arguments_at signature deeper (byte_count start) kinds (t ++ (others ++ closing)) ≡ Ok (argument a more, past_blanks rest)
+        → ReadsArgument a t → ReadMoreArguments more others → read_some_arguments signature deeper (byte_count start) kinds (t ++ (others ++ closing)) ≡ Ok (argument a more, past_blanks rest)
     arguments_again start [] a more t others typed shallow is are = absurd typed
     arguments_again start (kind ∷ kinds) a no_arguments t others typed shallow is are =
-        let read : argument_at signature deeper (t ++ (others ++ closing)) ≡ Ok (a, 41 ∷ rest) =
+        let read : read_argument signature deeper (t ++ (others ++ closing)) ≡ Ok (a, 41 ∷ rest) =
         argument_again signature n deeper laws t a (others ++ closing) (typed_good signature n a kind typed.0 (omega (arith, shallow)), is) (follows no_arguments others are)
         ∙ ap (λ (l : List ℕ). Ok (a, l)) (ap (λ (l : List ℕ). past_blanks (l ++ closing)) are ∙ at_closing) in
-        rw (read, typed_fits signature a kind typed.0, typed.1) refl
+        rw (read, typed_suits signature a kind typed.0, typed.1) refl
     arguments_again start (kind ∷ kinds) a (argument b more) t others typed shallow is (s, c, d, (j, i, blanks, after, sign), next, are, e) =
-        let read : argument_at signature deeper (t ++ (others ++ closing)) ≡ Ok (a, 44 ∷ (i ++ (c ++ (d ++ closing)))) =
+        let read : read_argument signature deeper (t ++ (others ++ closing)) ≡ Ok (a, 44 ∷ (i ++ (c ++ (d ++ closing)))) =
         argument_again signature n deeper laws t a (others ++ closing) (typed_good signature n a kind typed.0 (omega (arith, shallow)), is) (follows (argument b more) others (s, c, d, (j, i, blanks, after, sign), next, are, e))
         ∙ ap (λ (l : List ℕ). Ok (a, l)) (at_sign (codes ",") others s j i c d closing (λ cs. refl) blanks sign e) in
         let onward : past_blanks (i ++ (c ++ (d ++ closing))) ≡ c ++ (d ++ closing) = past_run is_blank i (c ++ (d ++ closing)) after (no_blank_begins (c ++ (d ++ closing)) (argument_begins signature n deeper laws c b (d ++ closing) next)) in
-        rw (read, typed_fits signature a kind typed.0, onward, arguments_again start kinds b more c d typed.1 (omega (arith, shallow)) next are) refl
+        rw (read, typed_suits signature a kind typed.0, onward, arguments_again start kinds b more c d typed.1 (omega (arith, shallow)) next are) refl
 
     -- after `(` and blanks
     parameters_again : (start : List ℕ) (kinds : List Kind) (args : Arguments) (t : List ℕ) → AreTypedArguments signature args kinds → arguments_depth args ≤ n → ReadArguments args t
-        → parameters_at signature deeper (byte_count start) kinds (past_blanks (t ++ closing)) ≡ Ok (args, past_blanks rest)
+        → read_arguments signature deeper (byte_count start) kinds (past_blanks (t ++ closing)) ≡ Ok (args, past_blanks rest)
     parameters_again start kinds no_arguments t typed shallow is =
         let here : past_blanks (t ++ closing) ≡ 41 ∷ rest = ap (λ (l : List ℕ). past_blanks (l ++ closing)) is ∙ at_closing in
         rw (here, typed) refl
@@ -358,7 +358,7 @@ module _ (signature : List ℕ → Option Signature) (n : ℕ) (deeper : Deeper)
 
   -- after `(` of a call of this name
   pub call_again : (start f : List ℕ) (args : Arguments) (j a k rest : List ℕ) → (IsTypedCall signature (call f args) × (call_depth (call f args) ≤ n + 1)) → IsBlank j → ReadArguments args a → IsBlank k
-      → call_at signature deeper (byte_count start) f (signature f) ((j ++ (a ++ (k ++ 41 ∷ []))) ++ rest) ≡ Ok (call f args, past_blanks rest)
+      → read_call signature deeper (byte_count start) f (signature f) ((j ++ (a ++ (k ++ 41 ∷ []))) ++ rest) ≡ Ok (call f args, past_blanks rest)
   call_again start f args j a k rest good before is after =
       let here : past_blanks ((j ++ (a ++ (k ++ 41 ∷ []))) ++ rest) ≡ past_blanks (a ++ (k ++ (41 ∷ rest))) = ap past_blanks (spread j a k (codes ")") rest) ∙ past_through is_blank j (a ++ (k ++ (41 ∷ rest))) before in
       rw (good.0.1, here, parameters_again k rest after start good.0.0.params args a good.0.2 (omega (arith, good.1)) is) refl

@@ -1,5 +1,5 @@
 -- Operands, comparisons and tests, by what holds one level deeper.
-use Rattle.serde_json_path_parser.proofs.Words.{◌==◌, codes, bytes_eq, ℤ, and_parts, ReadSegments, is_digit, is_exponent, nat_le, ◌&&◌, bytes_eq-Decides, QueryKind, root, current, query, Call, Literal, text, number, truth, null, Segments, call, Signature, ExpectedExpression, is_at, begins, is_small_letter, is_function_char, IsFunctionName, IsQuote, AllPass, is_blank, is_name_char, IsNumber, opens, IsLiteral, Reads, ReadsCall, query_sign, Parsed, past_blanks, byte_count, string_at, segment_list, begins_int, Operand, a_literal, a_call, Deeper, word, past_word, begins_call, literal_word_at, query_at, named_call_at, text_at, operand_at, ◌>>=◌, Basic, relation, exist, test, Comparable, literal, singular, called, Operator, equal, less, greater, result_kind, IsTestKind, Kind, of_value, of_nodes, of_logical, NonSingularQuery, WrongReturnType, ExpectedComparisonOperator, IsBlank, operator_sign, is_result, operator_at, comparable_at, test_at, right_side_at, relation_at, basic_from, ℕ, ◌<◌, ◌≡◌, inl, inr, true, false, List, [], ◌∷◌, ◌++◌, drop, Option, Ok, refl, sym, ap, ◌∙◌, append_assoc, Bool, arith, cond, Some, None, subst, LongHand, a_query, named_at, or_parts, begins_operator, query_singular}
+use Rattle.serde_json_path_parser.proofs.Words.{◌==◌, codes, bytes_eq, ℤ, and_parts, ReadSegments, is_digit, is_exponent, nat_le, ◌&&◌, bytes_eq-Decides, QueryKind, root, current, query, Call, Literal, text, number, truth, null, Segments, call, Signature, ExpectedExpression, is_at, begins, is_small_letter, is_function_char, IsFunctionName, IsQuote, AllPass, is_blank, is_name_char, IsNumber, opens, IsLiteral, Reads, ReadsCall, query_sign, Parsed, past_blanks, byte_count, read_string, segment_list, begins_int, Operand, a_literal, a_call, Deeper, word, past_word, begins_call, read_literal_word, read_query, read_named_call, read_text, read_operand, ◌>>=◌, Basic, relation, exist, test, Comparable, literal, singular, called, Operator, equal, less, greater, result_kind, IsTestKind, Kind, of_value, of_nodes, of_logical, NonSingularQuery, WrongReturnType, ExpectedComparisonOperator, IsBlank, operator_sign, is_result, read_operator, read_comparable, read_test, read_right_side, read_relation, read_basic_from, ℕ, ◌<◌, ◌≡◌, inl, inr, true, false, List, [], ◌∷◌, ◌++◌, drop, Option, Ok, refl, sym, ap, ◌∙◌, append_assoc, Bool, arith, cond, Some, None, subst, LongHand, a_query, read_named, or_parts, begins_operator, query_singular}
 use Rattle.serde_json_path_parser.proofs.Grammar.LogicalForms.{IsGoodQuery, IsGoodCall, DeeperLaws, ends_operand, IsCallText, IsOperandText, singular_query, ends_basic, IsBasicText, IsComparableText, begins_operand, operand_begins, as_expression, no_blank_begins}
 use Rattle.serde_json_path_parser.proofs.Grammar.Numbers.{number_outcome, goes_on, number_first, number_again}
 use Rattle.serde_json_path_parser.proofs.Reading.{whole, front_each, front_begins, some_begun, begins_front, begins_where, differs, begins_differs, front_all, past_run, no_blank, blanks_of, begins_not, Spaced, after_one, Read, after_two, made_spaced, read_spaced, guarded, along, choose, inner, past_spaced, remade, Outcome, past_text, read_as, refused, onward, gives, Inner}
@@ -16,36 +16,36 @@ word_is_name cs e = record { first = front_begins is_function_char is_small_lett
 module _ (signature : List ℕ → Option Signature) (n : ℕ) (deeper : Deeper) (laws : DeeperLaws signature n deeper) where
   -- ---- what a reading gives
 
-  abbrev Gives : List ℕ → Parsed Operand → Type 0
-  Gives cs answer = Outcome (Spaced (IsOperandText signature n)) (Inner signature) cs answer
+  abbrev OperandOutcome : List ℕ → Parsed Operand → Type 0
+  OperandOutcome cs answer = Outcome (Spaced (IsOperandText signature n)) (Inner signature) cs answer
 
   -- a literal word and the blanks after it
-  word_outcome : (cs bytes : List ℕ) (l : Literal) → ((t : List ℕ) → t ≡ bytes → IsLiteral l t) → bytes_eq (word cs) bytes ≡ true → Gives cs (Ok (a_literal l, past_blanks (past_word cs)))
+  word_outcome : (cs bytes : List ℕ) (l : Literal) → ((t : List ℕ) → t ≡ bytes → IsLiteral l t) → bytes_eq (word cs) bytes ≡ true → OperandOutcome cs (Ok (a_literal l, past_blanks (past_word cs)))
   word_outcome cs bytes l is e = read_spaced (a_literal l, past_word cs) (record { text = word cs; is_so = (tt, is (word cs) ((bytes_eq-Decides (word cs) bytes).0 e)); split = whole is_function_char cs })
 
-  literal_word_outcome : (cs : List ℕ) → Gives cs (literal_word_at cs)
+  literal_word_outcome : (cs : List ℕ) → OperandOutcome cs (read_literal_word cs)
   literal_word_outcome cs =
       choose (word_outcome cs (codes "true") (truth true) (λ t same. same)) (λ _.
       choose (word_outcome cs (codes "false") (truth false) (λ t same. same)) (λ _.
       guarded ExpectedExpression LongHand (inl refl) (word_outcome cs (codes "null") null (λ t same. same))))
 
-  quoted_outcome : (quote : ℕ) (cs : List ℕ) → IsQuote quote → begins (λ c. c == quote) cs ≡ true → Gives cs (text_at quote cs)
-  unfolding text_at
+  quoted_outcome : (quote : ℕ) (cs : List ℕ) → IsQuote quote → begins (λ c. c == quote) cs ≡ true → OperandOutcome cs (read_text quote cs)
+  unfolding read_text
   quoted_outcome quote cs is e = inner (along (after_one quote cs e) (made_spaced (λ bytes. a_literal (text bytes)) (λ t bytes h. (tt, h)) (string_outcome quote is (drop 1 cs))))
 
   pub query_outcome : (kind : QueryKind) (sign : ℕ) (cs : List ℕ) → query_sign kind ≡ sign ∷ [] → begins (λ c. c == sign) cs ≡ true
-      → Outcome (Spaced (λ t q. IsGoodQuery signature n q × Reads q t)) (Inner signature) cs (query_at signature deeper kind cs)
+      → Outcome (Spaced (λ t q. IsGoodQuery signature n q × Reads q t)) (Inner signature) cs (read_query signature deeper kind cs)
   query_outcome kind sign cs is e =
       past_spaced (sign ∷ []) (after_one sign cs e)
       (made_spaced (λ ss. query kind (segment_list ss)) (λ t ss h. (h.0, (t, h.1, ap (λ (l : List ℕ). l ++ t) (sym is)))) (segments_outcome signature n deeper laws LongHand (drop 1 cs)))
 
-  pub named_call_outcome : (cs : List ℕ) → begins_call cs ≡ true → Outcome (Spaced (IsCallText signature n)) (Inner signature) cs (named_call_at signature deeper cs)
-  unfolding named_call_at
+  pub named_call_outcome : (cs : List ℕ) → begins_call cs ≡ true → Outcome (Spaced (IsCallText signature n)) (Inner signature) cs (read_named_call signature deeper cs)
+  unfolding read_named_call
   named_call_outcome cs begun =
       let parts = and_parts (begins is_small_letter cs) (is_at "(" (past_word cs)) begun in
       laws.call_outcome cs (word cs) (drop 1 (past_word cs)) (word_is_name cs parts.0) (whole is_function_char cs ∙ ap (λ (l : List ℕ). word cs ++ l) (after_one 40 (past_word cs) parts.1))
 
-  pub operand_outcome : (cs : List ℕ) → Gives cs (operand_at signature deeper cs)
+  pub operand_outcome : (cs : List ℕ) → OperandOutcome cs (read_operand signature deeper cs)
   operand_outcome cs =
       choose (quoted_outcome 39 cs (inl refl)) (λ _.
       choose (quoted_outcome 34 cs (inr refl)) (λ _.
@@ -86,42 +86,42 @@ module _ (signature : List ℕ → Option Signature) (n : ℕ) (deeper : Deeper)
   -- ---- queries and calls
 
   pub query_again : (kind : QueryKind) (sign : ℕ) (a : List ℕ) (segs : Segments) (rest : List ℕ) → IsGoodQuery signature n (query kind segs) → ReadSegments segs a → Follows ends_operand rest
-      → query_at signature deeper kind (sign ∷ (a ++ rest)) ≡ Ok (query kind segs, past_blanks rest)
+      → read_query signature deeper kind (sign ∷ (a ++ rest)) ≡ Ok (query kind segs, past_blanks rest)
   query_again kind sign a segs rest good reads follows =
       let closed = begins_where ends_operand opens false (past_blanks rest) (λ c e. grind (arith, e)) follows in
       let read = segments_again signature n deeper laws LongHand a segs rest (good, reads) (none_after is_name_char rest blank_no_name ends_no_name follows) closed in
       rw (read, same_segments segs) refl
 
-  pub named_call_again : (t : List ℕ) (c : Call) (rest : List ℕ) → IsGoodCall signature n c → ReadsCall c t → (begins_call (t ++ rest) ≡ true) × (named_call_at signature deeper (t ++ rest) ≡ Ok (c, past_blanks rest))
-  unfolding named_call_at
+  pub named_call_again : (t : List ℕ) (c : Call) (rest : List ℕ) → IsGoodCall signature n c → ReadsCall c t → (begins_call (t ++ rest) ≡ true) × (read_named_call signature deeper (t ++ rest) ≡ Ok (c, past_blanks rest))
+  unfolding read_named_call
   named_call_again t (call f args) rest good (m, j, a, k, name, before, are, closing, e) =
       let inside = 40 ∷ ((j ++ (a ++ (k ++ 41 ∷ []))) ++ rest) in
       let first : begins is_small_letter (m ++ inside) ≡ true = begins_front is_small_letter true m inside (some_begun is_small_letter m name.first) name.first in
       let after_it : past_word (m ++ inside) ≡ inside = past_run is_function_char m inside name.each refl in
       let its_word : word (m ++ inside) ≡ f = front_all is_function_char m inside name.each refl ∙ sym name.bytes_of in
       let read = laws.call_again (m ++ inside) f args j a k rest good before are closing in
-      rw (e, append_assoc m (40 ∷ (j ++ (a ++ (k ++ 41 ∷ [])))) rest) (rw (first, after_it) refl, rw (named_call_at, its_word, after_it) read)
+      rw (e, append_assoc m (40 ∷ (j ++ (a ++ (k ++ 41 ∷ [])))) rest) (rw (first, after_it) refl, rw (read_named_call, its_word, after_it) read)
 
   -- ---- literals
 
   abbrev read : List ℕ → Parsed Operand
-  read cs = operand_at signature deeper cs
+  read cs = read_operand signature deeper cs
 
   -- at a letter stands a call or a literal word
-  at_letter : (cs : List ℕ) → begins is_small_letter cs ≡ true → read cs ≡ named_at signature deeper cs
+  at_letter : (cs : List ℕ) → begins is_small_letter cs ≡ true → read cs ≡ read_named signature deeper cs
   at_letter cs letter =
       let other : (k : ℕ) → is_small_letter k ≡ false → begins (λ c. c == k) cs ≡ false = λ k none. begins_differs is_small_letter k cs none letter in
       rw (other 39 refl, other 34 refl, other 64 refl, other 36 refl, letter) refl
 
   word_again : (w rest : List ℕ) (l : Literal) → AllPass is_function_char w → begins is_small_letter (w ++ rest) ≡ true
-      → ((cs : List ℕ) → word cs ≡ w → literal_word_at cs ≡ Ok (a_literal l, past_blanks (past_word cs))) → Follows ends_operand rest → read (w ++ rest) ≡ Ok (a_literal l, past_blanks rest)
+      → ((cs : List ℕ) → word cs ≡ w → read_literal_word cs ≡ Ok (a_literal l, past_blanks (past_word cs))) → Follows ends_operand rest → read (w ++ rest) ≡ Ok (a_literal l, past_blanks rest)
   word_again w rest l each letter at follows =
       let h = word_alone w rest each follows in
       at_letter (w ++ rest) letter ∙ rw (letter, h.2) (at (w ++ rest) h.0) ∙ ap (λ (after : List ℕ). Ok (a_literal l, past_blanks after)) h.1
 
-  quoted_again : (quote : ℕ) (cs bytes rest : List ℕ) → IsQuote quote → string_at quote cs ≡ Ok (bytes, rest) → read (quote ∷ cs) ≡ Ok (a_literal (text bytes), past_blanks rest)
-  unfolding text_at
-  quoted_again quote cs bytes rest is e = of_quote (λ q. string_at q cs ≡ Ok (bytes, rest) → read (q ∷ cs) ≡ Ok (a_literal (text bytes), past_blanks rest)) (λ e. rw e refl) (λ e. rw e refl) quote is e
+  quoted_again : (quote : ℕ) (cs bytes rest : List ℕ) → IsQuote quote → read_string quote cs ≡ Ok (bytes, rest) → read (quote ∷ cs) ≡ Ok (a_literal (text bytes), past_blanks rest)
+  unfolding read_text
+  quoted_again quote cs bytes rest is e = of_quote (λ q. read_string q cs ≡ Ok (bytes, rest) → read (q ∷ cs) ≡ Ok (a_literal (text bytes), past_blanks rest)) (λ e. rw e refl) (λ e. rw e refl) quote is e
 
   number_read : (t : List ℕ) (amount : ℤ) (rest : List ℕ) → IsNumber t amount → Follows ends_operand rest → read (t ++ rest) ≡ Ok (a_literal (number amount), past_blanks rest)
   number_read t amount rest is follows =
@@ -131,7 +131,7 @@ module _ (signature : List ℕ → Option Signature) (n : ℕ) (deeper : Deeper)
 
   -- ---- operands
 
-  pub operand_again : (t : List ℕ) (o : Operand) (rest : List ℕ) → IsOperandText signature n t o → Follows ends_operand rest → operand_at signature deeper (t ++ rest) ≡ Ok (o, past_blanks rest)
+  pub operand_again : (t : List ℕ) (o : Operand) (rest : List ℕ) → IsOperandText signature n t o → Follows ends_operand rest → read_operand signature deeper (t ++ rest) ≡ Ok (o, past_blanks rest)
   operand_again t (a_literal (text bytes)) rest h follows =
       let s = string_again t bytes rest h.1 in
       ap (λ (l : List ℕ). read (l ++ rest)) s.3 ∙ quoted_again s.0 (s.1 ++ rest) bytes rest s.2 s.4
@@ -156,7 +156,7 @@ either : (cs : List ℕ) {b : Bool} (x y : Option (Operator × List ℕ)) → (b
 either cs {b = true} x y f g = f refl
 either cs {b = false} x y f g = g refl
 
-operator_found : (cs : List ℕ) → Found cs (operator_at cs)
+operator_found : (cs : List ℕ) → Found cs (read_operator cs)
 operator_found cs =
     either cs _ _ (after_two 61 61 cs) (λ _.
     either cs _ _ (after_two 33 61 cs) (λ _.
@@ -167,13 +167,13 @@ no_equals : (k cs : List ℕ) → IsBlank k → begins begins_operand cs ≡ tru
 no_equals k cs blank first =
     begins_not (λ c. c == 61) k cs (λ c e. differs is_blank 61 c refl e) blank (begins_differs begins_operand 61 cs refl first)
 
-operator_again : (op : Operator) (rest : List ℕ) → is_at "=" rest ≡ false → operator_at (operator_sign op ++ rest) ≡ Some (op, rest)
+operator_again : (op : Operator) (rest : List ℕ) → is_at "=" rest ≡ false → read_operator (operator_sign op ++ rest) ≡ Some (op, rest)
 operator_again less rest none = rw none refl
 operator_again greater rest none = rw none refl
 operator_again _ rest none = refl
 
 -- no operator is there where none may begin
-pub no_operator : (cs : List ℕ) → begins begins_operator cs ≡ false → operator_at cs ≡ None
+pub no_operator : (cs : List ℕ) → begins begins_operator cs ≡ false → read_operator cs ≡ None
 no_operator [] e = refl
 no_operator (c ∷ cs) e =
     let equal = or_parts (c == 61) _ e in
@@ -224,26 +224,26 @@ module _ (signature : List ℕ → Option Signature) (n : ℕ) (deeper : Deeper)
 
   -- an operand of this text, which stands before
   comparable_outcome : (is : List ℕ → Comparable → Type 0) (start before t : List ℕ) (o : Operand) (cs : List ℕ) → IsOperandText signature n t o → start ≡ before ++ cs → ((a : Comparable) → IsComparableText signature n t a → is before a)
-      → Outcome is (Inner signature) start (comparable_at signature deeper (byte_count start) o cs)
+      → Outcome is (Inner signature) start (read_comparable signature deeper (byte_count start) o cs)
   comparable_outcome is start before t (a_literal l) cs h split good = gives (literal l, cs) (record { text = before; is_so = good (literal l) ((tt, omega arith), h.1); split = split })
   comparable_outcome is start before t (a_query q) cs h split good = guarded NonSingularQuery LongHand (inl refl) (λ e.
       gives (singular q, cs) (record { text = before; is_so = good (singular q) (h.0, (singular_query q e, h.1)); split = split }))
   comparable_outcome is start before t (a_call c) cs h split good = guarded WrongReturnType LongHand (inl refl) (λ e.
       gives (called c, cs) (record { text = before; is_so = good (called c) (((h.0.0, value_result (result_kind signature c) e), h.0.1), h.1); split = split }))
 
-  test_outcome : (start : List ℕ) (o : Operand × List ℕ) → Read (Spaced (IsOperandText signature n)) start o → Outcome (Spaced (IsBasicText signature n)) (Inner signature) start (test_at signature deeper (byte_count start) o.0 o.1)
+  test_outcome : (start : List ℕ) (o : Operand × List ℕ) → Read (Spaced (IsOperandText signature n)) start o → Outcome (Spaced (IsBasicText signature n)) (Inner signature) start (read_test signature deeper (byte_count start) o.0 o.1)
   test_outcome start (a_literal l, cs) s = past_text s.text s.split (refused ExpectedComparisonOperator LongHand (inl refl))
   test_outcome start (a_query q, cs) s = read_as (exist q) s (λ t h. h)
   test_outcome start (a_call c, cs) s = choose (λ e. refused WrongReturnType LongHand (inl refl)) (λ e. read_as (test c) s (λ t h. (((h.0.0, may_test signature n c h.0 e), h.0.1), h.1)))
 
-  right_side_outcome : (cs : List ℕ) → Outcome (Spaced (IsComparableText signature n)) (Inner signature) cs (right_side_at signature deeper cs)
+  right_side_outcome : (cs : List ℕ) → Outcome (Spaced (IsComparableText signature n)) (Inner signature) cs (read_right_side signature deeper cs)
   right_side_outcome cs = onward (operand_outcome signature n deeper laws cs) (λ o e s.
       comparable_outcome (Spaced (IsComparableText signature n)) cs s.text s.is_so.0 o.0 o.1 s.is_so.2 s.split (λ a h. (s.is_so.0, s.is_so.1, h, s.is_so.3, s.is_so.4)))
 
-  pub basic_from_outcome : (start : List ℕ) (o : Operand × List ℕ) → Read (Spaced (IsOperandText signature n)) start o → Outcome (Spaced (IsBasicText signature n)) (Inner signature) start (basic_from signature deeper (byte_count start) o.0 o.1)
-  basic_from_outcome start o s = by_operator (operator_at o.1) (operator_found o.1)
+  pub basic_from_outcome : (start : List ℕ) (o : Operand × List ℕ) → Read (Spaced (IsOperandText signature n)) start o → Outcome (Spaced (IsBasicText signature n)) (Inner signature) start (read_basic_from signature deeper (byte_count start) o.0 o.1)
+  basic_from_outcome start o s = by_operator (read_operator o.1) (operator_found o.1)
     where
-      by_operator : (op : Option (Operator × List ℕ)) → Found o.1 op → Outcome (Spaced (IsBasicText signature n)) (Inner signature) start (relation_at signature deeper (byte_count start) o.0 op o.1)
+      by_operator : (op : Option (Operator × List ℕ)) → Found o.1 op → Outcome (Spaced (IsBasicText signature n)) (Inner signature) start (read_relation signature deeper (byte_count start) o.0 op o.1)
       by_operator None found = test_outcome start o s
       by_operator (Some op) found =
           let t = s.is_so.0 in
@@ -269,14 +269,14 @@ module _ (signature : List ℕ → Option Signature) (n : ℕ) (deeper : Deeper)
   as_operand (singular q) t h = (h.0, h.1.1)
   as_operand (called c) t h = ((h.0.0.0, h.0.1), h.1)
 
-  comparable_again : (start : List ℕ) (a : Comparable) (t cs : List ℕ) → IsComparableText signature n t a → comparable_at signature deeper (byte_count start) (operand_of a) cs ≡ Ok (a, cs)
+  comparable_again : (start : List ℕ) (a : Comparable) (t cs : List ℕ) → IsComparableText signature n t a → read_comparable signature deeper (byte_count start) (operand_of a) cs ≡ Ok (a, cs)
   comparable_again start (literal l) t cs h = refl
   comparable_again start (singular q) t cs h = rw (query_singular q h.1.0) refl
   comparable_again start (called c) t cs h = rw h.0.0.1 refl
 
   -- an operand, and what it is made after it
   abbrev pub compared : List ℕ → Parsed Basic
-  compared cs = operand_at signature deeper cs >>= λ o. basic_from signature deeper (byte_count cs) o.0 o.1
+  compared cs = read_operand signature deeper cs >>= λ o. read_basic_from signature deeper (byte_count cs) o.0 o.1
 
   pub relation_again : (t : List ℕ) (left : Comparable) (op : Operator) (right : Comparable) (rest : List ℕ) → IsBasicText signature n t (relation left op right) → Follows ends_basic rest
       → compared (t ++ rest) ≡ Ok (relation left op right, past_blanks rest)
@@ -290,7 +290,7 @@ module _ (signature : List ℕ → Option Signature) (n : ℕ) (deeper : Deeper)
       let first = operand_begins (operand_of right) b rest o.1 in
       let sign_ends = operator_ends op (k ++ (b ++ rest)) in
       let past : past_blanks (j ++ here) ≡ here = past_run is_blank j here before (begins_where ends_operand is_blank false here (λ c e. no_blank ends_operand c refl refl refl refl e) sign_ends) in
-      let left_read : operand_at signature deeper start ≡ Ok (operand_of left, here) =
+      let left_read : read_operand signature deeper start ≡ Ok (operand_of left, here) =
       operand_again signature n deeper laws a (operand_of left) (j ++ here) (as_operand left a left_good) (ap (begins ends_operand) past ∙ sign_ends)
       ∙ ap (λ (l : List ℕ). Ok (operand_of left, l)) past in
       let right_read = operand_again signature n deeper laws b (operand_of right) rest o (basic_ends_operand rest follows) in
@@ -301,7 +301,7 @@ module _ (signature : List ℕ → Option Signature) (n : ℕ) (deeper : Deeper)
       regrouped : (a j o k b d : List ℕ) → (a ++ ((j ++ (o ++ k)) ++ b)) ++ d ≡ a ++ (j ++ (o ++ (k ++ (b ++ d))))
       regrouped a j o k b d = simp append_assoc refl
 
-  pub tested : (t : List ℕ) (o : Operand) (rest : List ℕ) → IsOperandText signature n t o → Follows ends_basic rest → compared (t ++ rest) ≡ test_at signature deeper (byte_count (t ++ rest)) o (past_blanks rest)
+  pub tested : (t : List ℕ) (o : Operand) (rest : List ℕ) → IsOperandText signature n t o → Follows ends_basic rest → compared (t ++ rest) ≡ read_test signature deeper (byte_count (t ++ rest)) o (past_blanks rest)
   tested t o rest h follows =
       rw (operand_again signature n deeper laws t o rest h (basic_ends_operand rest follows))
-      (ap (λ op. relation_at signature deeper (byte_count (t ++ rest)) o op (past_blanks rest)) (no_operator (past_blanks rest) (begins_where ends_basic begins_operator false (past_blanks rest) (λ c e. grind (arith, e)) follows)))
+      (ap (λ op. read_relation signature deeper (byte_count (t ++ rest)) o op (past_blanks rest)) (no_operator (past_blanks rest) (begins_where ends_basic begins_operator false (past_blanks rest) (λ c e. grind (arith, e)) follows)))

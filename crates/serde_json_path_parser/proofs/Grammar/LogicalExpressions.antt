@@ -1,16 +1,16 @@
 -- Logical expressions: what is read is a good one, or where the refusal stands; and each good one is read.
-use Rattle.serde_json_path_parser.proofs.Words.{◌==◌, codes, and_parts, root, current, LogicalOr, LogicalAnd, Basic, paren, not_paren, relation, exist, not_exist, test, not_test, query, no_or, or, no_and, and, result_kind, IsTypedOr, IsTypedAnd, or_depth, and_depth, Signature, WrongReturnType, ExpectedClosingParenthesis, ExpectedExpression, is_at, are_at, begins, IsBlank, is_small_letter, InParentheses, ReadsOr, ReadMoreOrs, ReadMoreAnds, past_blanks, a_call, begins_call, and_list, or_list, Deeper, paren_at, negated_call_at, negated_at, basic_at, next_basic_at, and_from, and_at, next_and_at, or_from, or_at, past_word, ◌≡◌, ℕ, ◌≤◌, inl, true, false, List, [], ◌∷◌, ◌++◌, drop, Option, Ok, refl, ap, ◌∙◌, append_assoc, arith, LongHand, a_query, is_blank}
-use Rattle.serde_json_path_parser.proofs.Reading.{blanks_of, spread, begins_differs, Read, Spaced, after_one, Inner, guarded, onward, remade, refused, choose, Outcome, after_sign, past_spaced, read_spaced, read_as, Takes, past_run, front_each}
+use Rattle.serde_json_path_parser.proofs.Words.{◌==◌, codes, and_parts, root, current, LogicalOr, LogicalAnd, Basic, paren, not_paren, relation, exist, not_exist, test, not_test, query, no_or, or, no_and, and, result_kind, IsTypedOr, IsTypedAnd, or_depth, and_depth, Signature, WrongReturnType, ExpectedClosingParenthesis, ExpectedExpression, is_at, are_at, begins, IsBlank, is_small_letter, InParentheses, ReadsOr, ReadMoreOrs, ReadMoreAnds, past_blanks, a_call, begins_call, and_list, or_list, Deeper, read_paren, read_negated_call, read_negated, read_basic, read_next_basic, read_and_from, read_and, read_next_and, read_or_from, read_or, past_word, ◌≡◌, ℕ, ◌≤◌, inl, true, false, List, [], ◌∷◌, ◌++◌, drop, Option, Ok, refl, ap, ◌∙◌, append_assoc, arith, LongHand, a_query, is_blank}
+use Rattle.serde_json_path_parser.proofs.Reading.{blanks_of, spread, begins_differs, Read, Spaced, after_one, Inner, guarded, onward, remade, refused, choose, Outcome, after_sign, past_spaced, read_spaced, read_as, Consumes, past_run, front_each}
 use Rattle.serde_json_path_parser.proofs.Grammar.LogicalForms.{IsGoodInside, DeeperLaws, ends_or, ends_and, ends_basic, IsOrText, IsAndText, IsBasicText, begins_operand, begins_expression, operand_begins, basic_begins, and_begins, or_begins, no_blank_begins, comparable_begins}
 use Rattle.serde_json_path_parser.proofs.Grammar.Comparisons.{query_again, named_call_again, query_outcome, named_call_outcome, operand_outcome, basic_ends_operand, relation_again, test_no_value, may_test, compared, basic_from_outcome, tested}
-use Rattle.serde_json_path_parser.proofs.Rows.{Follows, AreRows, RowLaw, next_takes, row_outcome, row_again}
+use Rattle.serde_json_path_parser.proofs.Rows.{Follows, AreRows, RowLaw, next_consumes, row_outcome, row_again}
 
 module _ (signature : List ℕ → Option Signature) (n : ℕ) (deeper : Deeper) (laws : DeeperLaws signature n deeper) where
   -- ---- parentheses and `!`: what a reading gives
 
   -- at `(`
   paren_outcome : (cs : List ℕ) → is_at "(" cs ≡ true
-      → Outcome (Spaced (λ t e. IsGoodInside signature n e × InParentheses (ReadsOr e) t)) (Inner signature) cs (paren_at signature deeper cs)
+      → Outcome (Spaced (λ t e. IsGoodInside signature n e × InParentheses (ReadsOr e) t)) (Inner signature) cs (read_paren signature deeper cs)
   paren_outcome cs opened =
       let j = blanks_of (drop 1 cs) in
       onward (laws.inside_outcome (40 ∷ j) cs (past_blanks (drop 1 cs)) (after_sign 40 cs opened)) (λ e f s.
@@ -28,11 +28,11 @@ module _ (signature : List ℕ → Option Signature) (n : ℕ) (deeper : Deeper)
     abbrev IsNegated : List ℕ → Basic → Type 0
     IsNegated t b = IsBasicText signature n (33 ∷ (k ++ t)) b
 
-    negated_call_outcome : (cs : List ℕ) → begins_call cs ≡ true → Outcome (Spaced IsNegated) (Inner signature) cs (negated_call_at signature deeper cs)
+    negated_call_outcome : (cs : List ℕ) → begins_call cs ≡ true → Outcome (Spaced IsNegated) (Inner signature) cs (read_negated_call signature deeper cs)
     negated_call_outcome cs begun = onward (named_call_outcome signature n deeper laws cs begun) (λ c f s.
         choose (λ e. refused WrongReturnType LongHand (inl refl)) (λ e. read_as (not_test c.0) s (λ t h. (((h.0.0, may_test signature n c.0 h.0 e), h.0.1), (k, t, blank, h.1, refl)))))
 
-    negated_outcome : (cs : List ℕ) → Outcome (Spaced IsNegated) (Inner signature) cs (negated_at signature deeper cs)
+    negated_outcome : (cs : List ℕ) → Outcome (Spaced IsNegated) (Inner signature) cs (read_negated signature deeper cs)
     negated_outcome cs =
         choose (λ e. remade (λ e. not_paren e) (λ t e h. (h.0, (k, t, blank, h.1, refl))) (paren_outcome cs e)) (λ _.
         choose (λ e. remade (λ q. not_exist q) (λ t q h. (h.0, (k, t, blank, h.1, refl))) (query_outcome signature n deeper laws current 64 cs refl e)) (λ _.
@@ -42,7 +42,7 @@ module _ (signature : List ℕ → Option Signature) (n : ℕ) (deeper : Deeper)
   -- ---- parentheses and `!`: what is good is read
 
   paren_again : (t : List ℕ) (e : LogicalOr) (rest : List ℕ) → IsGoodInside signature n e → InParentheses (ReadsOr e) t
-      → (is_at "(" (t ++ rest) ≡ true) × (paren_at signature deeper (t ++ rest) ≡ Ok (e, past_blanks rest))
+      → (is_at "(" (t ++ rest) ≡ true) × (read_paren signature deeper (t ++ rest) ≡ Ok (e, past_blanks rest))
   paren_again t e rest good (j, a, k, before, is, after, same) =
       let closing : past_blanks (k ++ (41 ∷ rest)) ≡ 41 ∷ rest = past_run is_blank k (41 ∷ rest) after refl in
       let inside : past_blanks (drop 1 (t ++ rest)) ≡ a ++ (k ++ (41 ∷ rest)) =
@@ -52,22 +52,22 @@ module _ (signature : List ℕ → Option Signature) (n : ℕ) (deeper : Deeper)
 
   -- `!`, blanks and what it negates
   negated_again : (t k a rest : List ℕ) (b : Basic) → IsBlank k → t ≡ 33 ∷ (k ++ a) → begins begins_expression (a ++ rest) ≡ true
-      → negated_at signature deeper (a ++ rest) ≡ Ok (b, past_blanks rest) → basic_at signature deeper (t ++ rest) ≡ Ok (b, past_blanks rest)
+      → read_negated signature deeper (a ++ rest) ≡ Ok (b, past_blanks rest) → read_basic signature deeper (t ++ rest) ≡ Ok (b, past_blanks rest)
   negated_again t k a rest b blank same first e =
-      ap (λ (l : List ℕ). basic_at signature deeper (l ++ rest)) same ∙ ap (negated_at signature deeper) (ap past_blanks (append_assoc k a rest) ∙ past_run is_blank k (a ++ rest) blank (no_blank_begins (a ++ rest) first)) ∙ e
+      ap (λ (l : List ℕ). read_basic signature deeper (l ++ rest)) same ∙ ap (read_negated signature deeper) (ap past_blanks (append_assoc k a rest) ∙ past_run is_blank k (a ++ rest) blank (no_blank_begins (a ++ rest) first)) ∙ e
 
   -- ---- basic expressions
 
-  basic_outcome : (cs : List ℕ) → Outcome (Spaced (IsBasicText signature n)) (Inner signature) cs (basic_at signature deeper cs)
+  basic_outcome : (cs : List ℕ) → Outcome (Spaced (IsBasicText signature n)) (Inner signature) cs (read_basic signature deeper cs)
   basic_outcome cs =
       choose (λ e. remade (λ e. paren e) (λ t e h. h) (paren_outcome cs e)) (λ _.
       choose (λ e. let k = blanks_of (drop 1 cs) in past_spaced (33 ∷ k) (after_sign 33 cs e) (negated_outcome k (front_each is_blank (drop 1 cs)) (past_blanks (drop 1 cs)))) (λ _.
       onward (operand_outcome signature n deeper laws cs) (λ o e s. basic_from_outcome signature n deeper laws cs o s)))
 
-  of_operand : (cs : List ℕ) → begins begins_operand cs ≡ true → basic_at signature deeper cs ≡ compared signature n deeper laws cs
+  of_operand : (cs : List ℕ) → begins begins_operand cs ≡ true → read_basic signature deeper cs ≡ compared signature n deeper laws cs
   of_operand cs first = rw (begins_differs begins_operand 40 cs refl first, begins_differs begins_operand 33 cs refl first) refl
 
-  basic_again : (t : List ℕ) (b : Basic) (rest : List ℕ) → IsBasicText signature n t b → Follows ends_basic rest → basic_at signature deeper (t ++ rest) ≡ Ok (b, past_blanks rest)
+  basic_again : (t : List ℕ) (b : Basic) (rest : List ℕ) → IsBasicText signature n t b → Follows ends_basic rest → read_basic signature deeper (t ++ rest) ≡ Ok (b, past_blanks rest)
   basic_again t (paren e) rest h follows = let p = paren_again t e rest h.0 h.1 in rw (p.0, p.1) refl
   basic_again t (not_paren e) rest (good, (k, a, blank, is, same)) follows =
       let p = paren_again a e rest good is in
@@ -92,12 +92,12 @@ module _ (signature : List ℕ → Option Signature) (n : ℕ) (deeper : Deeper)
 
   -- ---- what is joined by `&&`
 
-  basic_row : RowLaw signature 38 (38 ∷ []) (IsBasicText signature n) (basic_at signature deeper) ends_and
+  basic_row : RowLaw signature 38 (38 ∷ []) (IsBasicText signature n) (read_basic signature deeper) ends_and
   basic_row =
       record { outcome = basic_outcome; again = basic_again; starts = λ t b rest h. no_blank_begins (t ++ rest) (basic_begins b t rest h.1); sign_no_blank = refl; sign_no_end = refl }
 
-  pub next_basic_takes : Takes (are_at "&&") (next_basic_at signature deeper)
-  next_basic_takes = next_takes basic_row
+  pub next_basic_consumes : Consumes (are_at "&&") (read_next_basic signature deeper)
+  next_basic_consumes = next_consumes basic_row
 
   more_ands : (bs : List Basic) (t : List ℕ) → AreRows (codes "&&") (IsBasicText signature n) t bs → (IsTypedAnd signature (and_list bs) × (and_depth (and_list bs) ≤ n)) × ReadMoreAnds (and_list bs) t
   more_ands [] t h = ((tt, omega arith), h)
@@ -106,10 +106,10 @@ module _ (signature : List ℕ → Option Signature) (n : ℕ) (deeper : Deeper)
       (((is.0.0, more.0.0), omega (arith, is.0.1, more.0.1)), (s, a, c, sign, is.1, more.1, e))
 
   -- after a first part
-  pub and_from_outcome : (start : List ℕ) (b : Basic × List ℕ) → Read (Spaced (IsBasicText signature n)) start b → Outcome (Spaced (IsAndText signature n)) (Inner signature) start (and_from signature deeper b.0 b.1)
+  pub and_from_outcome : (start : List ℕ) (b : Basic × List ℕ) → Read (Spaced (IsBasicText signature n)) start b → Outcome (Spaced (IsAndText signature n)) (Inner signature) start (read_and_from signature deeper b.0 b.1)
   and_from_outcome start b s = row_outcome basic_row and_list (λ b bs t c is rows. let more = more_ands bs c rows in (((is.0.0, more.0.0), omega (arith, is.0.1, more.0.1)), (t, c, is.1, more.1, refl))) start b s
 
-  and_outcome : (cs : List ℕ) → Outcome (Spaced (IsAndText signature n)) (Inner signature) cs (and_at signature deeper cs)
+  and_outcome : (cs : List ℕ) → Outcome (Spaced (IsAndText signature n)) (Inner signature) cs (read_and signature deeper cs)
   and_outcome cs = onward (basic_outcome cs) (λ b e s. and_from_outcome cs b s)
 
   and_rows : (e : LogicalAnd) (t : List ℕ) → IsTypedAnd signature e → and_depth e ≤ n → ReadMoreAnds e t → (bs : List Basic) × (and_list bs ≡ e) × AreRows (codes "&&") (IsBasicText signature n) t bs
@@ -118,7 +118,7 @@ module _ (signature : List ℕ → Option Signature) (n : ℕ) (deeper : Deeper)
       let rest = and_rows more c typed.1 (omega (arith, depth)) others in
       (b ∷ rest.0, ap (and b) rest.1, (s, a, c, sign, ((typed.0, omega (arith, depth)), is), rest.2, e))
 
-  and_again : (t : List ℕ) (e : LogicalAnd) (rest : List ℕ) → IsAndText signature n t e → Follows ends_and rest → and_at signature deeper (t ++ rest) ≡ Ok (e, past_blanks rest)
+  and_again : (t : List ℕ) (e : LogicalAnd) (rest : List ℕ) → IsAndText signature n t e → Follows ends_and rest → read_and signature deeper (t ++ rest) ≡ Ok (e, past_blanks rest)
   and_again t no_and rest h follows = absurd h.1
   and_again t (and b more) rest (good, (a, c, is, others, same)) follows =
       let rows = and_rows more c good.0.1 (omega (arith, good.1)) others in
@@ -126,12 +126,12 @@ module _ (signature : List ℕ → Option Signature) (n : ℕ) (deeper : Deeper)
 
   -- ---- what is joined by `||`
 
-  and_row : RowLaw signature 124 (124 ∷ []) (IsAndText signature n) (and_at signature deeper) ends_or
+  and_row : RowLaw signature 124 (124 ∷ []) (IsAndText signature n) (read_and signature deeper) ends_or
   and_row =
       record { outcome = and_outcome; again = and_again; starts = λ t e rest h. no_blank_begins (t ++ rest) (and_begins e t rest h.1); sign_no_blank = refl; sign_no_end = refl }
 
-  pub next_and_takes : Takes (are_at "||") (next_and_at signature deeper)
-  next_and_takes = next_takes and_row
+  pub next_and_consumes : Consumes (are_at "||") (read_next_and signature deeper)
+  next_and_consumes = next_consumes and_row
 
   more_ors : (xs : List LogicalAnd) (t : List ℕ) → AreRows (codes "||") (IsAndText signature n) t xs → (IsTypedOr signature (or_list xs) × (or_depth (or_list xs) ≤ n)) × ReadMoreOrs (or_list xs) t
   more_ors [] t h = ((tt, omega arith), h)
@@ -139,10 +139,10 @@ module _ (signature : List ℕ → Option Signature) (n : ℕ) (deeper : Deeper)
       let more = more_ors xs c rest in
       (((is.0.0, more.0.0), omega (arith, is.0.1, more.0.1)), (s, a, c, sign, is.1, more.1, e))
 
-  pub or_from_outcome : (start : List ℕ) (a : LogicalAnd × List ℕ) → Read (Spaced (IsAndText signature n)) start a → Outcome (Spaced (IsOrText signature n)) (Inner signature) start (or_from signature deeper a.0 a.1)
+  pub or_from_outcome : (start : List ℕ) (a : LogicalAnd × List ℕ) → Read (Spaced (IsAndText signature n)) start a → Outcome (Spaced (IsOrText signature n)) (Inner signature) start (read_or_from signature deeper a.0 a.1)
   or_from_outcome start a s = row_outcome and_row or_list (λ x xs t c is rows. let more = more_ors xs c rows in (((is.0.0, more.0.0), omega (arith, is.0.1, more.0.1)), (t, c, is.1, more.1, refl))) start a s
 
-  pub or_outcome : (cs : List ℕ) → Outcome (Spaced (IsOrText signature n)) (Inner signature) cs (or_at signature deeper cs)
+  pub or_outcome : (cs : List ℕ) → Outcome (Spaced (IsOrText signature n)) (Inner signature) cs (read_or signature deeper cs)
   or_outcome cs = onward (and_outcome cs) (λ a e s. or_from_outcome cs a s)
 
   or_rows : (e : LogicalOr) (t : List ℕ) → IsTypedOr signature e → or_depth e ≤ n → ReadMoreOrs e t → (xs : List LogicalAnd) × (or_list xs ≡ e) × AreRows (codes "||") (IsAndText signature n) t xs
@@ -151,7 +151,7 @@ module _ (signature : List ℕ → Option Signature) (n : ℕ) (deeper : Deeper)
       let rest = or_rows more c typed.1 (omega (arith, depth)) others in
       (x ∷ rest.0, ap (or x) rest.1, (s, a, c, sign, ((typed.0, omega (arith, depth)), is), rest.2, e))
 
-  pub or_again : (t : List ℕ) (e : LogicalOr) (rest : List ℕ) → IsOrText signature n t e → Follows ends_or rest → or_at signature deeper (t ++ rest) ≡ Ok (e, past_blanks rest)
+  pub or_again : (t : List ℕ) (e : LogicalOr) (rest : List ℕ) → IsOrText signature n t e → Follows ends_or rest → read_or signature deeper (t ++ rest) ≡ Ok (e, past_blanks rest)
   or_again t no_or rest h follows = absurd h.1
   or_again t (or x more) rest (good, (a, c, is, others, same)) follows =
       let rows = or_rows more c good.0.1 (omega (arith, good.1)) others in

@@ -1,5 +1,5 @@
 -- What is good at a level, and its texts: what may follow an operand or an expression, how each begins, and filters by what holds one level deeper.
-use Rattle.serde_json_path_parser.proofs.Words.{◌==◌, ◌||◌, Segments, no_segments, segment, Segment, dot_name, long_hand, no_selectors, selector, Selector, filter, LogicalOr, Signature, is_at, begins, ReadsSelector, past_blanks, Query, query, child, descendant, name, index, Call, call, Arguments, IsSingularSegment, AreSingular, IsSingular, and_parts, IsTyped, AreTypedSegments, IsTypedSegment, IsTypedSelector, IsTypedOr, IsTypedCall, depth, segments_depth, segment_depth, selector_depth, or_depth, call_depth, IsBlank, IsFunctionName, IsLiteral, Reads, ReadsOr, ReadsCall, ReadArguments, byte_count, Operand, a_literal, a_call, is_singular_segment, are_singular, is_singular, Deeper, Comparable, IsTypedComparable, IsTypedAnd, ReadsAnd, IsTypedBasic, ReadsComparable, comparable_depth, basic_depth, LogicalAnd, ReadsBasic, Basic, and_depth, root, current, no_or, or, no_and, and, paren, relation, exist, test, literal, singular, called, Literal, text, number, truth, is_blank, is_digit, is_small_letter, SegmentKind, ReadSegments, ReadsSegment, ◌≡◌, ℕ, true, List, [], ◌++◌, Option, Ok, ◌+◌, ◌≤◌, Bool, ◌∷◌, refl, arith, false, ap, ◌∙◌, append_assoc, drop, a_query, filter_at}
+use Rattle.serde_json_path_parser.proofs.Words.{◌==◌, ◌||◌, Segments, no_segments, segment, Segment, dot_name, long_hand, no_selectors, selector, Selector, filter, LogicalOr, Signature, is_at, begins, ReadsSelector, past_blanks, Query, query, child, descendant, name, index, Call, call, Arguments, IsSingularSegment, AreSingular, IsSingular, and_parts, IsTyped, AreTypedSegments, IsTypedSegment, IsTypedSelector, IsTypedOr, IsTypedCall, depth, segments_depth, segment_depth, selector_depth, or_depth, call_depth, IsBlank, IsFunctionName, IsLiteral, Reads, ReadsOr, ReadsCall, ReadArguments, byte_count, Operand, a_literal, a_call, is_singular_segment, are_singular, is_singular, Deeper, Comparable, IsTypedComparable, IsTypedAnd, ReadsAnd, IsTypedBasic, ReadsComparable, comparable_depth, basic_depth, LogicalAnd, ReadsBasic, Basic, and_depth, root, current, no_or, or, no_and, and, paren, relation, exist, test, literal, singular, called, Literal, text, number, truth, is_blank, is_digit, is_small_letter, SegmentKind, ReadSegments, ReadsSegment, ◌≡◌, ℕ, true, List, [], ◌++◌, Option, Ok, ◌+◌, ◌≤◌, Bool, ◌∷◌, refl, arith, false, ap, ◌∙◌, append_assoc, drop, a_query, read_filter}
 use Rattle.serde_json_path_parser.proofs.Reading.{Inner, Outcome, Past, remade, after_sign, Spaced, some_begun, begins_front, begins_where, no_blank, blanks_of, past_run, front_each}
 use Rattle.serde_json_path_parser.proofs.Rows.{Follows}
 use Rattle.serde_json_path_parser.proofs.Grammar.Numbers.{number_first}
@@ -180,12 +180,12 @@ no_blank_begins cs e = begins_where begins_expression is_blank false cs (λ c e.
 -- ---- what is read as a filter is a good one, each is read, and a refusal stands in its text, by what holds one level deeper
 
 module _ (signature : List ℕ → Option Signature) (n : ℕ) (deeper : Deeper) (laws : DeeperLaws signature n deeper) where
-  pub filter_outcome : (cs : List ℕ) → is_at "?" cs ≡ true → Outcome (Spaced (IsSelectorText signature n)) (Inner signature) cs (filter_at signature deeper cs)
+  pub filter_outcome : (cs : List ℕ) → is_at "?" cs ≡ true → Outcome (Spaced (IsSelectorText signature n)) (Inner signature) cs (read_filter signature deeper cs)
   filter_outcome cs mark =
       let j = blanks_of (drop 1 cs) in
       remade (λ e. filter e) (λ t e h. (h.1.0, (j, h.0, front_each is_blank (drop 1 cs), h.1.1, h.2))) (laws.inside_outcome (63 ∷ j) cs (past_blanks (drop 1 cs)) (after_sign 63 cs mark))
 
-  pub filter_again : (t : List ℕ) (e : LogicalOr) (rest : List ℕ) → IsSelectorText signature n t (filter e) → Follows ends_selector rest → filter_at signature deeper (t ++ rest) ≡ Ok (filter e, past_blanks rest)
+  pub filter_again : (t : List ℕ) (e : LogicalOr) (rest : List ℕ) → IsSelectorText signature n t (filter e) → Follows ends_selector rest → read_filter signature deeper (t ++ rest) ≡ Ok (filter e, past_blanks rest)
   filter_again t e rest (good, (k, a, blank, is, same)) closes =
       let inside : past_blanks (drop 1 (t ++ rest)) ≡ a ++ rest =
       ap (λ (l : List ℕ). past_blanks (drop 1 (l ++ rest))) same ∙ ap past_blanks (append_assoc k a rest) ∙ past_run is_blank k (a ++ rest) blank (no_blank_begins (a ++ rest) (or_begins e a rest is)) in

@@ -1,5 +1,5 @@
 -- Integers and number literals: what is read is one, each is read, and where a refusal of one stands.
-use Rattle.serde_json_path_parser.proofs.Words.{nat_le, ◌==◌, ℤ, pos, negsuc, ints, largest, ExpectedSelector, IntegerOutOfRange, is_at, cases_Bool, begins, is_blank, is_digit, value_from, IsDecimal, IsInt, front, past, byte_count, is_first_digit, digits_at, negative, int_at, begins_int, ◌||◌, ◌-ℤ◌, encode_utf8, ExpectedExpression, ExponentOrEmptyFraction, FractionTooLong, NumberOutOfRange, AllPass, fraction_of, IsFraction, IsAmount, IsNumber, refusal_at, is_exponent, whole_at, digits_after_point_at, fraction_at, amount_at, greatest_amount, number_at, mul-le-mul_right, mul-lt-mul_of_pos_right, le-mul_of_pos_right, one-le-pow, pow-succ', length-append, pow-add, encode_ascii, encode_utf8_all, ◌≡◌, ℕ, zero, suc, ◌+◌, ◌-◌, ◌*◌, ◌≤◌, inl, inr, Bool, true, false, List, [], ◌∷◌, ◌++◌, drop, Ok, refl, sym, ap, ◌∙◌, arith, ◌^◌, length, Err, append_assoc, ◌<◌, min, LongHand}
+use Rattle.serde_json_path_parser.proofs.Words.{nat_le, ◌==◌, ℤ, pos, negsuc, ints, largest, ExpectedSelector, IntegerOutOfRange, is_at, cases_Bool, begins, is_blank, is_digit, value_from, IsDecimal, IsInt, front, past, byte_count, is_first_digit, read_digits, negative, read_int, begins_int, ◌||◌, ◌-ℤ◌, encode_utf8, ExpectedExpression, ExponentOrEmptyFraction, FractionTooLong, NumberOutOfRange, AllPass, fraction_of, IsFraction, IsAmount, IsNumber, refusal_at, is_exponent, read_whole, read_digits_after_point, read_fraction, read_amount, greatest_amount, read_number, mul-le-mul_right, mul-lt-mul_of_pos_right, le-mul_of_pos_right, one-le-pow, pow-succ', length-append, pow-add, encode_ascii, encode_utf8_all, ◌≡◌, ℕ, zero, suc, ◌+◌, ◌-◌, ◌*◌, ◌≤◌, inl, inr, Bool, true, false, List, [], ◌∷◌, ◌++◌, drop, Ok, refl, sym, ap, ◌∙◌, arith, ◌^◌, length, Err, append_assoc, ◌<◌, min, LongHand}
 use Rattle.serde_json_path_parser.proofs.Reading.{begins_where, differs, begins_differs, no_blank, whole, front_each, front_begins, front_begins_not, front_all, past_run, value_least, some_begun, begins_front, Read, after_one, Plain, OutcomeIn, Outcome, gives, choose, guarded, past_in, made, refused, onward, after_in}
 use Rattle.serde_json_path_syntax.specs.WellFormed.{IsLiteralAmount}
 
@@ -33,7 +33,7 @@ decimal_read cs first = record {
 abbrev IsPositive : List ℕ → ℕ → Type 0
 IsPositive t n = IsDecimal t n × (1 ≤ n) × (n ≤ largest)
 
-digits_outcome : (start cs : List ℕ) → begins is_first_digit cs ≡ true → OutcomeIn IsPositive Plain start cs (digits_at (byte_count start) cs)
+digits_outcome : (start cs : List ℕ) → begins is_first_digit cs ≡ true → OutcomeIn IsPositive Plain start cs (read_digits (byte_count start) cs)
 digits_outcome start cs first = guarded IntegerOutOfRange LongHand refl (λ e.
     let r = decimal_read cs first in
     let most : value_from 0 (front is_digit cs) ≤ largest = grind (arith, e) in
@@ -49,7 +49,7 @@ positive_is text n d most = (d, (omega (arith, ints, most), omega (arith, ints, 
 pub zero_is : IsDecimal (48 ∷ []) 0
 zero_is = record { first = refl; each = (refl, tt); plain = inl refl; value_of = refl }
 
-pub int_outcome : (cs : List ℕ) → Outcome IsInt Plain cs (int_at cs)
+pub int_outcome : (cs : List ℕ) → Outcome IsInt Plain cs (read_int cs)
 int_outcome cs =
     choose (λ e. guarded ExpectedSelector LongHand refl (λ f. past_in (45 ∷ []) (after_one 45 cs e) (made negative negative_is (digits_outcome cs (drop 1 cs) f)))) (λ _.
     choose (λ e. gives (pos 0, drop 1 cs) (record { text = 48 ∷ []; is_so = positive_is (48 ∷ []) 0 zero_is (omega arith); split = after_one 48 cs e })) (λ _.
@@ -57,7 +57,7 @@ int_outcome cs =
 
 -- ---- each integer is read
 
-digits_again : (start t : List ℕ) (n : ℕ) (rest : List ℕ) → IsDecimal t n → n ≤ largest → begins is_digit rest ≡ false → digits_at (byte_count start) (t ++ rest) ≡ Ok (n, rest)
+digits_again : (start t : List ℕ) (n : ℕ) (rest : List ℕ) → IsDecimal t n → n ≤ largest → begins is_digit rest ≡ false → read_digits (byte_count start) (t ++ rest) ≡ Ok (n, rest)
 digits_again start t n rest d most e =
     let in_range : nat_le (value_from 0 t) largest ≡ true = grind (arith, most, d.value_of) in
     rw (front_all is_digit t rest d.each e, past_run is_digit t rest d.each e, in_range) (ap (λ (k : ℕ). Ok (k, rest)) (sym d.value_of))
@@ -66,9 +66,9 @@ pub first_digit : (t rest : List ℕ) → begins is_digit t ≡ true → is_at "
 first_digit [] rest d z = absurd cc
 first_digit (c ∷ t) rest d z = grind (arith, d, z)
 
-pub int_again : (t : List ℕ) (i : ℤ) (rest : List ℕ) → IsInt t i → begins is_digit rest ≡ false → int_at (t ++ rest) ≡ Ok (i, rest)
+pub int_again : (t : List ℕ) (i : ℤ) (rest : List ℕ) → IsInt t i → begins is_digit rest ≡ false → read_int (t ++ rest) ≡ Ok (i, rest)
 int_again t (pos n) rest h e = elim h.0.plain [
-  | inl z ↦ ap (λ (l : List ℕ). int_at (l ++ rest)) z ∙ ap (λ (k : ℕ). Ok (pos k, rest)) (sym (h.0.value_of ∙ ap (value_from 0) z))
+  | inl z ↦ ap (λ (l : List ℕ). read_int (l ++ rest)) z ∙ ap (λ (k : ℕ). Ok (pos k, rest)) (sym (h.0.value_of ∙ ap (value_from 0) z))
   | inr z ↦
       let first = first_digit t rest h.0.first z in
       let read = digits_again (t ++ rest) t n rest h.0 (let most = h.1.1 in omega (arith, ints, most)) e in
@@ -100,11 +100,11 @@ int_no_blank t i rest is = int_first is_blank false t i rest (λ c e. no_blank b
 
 -- ---- what a reading gives, of a number that begins at start
 
-whole_outcome : (start cs : List ℕ) → OutcomeIn IsDecimal Plain start cs (whole_at (byte_count start) cs)
+whole_outcome : (start cs : List ℕ) → OutcomeIn IsDecimal Plain start cs (read_whole (byte_count start) cs)
 whole_outcome start cs =
     choose (λ e. gives (0, drop 1 cs) (record { text = 48 ∷ []; is_so = zero_is; split = after_one 48 cs e })) (λ _. guarded ExpectedExpression LongHand refl (λ e. gives _ (decimal_read cs e)))
 
-fraction_digits_outcome : (start cs : List ℕ) → OutcomeIn (λ t n. IsFraction (46 ∷ t) n) Plain start cs (digits_after_point_at (byte_count start) cs)
+fraction_digits_outcome : (start cs : List ℕ) → OutcomeIn (λ t n. IsFraction (46 ∷ t) n) Plain start cs (read_digits_after_point (byte_count start) cs)
 fraction_digits_outcome start cs =
     guarded ExponentOrEmptyFraction LongHand refl (λ some.
     choose (λ _. refused ExponentOrEmptyFraction LongHand refl) (λ _.
@@ -113,14 +113,14 @@ fraction_digits_outcome start cs =
     let most : length (front is_digit cs) ≤ 9 = grind (arith, few) in
     gives _ (record { text = front is_digit cs; is_so = inr (front is_digit cs, refl, front_each is_digit cs, least, most, refl); split = whole is_digit cs }))))
 
-fraction_outcome : (start cs : List ℕ) → OutcomeIn IsFraction Plain start cs (fraction_at (byte_count start) cs)
-unfolding fraction_at
+fraction_outcome : (start cs : List ℕ) → OutcomeIn IsFraction Plain start cs (read_fraction (byte_count start) cs)
+unfolding read_fraction
 fraction_outcome start cs =
     choose (λ e. past_in (46 ∷ []) (after_one 46 cs e) (fraction_digits_outcome start (drop 1 cs))) (λ _.
     choose (λ _. refused ExponentOrEmptyFraction LongHand refl) (λ _. gives (0, cs) (record { text = []; is_so = inl (refl, refl); split = refl })))
 
-amount_outcome : (start cs : List ℕ) → OutcomeIn IsAmount Plain start cs (amount_at (byte_count start) cs)
-unfolding amount_at
+amount_outcome : (start cs : List ℕ) → OutcomeIn IsAmount Plain start cs (read_amount (byte_count start) cs)
+unfolding read_amount
 amount_outcome start cs = after_in (whole_outcome start cs) (λ w e r.
     made (λ n. (w.0 * 1000000000) + n) (λ t n is. (r.text, t, w.0, n, r.is_so, is, refl, refl)) (fraction_outcome start w.1))
 
@@ -130,7 +130,7 @@ negative_in_range n e = let most : n ≤ 2 ^ 63 * 1000000000 = grind (arith, e) 
 positive_in_range : (n : ℕ) → nat_le n greatest_amount ≡ true → IsLiteralAmount (pos n)
 positive_in_range n e = let most : n ≤ greatest_amount = grind (arith, e) in (omega (arith, ints, most), omega (arith, ints, most))
 
-pub number_outcome : (cs : List ℕ) → Outcome IsNumber Plain cs (number_at cs)
+pub number_outcome : (cs : List ℕ) → Outcome IsNumber Plain cs (read_number cs)
 number_outcome cs =
     choose (λ e. past_in (45 ∷ []) (after_one 45 cs e) (onward (amount_outcome cs (drop 1 cs)) (λ n f r. guarded NumberOutOfRange LongHand refl (λ most.
     gives _ (record { text = r.text; is_so = ((n.0, inr (r.text, r.is_so, refl, refl)), negative_in_range n.0 most); split = r.split }))))) (λ _.
@@ -148,11 +148,11 @@ no_part : (cs : List ℕ) → begins goes_on cs ≡ false → (begins is_digit c
 no_part [] e = (refl, refl, refl)
 no_part (c ∷ cs) e = (grind (arith, e), grind (arith, e), grind (arith, e))
 
-whole_again : (start t : List ℕ) (n : ℕ) (rest : List ℕ) → IsDecimal t n → begins is_digit rest ≡ false → whole_at (byte_count start) (t ++ rest) ≡ Ok (n, rest)
+whole_again : (start t : List ℕ) (n : ℕ) (rest : List ℕ) → IsDecimal t n → begins is_digit rest ≡ false → read_whole (byte_count start) (t ++ rest) ≡ Ok (n, rest)
 whole_again start t n rest d e = elim d.plain [
   | inl z ↦
       let none : n ≡ 0 = d.value_of ∙ ap (value_from 0) z in
-      ap (λ (l : List ℕ). whole_at (byte_count start) (l ++ rest)) z ∙ ap (λ (k : ℕ). Ok (k, rest)) (sym none)
+      ap (λ (l : List ℕ). read_whole (byte_count start) (l ++ rest)) z ∙ ap (λ (k : ℕ). Ok (k, rest)) (sym none)
   | inr z ↦
       let first = first_digit t rest d.first z in
       rw (begins_differs is_first_digit 48 (t ++ rest) refl first, first, front_all is_digit t rest d.each e, past_run is_digit t rest d.each e) (ap (λ (k : ℕ). Ok (k, rest)) (sym d.value_of))
@@ -162,13 +162,13 @@ digits_begin : (digits rest : List ℕ) → 1 ≤ length digits → AllPass is_d
 digits_begin [] rest some each = absurd (omega (arith, some))
 digits_begin (c ∷ digits) rest some each = each.0
 
-fraction_again : (start t : List ℕ) (n : ℕ) (rest : List ℕ) → IsFraction t n → begins goes_on rest ≡ false → fraction_at (byte_count start) (t ++ rest) ≡ Ok (n, rest)
-unfolding fraction_at
+fraction_again : (start t : List ℕ) (n : ℕ) (rest : List ℕ) → IsFraction t n → begins goes_on rest ≡ false → read_fraction (byte_count start) (t ++ rest) ≡ Ok (n, rest)
+unfolding read_fraction
 fraction_again start t n rest is e = elim is [
-  | inl none ↦ ap (λ (l : List ℕ). fraction_at (byte_count start) (l ++ rest)) none.0 ∙ rw ((no_part rest e).1, (no_part rest e).2) (ap (λ (k : ℕ). Ok (k, rest)) (sym none.1))
+  | inl none ↦ ap (λ (l : List ℕ). read_fraction (byte_count start) (l ++ rest)) none.0 ∙ rw ((no_part rest e).1, (no_part rest e).2) (ap (λ (k : ℕ). Ok (k, rest)) (sym none.1))
   | inr some ↦
       let few : nat_le (length some.0) 9 ≡ true = let most = some.4 in grind (arith, most) in
-      ap (λ (l : List ℕ). fraction_at (byte_count start) (l ++ rest)) some.1
+      ap (λ (l : List ℕ). read_fraction (byte_count start) (l ++ rest)) some.1
       ∙ rw (digits_begin some.0 rest some.3 some.2, front_all is_digit some.0 rest some.2 (no_part rest e).0, past_run is_digit some.0 rest some.2 (no_part rest e).0, (no_part rest e).2, few)
       (ap (λ (k : ℕ). Ok (k, rest)) (sym some.5))
 ]
@@ -180,12 +180,12 @@ failures t n rest is e = elim is [
   | inr some ↦ ap (λ (l : List ℕ). begins is_digit (l ++ rest)) some.1
 ]
 
-amount_again : (start t : List ℕ) (n : ℕ) (rest : List ℕ) → IsAmount t n → begins goes_on rest ≡ false → amount_at (byte_count start) (t ++ rest) ≡ Ok (n, rest)
-unfolding amount_at
+amount_again : (start t : List ℕ) (n : ℕ) (rest : List ℕ) → IsAmount t n → begins goes_on rest ≡ false → read_amount (byte_count start) (t ++ rest) ≡ Ok (n, rest)
+unfolding read_amount
 amount_again start t n rest is e =
     let regrouped : t ++ rest ≡ is.0 ++ (is.1 ++ rest) = ap (λ (l : List ℕ). l ++ rest) is.6 ∙ append_assoc is.0 is.1 rest in
     let read = whole_again start is.0 is.2 (is.1 ++ rest) is.4 (failures is.1 is.3 rest is.5 (no_part rest e).0) in
-    ap (amount_at (byte_count start)) regrouped ∙ rw (read, fraction_again start is.1 is.3 rest is.5 e) (ap (λ (k : ℕ). Ok (k, rest)) (sym is.7))
+    ap (read_amount (byte_count start)) regrouped ∙ rw (read, fraction_again start is.1 is.3 rest is.5 e) (ap (λ (k : ℕ). Ok (k, rest)) (sym is.7))
 
 amount_first : (p : ℕ → Bool) (b : Bool) (t : List ℕ) (n : ℕ) (rest : List ℕ) → ((c : ℕ) → is_digit c ≡ true → p c ≡ b) → IsAmount t n → begins p (t ++ rest) ≡ b
 amount_first p b t n rest h is =
@@ -193,7 +193,7 @@ amount_first p b t n rest h is =
     let first = begins_front is_digit true is.0 (is.1 ++ rest) (some_begun is_digit is.0 is.4.first) is.4.first in
     ap (begins p) regrouped ∙ begins_where is_digit p b (is.0 ++ (is.1 ++ rest)) h first
 
-pub number_again : (t : List ℕ) (amount : ℤ) (rest : List ℕ) → IsNumber t amount → begins goes_on rest ≡ false → number_at (t ++ rest) ≡ Ok (amount, rest)
+pub number_again : (t : List ℕ) (amount : ℤ) (rest : List ℕ) → IsNumber t amount → begins goes_on rest ≡ false → read_number (t ++ rest) ≡ Ok (amount, rest)
 number_again t amount rest ((n, inl (is, same)), in_range) e =
     let most : n ≤ greatest_amount = let within = in_range.1 in omega (arith, ints, within, same) in
     let judged : nat_le n greatest_amount ≡ true = grind (arith, most) in
@@ -272,8 +272,8 @@ fraction_is ds value power count each c few v p =
 -- ---- reading
 
 module _ (start : ℕ) (cs : List ℕ) (some : begins is_digit cs ≡ true) (plain : begins is_exponent (past is_digit cs) ≡ false) where
-  pub too_long : 9 < length (front is_digit cs) → digits_after_point_at start cs ≡ Err (refusal_at FractionTooLong LongHand start)
+  pub too_long : 9 < length (front is_digit cs) → read_digits_after_point start cs ≡ Err (refusal_at FractionTooLong LongHand start)
   too_long many = let judged : nat_le (length (front is_digit cs)) 9 ≡ false = grind (arith, many) in rw (some, plain, judged) refl
 
-  pub reads : length (front is_digit cs) ≤ 9 → digits_after_point_at start cs ≡ Ok (fraction_of (front is_digit cs), past is_digit cs)
+  pub reads : length (front is_digit cs) ≤ 9 → read_digits_after_point start cs ≡ Ok (fraction_of (front is_digit cs), past is_digit cs)
   reads few = let judged : nat_le (length (front is_digit cs)) 9 ≡ true = grind (arith, few) in rw (some, plain, judged) refl

@@ -1,11 +1,11 @@
 -- Whole paths, and the promises of a parse.
-use Rattle.serde_json_path_parser.proofs.Words.{◌==◌, encode_utf8_all, all_scalars, chars, IsUtf8, IsCharBoundary, append-nil, length-append, nil_from_length, eqb-true, SegmentKind, Segments, Segment, deepest, Signature, ParseErrorKind, ExpectedRoot, UndefinedFunction, TextAfterPath, NoMemory, IsUndeclared, is_at, begins, Parsed, refusal, opens_next, segments_at, segment_list, opens_after_root, level, path_at, encodes-chars, encodes-append, scalars-chars, IsCharBoundary-at_seam, ◌&&◌, take-append_seam, drop-append_seam, IsCharBoundary-start, chars-encodes, Query, query, root, current, greatest_usize, Refusal, Failure, tree_of, signatures_of, opens, AreCalled, Reports, reported, Fails, IsRefused, IsWithin, error_of, is_dollar, NeedsNoMemory, ParsedQuery, Answers, checked_view, eq-eqb, length-le-encodes, ◌≡◌, ◌≢◌, ℕ, ◌≤◌, ◌↔◌, true, false, true≢false, List, [], ◌∷◌, ◌++◌, length, drop, Option, Ok, refl, sym, ap, subst, ◌∙◌, arith, ◌+◌, ◌-◌, inl, inr, ◌<◌, take, Some, Err, filter_at, Memory, Refused, is_blank, next_segment_at}
+use Rattle.serde_json_path_parser.proofs.Words.{◌==◌, encode_utf8_all, all_scalars, chars, IsUtf8, IsCharBoundary, append-nil, length-append, nil_from_length, eqb-true, SegmentKind, Segments, Segment, deepest, Signature, ParseErrorKind, ExpectedRoot, UndefinedFunction, TextAfterPath, NoMemory, IsUndeclared, is_at, begins, Parsed, refusal, opens_next, read_segments, segment_list, opens_after_root, level, read_path, encodes-chars, encodes-append, scalars-chars, IsCharBoundary-at_seam, ◌&&◌, take-append_seam, drop-append_seam, IsCharBoundary-start, chars-encodes, Query, query, root, current, greatest_usize, Refusal, Failure, tree_of, signatures_of, opens, AreCalled, Reports, reported, Fails, IsRefused, IsWithin, error_of, is_dollar, NeedsNoMemory, ParsedQuery, IsParse, checked_view, eq-eqb, length-le-encodes, ◌≡◌, ◌≢◌, ℕ, ◌≤◌, ◌↔◌, true, false, true≢false, List, [], ◌∷◌, ◌++◌, length, drop, Option, Ok, refl, sym, ap, subst, ◌∙◌, arith, ◌+◌, ◌-◌, inl, inr, ◌<◌, take, Some, Err, read_filter, Memory, Refused, is_blank, read_next_segment}
 use Rattle.serde_json_path_parser.specs.declared.error.Context.TheVariants as context
 use Rattle.serde_json_path_parser.proofs.Grammar.LogicalForms.{AreSegmentsText}
 use Rattle.serde_json_path_parser.proofs.Grammar.Calls.{level_laws}
 use Rattle.serde_json_path_parser.proofs.Grammar.Segments.{segments_outcome, segments_again, same_segments}
 use Rattle.serde_json_path_parser.proofs.Printing.QuotedTexts.{scalars_of}
-use Rattle.serde_json_path_parser.proofs.Reading.{ok_is, after_one, is_plain, Inner, Stands, Gives, gives, refuses, choose, onward, past_run, stands_so, many_end}
+use Rattle.serde_json_path_parser.proofs.Reading.{ok_is, after_one, is_plain, Inner, Stands, IsOutcome, gives, refuses, choose, onward, past_run, stands_so, many_end}
 use Rattle.serde_json_path_syntax.specs.declared.checked.Checked.{Checked}
 use Rattle.serde_json_path_parser.specs.Accepted.{IsAccepted}
 use Rattle.serde_json_path_parser.specs.Laws.{OneTreeAtMost}
@@ -18,24 +18,24 @@ all_read rest bytes is none = eq-eqb (length rest) 0 (omega (arith, is, none, le
 
 module _ (signature : List ℕ → Option Signature) where
   -- the segments of a path
-  abbrev pub path_segments_at : List ℕ → Parsed (List (SegmentKind × Segment))
-  path_segments_at cs = segments_at (filter_at signature (level signature deepest)) context.Path cs
+  abbrev pub read_path_segments : List ℕ → Parsed (List (SegmentKind × Segment))
+  read_path_segments cs = read_segments (read_filter signature (level signature deepest)) context.Path cs
 
   -- where no segment begins after `$`, none is read
-  pub none_read : (cs ds rest : List ℕ) (c : ℕ) (ss : List (SegmentKind × Segment)) → begins (λ d. d == 36) cs ≡ true → cs ≡ c ∷ ds → path_segments_at ds ≡ Ok (ss, rest) → opens_after_root cs ≡ false → ss ≡ []
+  pub none_read : (cs ds rest : List ℕ) (c : ℕ) (ss : List (SegmentKind × Segment)) → begins (λ d. d == 36) cs ≡ true → cs ≡ c ∷ ds → read_path_segments ds ≡ Ok (ss, rest) → opens_after_root cs ≡ false → ss ≡ []
   none_read cs ds rest c ss sign split read none =
       let closed : opens_next ds ≡ false = sym (rw (sign, split) refl) ∙ none in
-      let empty = many_end opens_next (next_segment_at (filter_at signature (level signature deepest)) context.Path) ds closed in
+      let empty = many_end opens_next (read_next_segment (read_filter signature (level signature deepest)) context.Path) ds closed in
       ap (λ (x : List (SegmentKind × Segment) × List ℕ). x.0) (ok_is (ss, rest) ([], ds) (sym read ∙ empty))
 
   -- ---- each path is read
 
-  pub path_again : (t a : List ℕ) (segs : Segments) → AreSegmentsText signature deepest a segs → t ≡ 36 ∷ a → path_at signature t ≡ Ok segs
-  unfolding path_at
+  pub path_again : (t a : List ℕ) (segs : Segments) → AreSegmentsText signature deepest a segs → t ≡ 36 ∷ a → read_path signature t ≡ Ok segs
+  unfolding read_path
   path_again t a segs h e =
       let again = segments_again signature deepest (level signature deepest) (level_laws signature deepest) context.Path a segs [] h refl refl in
-      let all = ap path_segments_at (sym (append-nil a)) ∙ again in
-      ap (path_at signature) e ∙ rw all (ap (λ (ss : Segments). Ok ss) (same_segments segs))
+      let all = ap read_path_segments (sym (append-nil a)) ∙ again in
+      ap (read_path signature) e ∙ rw all (ap (λ (ss : Segments). Ok ss) (same_segments segs))
 
 -- ---- what a reading gives
 
@@ -60,8 +60,8 @@ module _ (signature : List ℕ → Option Signature) where
     undefined = λ e. elim h [ inl plain ↦ absurd (true≢false (sym plain ∙ ap is_plain e)) | inr undefined ↦ undefined.1 ];
   }
 
-  pub path_outcome : (cs : List ℕ) → Gives (λ segs. (a : List ℕ) × AreSegmentsText signature deepest a segs × (cs ≡ 36 ∷ a)) (Stands (PathTells cs) cs) (path_at signature cs)
-  unfolding path_at
+  pub path_outcome : (cs : List ℕ) → IsOutcome (λ segs. (a : List ℕ) × AreSegmentsText signature deepest a segs × (cs ≡ 36 ∷ a)) (Stands (PathTells cs) cs) (read_path signature cs)
+  unfolding read_path
   path_outcome cs = choose (λ sign.
       let begun = after_one 36 cs sign in
       let segments = segments_outcome signature deepest (level signature deepest) (level_laws signature deepest) context.Path (drop 1 cs) in
@@ -108,7 +108,7 @@ accepted signature cs a segs e h = record { reads = (a, h.1, e); from_root = ref
 
 -- an accepted tree is what is read
 accepted_read : (signature : List ℕ → Option Signature) (cs : List ℕ) (q : Query) → IsAccepted signature cs q
-    → (segs : Segments) × (q ≡ query root segs) × (path_at signature cs ≡ Ok segs)
+    → (segs : Segments) × (q ≡ query root segs) × (read_path signature cs ≡ Ok segs)
 accepted_read signature cs (query current segs) h = let e : current ≡ root = h.from_root in absurd cc
 accepted_read signature cs (query root segs) h = let r = h.reads in (segs, refl, path_again signature cs r.0 segs ((h.typed, h.shallow), r.1) r.2)
 
@@ -155,7 +155,7 @@ record Told (signature : List ℕ → Option Signature) (text : List ℕ) (r : R
   placed : (r.left ≤ length text) × IsCharBoundary text (length text - r.left)
 
 module _ (signature : List ℕ → Option Signature) (text : List ℕ) (u : IsUtf8 text) where
-  told : (r : Refusal) → path_at signature (chars text) ≡ Err r → Told signature text r
+  told : (r : Refusal) → read_path signature (chars text) ≡ Err r → Told signature text r
   told r e =
       let s = (path_outcome signature (chars text)).stands r e in
       let b = boundary text s.before s.rest r.left u s.split s.left in
@@ -172,14 +172,14 @@ module _ (signature : List ℕ → Option Signature) (text : List ℕ) (u : IsUt
       }
 
   -- where the refusal stands
-  pub within : (s : Failure) (total : ℕ) → total ≡ length text → Fails s (path_at signature (chars text)) → IsWithin s total
+  pub within : (s : Failure) (total : ℕ) → total ≡ length text → Fails s (read_path signature (chars text)) → IsWithin s total
   within Memory total t h = tt
   within (Refused r) total t h = let k = (told r h).placed.0 in omega (arith, t, k)
 
   -- ---- the three ends of a parse
 
   -- want of memory, where something has to be stored
-  unstored : (length text < greatest_usize → NeedsNoMemory (chars text) → ⊥) → Answers signature text (Err (error_of Memory 0))
+  unstored : (length text < greatest_usize → NeedsNoMemory (chars text) → ⊥) → IsParse signature text (Err (error_of Memory 0))
   unstored stores = record {
     accepted = tt;
     kept = tt;
@@ -190,10 +190,10 @@ module _ (signature : List ℕ → Option Signature) (text : List ℕ) (u : IsUt
     too_long = λ e. refl;
   }
 
-  pub too_long : length text ≡ greatest_usize → Answers signature text (Err (error_of Memory 0))
+  pub too_long : length text ≡ greatest_usize → IsParse signature text (Err (error_of Memory 0))
   too_long long = unstored (λ less none. omega (arith, long))
 
-  pub parsed : (short : length text < greatest_usize) (segs : Segments) (checked : Checked) → tree_of checked ≡ query root segs → AreCalled (signatures_of checked) (query root segs) → path_at signature (chars text) ≡ Ok segs → Answers signature text (Ok (checked_view checked))
+  pub parsed : (short : length text < greatest_usize) (segs : Segments) (checked : Checked) → tree_of checked ≡ query root segs → AreCalled (signatures_of checked) (query root segs) → read_path signature (chars text) ≡ Ok segs → IsParse signature text (Ok (checked_view checked))
   parsed short segs checked tree kept e =
       let s = (path_outcome signature (chars text)).reads segs e in
       record {
@@ -206,8 +206,8 @@ module _ (signature : List ℕ → Option Signature) (text : List ℕ) (u : IsUt
         too_long = λ long. absurd (omega (arith, long));
       }
 
-  pub refused : (short : length text < greatest_usize) (s : Failure) (total : ℕ) → Fails s (path_at signature (chars text)) → (opens_after_root (chars text) ≡ false → IsRefused s)
-      → Answers signature text (Err (error_of s total))
+  pub refused : (short : length text < greatest_usize) (s : Failure) (total : ℕ) → Fails s (read_path signature (chars text)) → (opens_after_root (chars text) ≡ false → IsRefused s)
+      → IsParse signature text (Err (error_of s total))
   refused short Memory total h spares = unstored (λ less none. spares (needs_none (chars text) none))
   refused short (Refused r) total h spares = record {
     accepted = tt;
@@ -223,7 +223,7 @@ module _ (signature : List ℕ → Option Signature) (text : List ℕ) (u : IsUt
 
   unstored_reported : (length text < greatest_usize → NeedsNoMemory (chars text) → ⊥) → Reports signature text (Err (error_of Memory 0))
   unstored_reported stores = record {
-    told = λ other. absurd (other refl);
+    first = λ other. absurd (other refl);
     missing_root = ((λ e. absurd cc), (λ g. absurd (stores g.0 (inl g.1))));
     text_after = λ e. absurd cc;
     undefined = λ e. absurd cc;
@@ -233,25 +233,25 @@ module _ (signature : List ℕ → Option Signature) (text : List ℕ) (u : IsUt
   pub too_long_reported : length text ≡ greatest_usize → Reports signature text (Err (error_of Memory 0))
   too_long_reported long = unstored_reported (λ less none. omega (arith, long))
 
-  pub parsed_reported : (read : ParsedQuery) (segs : Segments) → path_at signature (chars text) ≡ Ok segs → Reports signature text (Ok read)
+  pub parsed_reported : (read : ParsedQuery) (segs : Segments) → read_path signature (chars text) ≡ Ok segs → Reports signature text (Ok read)
   parsed_reported read segs e =
       let s = (path_outcome signature (chars text)).reads segs e in
       record {
-        told = tt;
+        first = tt;
         missing_root = ((λ h. absurd h), (λ h. true≢false (sym (ap (begins is_dollar) s.2) ∙ h.1)));
         text_after = tt;
         undefined = tt;
         position = tt;
       }
 
-  pub refused_reported : (short : length text < greatest_usize) (s : Failure) (total : ℕ) → total ≡ length text → Fails s (path_at signature (chars text)) → (opens_after_root (chars text) ≡ false → IsRefused s)
+  pub refused_reported : (short : length text < greatest_usize) (s : Failure) (total : ℕ) → total ≡ length text → Fails s (read_path signature (chars text)) → (opens_after_root (chars text) ≡ false → IsRefused s)
       → Reports signature text (Err (error_of s total))
   refused_reported short Memory total t h spares = unstored_reported (λ less none. spares (needs_none (chars text) none))
   refused_reported short (Refused r) total t h spares =
       let k = told r h in
       let cut : (total - r.left + 1) - 1 ≡ length text - r.left = omega (arith, t) in
       record {
-        told = λ other. ap (reported (length text)) h ∙ ap (λ (n : ℕ). Some (record { kind = r.kind; context = r.context; position = n - r.left + 1 })) (sym t);
+        first = λ other. ap (reported (length text)) h ∙ ap (λ (n : ℕ). Some (record { kind = r.kind; context = r.context; position = n - r.left + 1 })) (sym t);
         missing_root = ((λ e. (short, k.root_missing.0 e)), (λ g. k.root_missing.1 g.1));
         text_after = λ e. subst (λ (n : ℕ). (q : Query) × IsAccepted signature (chars (take n text)) q) (sym cut) (k.after e);
         undefined = λ e. subst (λ (n : ℕ). IsUndeclared signature (chars (drop n text))) (sym cut) (k.undefined e);

@@ -1,14 +1,14 @@
 -- Selectors, brackets with them, and segments: what is read is in the grammar, what is in the grammar is read, where a refusal stands.
-use Rattle.serde_json_path_parser.proofs.Words.{ℤ, ◌==◌, append-nil, Slice, Selector, slice, index, IsBound, IsSliceStep, IsSlice, false_from_ne_true, begins, is_blank, is_digit, IsBlank, IsInt, Parsed, past_blanks, begins_int, bound_at, step_at, slice_at, position_at, selector_at, None, name, wildcard, filter, IsQuote, quoted_at, string_at, Signature, codes, SegmentKind, long_hand, Selectors, no_selectors, selector, ExpectedClosingBracket, ReadSelectors, ReadMoreSelectors, dots_before_bracket, next_selector_at, selectors_at, selector_list, bracket_at, Deeper, AreTypedSelectors, selectors_depth, is_at, length-append, child, descendant, Segments, no_segments, segment, Segment, dot_name, dot_wildcard, BadMemberName, is_name_first, is_name_char, IsName, Joined, opens, dots_before_name, front, many, after_dot, name_at, dotted_at, descendant_at, dot_at, segment_at, opens_next, next_segment_at, segments_at, segment_list, ◌≡◌, ◌≤◌, ℕ, inl, inr, true, false, true≢false, List, [], ◌∷◌, ◌++◌, drop, Option, Some, Ok, refl, sym, ap, subst, ◌∙◌, append_assoc, arith, ◌<◌, length, LongHand, filter_at, Context}
-use Rattle.serde_json_path_parser.proofs.Reading.{begins_where, blanks_of, spread, differs, no_blank, past_end, no_longer, begins_not, some_begun, begins_front, begins_differs, whole, front_each, front_begins, front_all, past_run, Spaced, after_one, many_again, Plain, Inner, Outcome, gives, choose, weaker, past_text, past_spaced, along, onward, after_spaced, remade, with_blanks, after_sign, made_spaced, inner, guarded, after, read_spaced, made, many_outcome, Takes, past_through, begins_other}
+use Rattle.serde_json_path_parser.proofs.Words.{ℤ, ◌==◌, append-nil, Slice, Selector, slice, index, IsBound, IsSliceStep, IsSlice, false_from_ne_true, begins, is_blank, is_digit, IsBlank, IsInt, Parsed, past_blanks, begins_int, read_bound, read_step, read_slice, read_index_or_slice, read_selector, None, name, wildcard, filter, IsQuote, read_quoted, read_string, Signature, codes, SegmentKind, long_hand, Selectors, no_selectors, selector, ExpectedClosingBracket, ReadSelectors, ReadMoreSelectors, dots_before_bracket, read_next_selector, read_selectors, selector_list, read_bracket, Deeper, AreTypedSelectors, selectors_depth, is_at, length-append, child, descendant, Segments, no_segments, segment, Segment, dot_name, dot_wildcard, BadMemberName, is_name_first, is_name_char, IsName, Joined, opens, dots_before_name, front, many, after_dot, read_name, read_dotted, read_descendant, read_after_dot, read_segment, opens_next, read_next_segment, read_segments, segment_list, ◌≡◌, ◌≤◌, ℕ, inl, inr, true, false, true≢false, List, [], ◌∷◌, ◌++◌, drop, Option, Some, Ok, refl, sym, ap, subst, ◌∙◌, append_assoc, arith, ◌<◌, length, LongHand, read_filter, Context}
+use Rattle.serde_json_path_parser.proofs.Reading.{begins_where, blanks_of, spread, differs, no_blank, past_end, no_longer, begins_not, some_begun, begins_front, begins_differs, whole, front_each, front_begins, front_all, past_run, Spaced, after_one, many_again, Plain, Inner, Outcome, gives, choose, weaker, past_text, past_spaced, along, onward, after_spaced, remade, with_blanks, after_sign, made_spaced, inner, guarded, after, read_spaced, made, many_outcome, Consumes, past_through, begins_other}
 use Rattle.serde_json_path_parser.proofs.Grammar.LogicalForms.{DeeperLaws, IsSelectorText, IsSegmentText, ends_selectors, ends_selector, filter_outcome, filter_again, AreSegmentsText}
 use Rattle.serde_json_path_parser.proofs.Grammar.Numbers.{int_outcome, int_again, int_not, int_no_blank, int_first}
 use Rattle.serde_json_path_parser.proofs.Grammar.Strings.{string_outcome, string_again, of_quote}
-use Rattle.serde_json_path_parser.proofs.Rows.{Follows, AreRows, RowLaw, next_takes, row_outcome, row_again}
+use Rattle.serde_json_path_parser.proofs.Rows.{Follows, AreRows, RowLaw, next_consumes, row_outcome, row_again}
 
 -- ---- slices: what a reading gives
 
-pub bound_outcome : (cs : List ℕ) → Outcome (λ t i. IsBound i t) Plain cs (bound_at cs)
+pub bound_outcome : (cs : List ℕ) → Outcome (λ t i. IsBound i t) Plain cs (read_bound cs)
 bound_outcome cs =
     choose (λ _. onward (int_outcome cs) (λ i _ r. let s = with_blanks IsInt cs i r in gives (Some i.0, past_blanks i.1) (record { text = s.text; is_so = s.is_so; split = s.split }))) (λ _.
     gives (None, cs) (record { text = []; is_so = refl; split = refl }))
@@ -19,19 +19,19 @@ step_is t k None blank e = (58 ∷ [], k, inr refl, blank, ap (λ (l : List ℕ)
 step_is t k (Some i) blank b =
     (58 ∷ (k ++ b.0), b.1, (k, b.0, blank, b.2, refl), b.3, ap (λ (l : List ℕ). 58 ∷ (k ++ l)) b.4 ∙ sym (append_assoc (58 ∷ k) b.0 b.1))
 
-step_outcome : (cs : List ℕ) → Outcome (Spaced (λ t i. IsSliceStep i t)) Plain cs (step_at cs)
+step_outcome : (cs : List ℕ) → Outcome (Spaced (λ t i. IsSliceStep i t)) Plain cs (read_step cs)
 step_outcome cs =
     choose (λ e. past_text (58 ∷ blanks_of (drop 1 cs)) (after_sign 58 cs e) (weaker (λ t i b. step_is t (blanks_of (drop 1 cs)) i (front_each is_blank (drop 1 cs)) b) (bound_outcome (past_blanks (drop 1 cs))))) (λ _.
     gives (None, cs) (record { text = []; is_so = ([], [], inl refl, tt, refl); split = refl }))
 
 -- after the first bound and the colon
-pub slice_outcome : (start : Option ℤ) (a cs : List ℕ) → IsBound start a → Outcome (Spaced (λ t s. IsSlice s t)) Plain (a ++ (58 ∷ cs)) (slice_at start cs)
+pub slice_outcome : (start : Option ℤ) (a cs : List ℕ) → IsBound start a → Outcome (Spaced (λ t s. IsSlice s t)) Plain (a ++ (58 ∷ cs)) (read_slice start cs)
 slice_outcome start a cs first =
     let k = blanks_of cs in
     past_spaced (a ++ (58 ∷ k)) (ap (λ (l : List ℕ). a ++ (58 ∷ l)) (whole is_blank cs) ∙ sym (append_assoc a (58 ∷ k) (past_blanks cs))) (after_spaced (bound_outcome (past_blanks cs)) (λ end _ b.
     remade (λ step. record { start = start; end = end.0; step = step }) (λ c step h. (a, k, b.text, c, first, front_each is_blank cs, b.is_so, h, append_assoc a (58 ∷ k) (b.text ++ c))) (step_outcome end.1)))
 
-pub position_outcome : (signature : List ℕ → Option Signature) (n : ℕ) (cs : List ℕ) → Outcome (Spaced (IsSelectorText signature n)) Plain cs (position_at cs)
+pub position_outcome : (signature : List ℕ → Option Signature) (n : ℕ) (cs : List ℕ) → Outcome (Spaced (IsSelectorText signature n)) Plain cs (read_index_or_slice cs)
 position_outcome signature n cs = onward (int_outcome cs) (λ i _ r.
     let rest = past_blanks i.1 in
     let s = with_blanks IsInt cs i r in
@@ -57,14 +57,14 @@ ends_digits (c ∷ cs) h = false_from_ne_true (is_digit c) (λ d.
     let begun : begins begins_int (past_blanks (c ∷ cs)) ≡ true = rw (no_blank is_digit c refl refl refl refl d, differs is_digit 45 c refl d, d) refl in
     true≢false (sym begun ∙ h))
 
-bound_again : (e : Option ℤ) (t rest : List ℕ) → IsBound e t → Ends rest → bound_at (past_blanks (t ++ rest)) ≡ Ok (e, past_blanks rest)
-bound_again None t rest b ends = ap (λ (l : List ℕ). bound_at (past_blanks (l ++ rest))) b ∙ rw ends refl
+bound_again : (e : Option ℤ) (t rest : List ℕ) → IsBound e t → Ends rest → read_bound (past_blanks (t ++ rest)) ≡ Ok (e, past_blanks rest)
+bound_again None t rest b ends = ap (λ (l : List ℕ). read_bound (past_blanks (l ++ rest))) b ∙ rw ends refl
 bound_again (Some i) t rest (a, k, is, blank, e) ends =
     let here : past_blanks (t ++ rest) ≡ a ++ (k ++ rest) = rw (e, append_assoc a k rest) (past_end is_blank (a ++ (k ++ rest)) (int_no_blank a i (k ++ rest) is)) in
     let further : begins is_digit (k ++ rest) ≡ false = ends_digits (k ++ rest) (rw (past_through is_blank k rest blank) ends) in
     rw (here, int_first begins_int true a i (k ++ rest) (λ c e. e) is, int_again a i (k ++ rest) is further, past_through is_blank k rest blank) refl
 
-step_again : (e : Option ℤ) (t rest : List ℕ) → IsSliceStep e t → Follows ends_selector rest → step_at (past_blanks (t ++ rest)) ≡ Ok (e, past_blanks rest)
+step_again : (e : Option ℤ) (t rest : List ℕ) → IsSliceStep e t → Follows ends_selector rest → read_step (past_blanks (t ++ rest)) ≡ Ok (e, past_blanks rest)
 step_again None t rest (inl e) closes = rw (e, no_colon rest closes) refl
 step_again None t rest (inr e) closes = rw e (bound_again None [] rest refl (closed_ends rest closes))
 step_again (Some i) t rest (k, a, blank, is, e) closes =
@@ -77,11 +77,11 @@ step_ends (Some i) t rest (k, a, blank, is, e) closes = subst (λ (l : List ℕ)
 
 -- after the first colon
 parts_again : (start end step : Option ℤ) (k b c rest : List ℕ) → IsBlank k → IsBound end b → IsSliceStep step c → Follows ends_selector rest
-    → slice_at start (k ++ (b ++ (c ++ rest))) ≡ Ok (record { start = start; end = end; step = step }, past_blanks rest)
+    → read_slice start (k ++ (b ++ (c ++ rest))) ≡ Ok (record { start = start; end = end; step = step }, past_blanks rest)
 parts_again start end step k b c rest blank second third closes =
     rw (past_through is_blank k (b ++ (c ++ rest)) blank, bound_again end b (c ++ rest) second (step_ends step c rest third closes), step_again step c rest third closes) refl
 
-begun_again : (t k : List ℕ) (i : ℤ) (rest : List ℕ) (s : Slice) (after : List ℕ) → IsInt t i → IsBlank k → slice_at (Some i) rest ≡ Ok (s, after) → position_at (t ++ (k ++ (58 ∷ rest))) ≡ Ok (slice s, after)
+begun_again : (t k : List ℕ) (i : ℤ) (rest : List ℕ) (s : Slice) (after : List ℕ) → IsInt t i → IsBlank k → read_slice (Some i) rest ≡ Ok (s, after) → read_index_or_slice (t ++ (k ++ (58 ∷ rest))) ≡ Ok (slice s, after)
 begun_again t k i rest s after is blank read =
     let colon : past_blanks (k ++ (58 ∷ rest)) ≡ 58 ∷ rest = past_through is_blank k (58 ∷ rest) blank in
     let further = ends_digits (k ++ (58 ∷ rest)) (ap (begins begins_int) colon) in
@@ -98,18 +98,18 @@ slice_no_blank t s rest (a, k, b, c, first, blank, second, third, e) = by_start 
         rw (e, text, append_assoc n j tail, append_assoc n (j ++ tail) rest) (int_no_blank n i ((j ++ tail) ++ rest) is)
 
 -- the same as selectors
-module _ (filter_at : List ℕ → Parsed Selector) where
-  at_position : (t : List ℕ) (i : ℤ) (rest : List ℕ) → IsInt t i → selector_at filter_at (t ++ rest) ≡ position_at (t ++ rest)
+module _ (read_filter : List ℕ → Parsed Selector) where
+  at_position : (t : List ℕ) (i : ℤ) (rest : List ℕ) → IsInt t i → read_selector read_filter (t ++ rest) ≡ read_index_or_slice (t ++ rest)
   at_position t i rest is = rw (int_not 39 t i rest refl is, int_not 34 t i rest refl is, int_not 42 t i rest refl is, int_not 58 t i rest refl is, int_not 63 t i rest refl is) refl
 
-  pub index_again : (t : List ℕ) (i : ℤ) (rest : List ℕ) → IsInt t i → Follows ends_selector rest → selector_at filter_at (t ++ rest) ≡ Ok (index i, past_blanks rest)
+  pub index_again : (t : List ℕ) (i : ℤ) (rest : List ℕ) → IsInt t i → Follows ends_selector rest → read_selector read_filter (t ++ rest) ≡ Ok (index i, past_blanks rest)
   index_again t i rest is closes = at_position t i rest is ∙ rw (int_again t i rest is (ends_digits rest (closed_ends rest closes)), no_colon rest closes) refl
 
-  pub slice_again : (t : List ℕ) (s : Slice) (rest : List ℕ) → IsSlice s t → Follows ends_selector rest → selector_at filter_at (t ++ rest) ≡ Ok (slice s, past_blanks rest)
+  pub slice_again : (t : List ℕ) (s : Slice) (rest : List ℕ) → IsSlice s t → Follows ends_selector rest → read_selector read_filter (t ++ rest) ≡ Ok (slice s, past_blanks rest)
   slice_again t s rest (a, k, b, c, first, blank, second, third, e) closes = by_start s.start refl first
     where
-      parts : (start : Option ℤ) → s.start ≡ start → slice_at start (k ++ (b ++ (c ++ rest))) ≡ Ok (s, past_blanks rest)
-      parts start same = subst (λ start. slice_at start (k ++ (b ++ (c ++ rest))) ≡ Ok (s, past_blanks rest)) same (parts_again s.start s.end s.step k b c rest blank second third closes)
+      parts : (start : Option ℤ) → s.start ≡ start → read_slice start (k ++ (b ++ (c ++ rest))) ≡ Ok (s, past_blanks rest)
+      parts start same = subst (λ start. read_slice start (k ++ (b ++ (c ++ rest))) ≡ Ok (s, past_blanks rest)) same (parts_again s.start s.end s.step k b c rest blank second third closes)
 
       regroup : (a : List ℕ) → (a ++ (58 ∷ (k ++ (b ++ c)))) ++ rest ≡ a ++ (58 ∷ (k ++ (b ++ (c ++ rest))))
       regroup a = simp append_assoc refl
@@ -117,31 +117,31 @@ module _ (filter_at : List ℕ → Parsed Selector) where
       here : t ++ rest ≡ a ++ (58 ∷ (k ++ (b ++ (c ++ rest))))
       here = ap (λ (l : List ℕ). l ++ rest) e ∙ regroup a
 
-      by_start : (start : Option ℤ) → s.start ≡ start → IsBound start a → selector_at filter_at (t ++ rest) ≡ Ok (slice s, past_blanks rest)
+      by_start : (start : Option ℤ) → s.start ≡ start → IsBound start a → read_selector read_filter (t ++ rest) ≡ Ok (slice s, past_blanks rest)
       by_start None same none =
-          ap (selector_at filter_at) (here ∙ ap (λ (l : List ℕ). l ++ (58 ∷ (k ++ (b ++ (c ++ rest))))) none) ∙ rw (parts None same) refl
+          ap (read_selector read_filter) (here ∙ ap (λ (l : List ℕ). l ++ (58 ∷ (k ++ (b ++ (c ++ rest))))) none) ∙ rw (parts None same) refl
       by_start (Some i) same (n, j, is, gap, text) =
           let tail = 58 ∷ (k ++ (b ++ (c ++ rest))) in
           let begun : t ++ rest ≡ n ++ (j ++ tail) = here ∙ ap (λ (l : List ℕ). l ++ tail) text ∙ append_assoc n j tail in
-          ap (selector_at filter_at) begun ∙ at_position n i (j ++ tail) is ∙ begun_again n j i (k ++ (b ++ (c ++ rest))) s (past_blanks rest) is gap (parts (Some i) same)
+          ap (read_selector read_filter) begun ∙ at_position n i (j ++ tail) is ∙ begun_again n j i (k ++ (b ++ (c ++ rest))) s (past_blanks rest) is gap (parts (Some i) same)
 
 -- ---- member names
 
-name_outcome : (at : Context) (cs : List ℕ) → Outcome IsName Plain cs (name_at at cs)
+name_outcome : (at : Context) (cs : List ℕ) → Outcome IsName Plain cs (read_name at cs)
 name_outcome at cs = guarded BadMemberName at refl (λ e. gives _ (record {
   text = front is_name_char cs;
   is_so = record { first = front_begins is_name_char is_name_first cs (λ c h. rw h refl) e; each = front_each is_name_char cs; bytes_of = refl };
   split = whole is_name_char cs;
 }))
 
-name_again : (here : Context) (t n rest : List ℕ) → IsName t n → begins is_name_char rest ≡ false → name_at here (t ++ rest) ≡ Ok (n, rest)
+name_again : (here : Context) (t n rest : List ℕ) → IsName t n → begins is_name_char rest ≡ false → read_name here (t ++ rest) ≡ Ok (n, rest)
 name_again here t n rest h e = rw (begins_front is_name_first true t rest (some_begun is_name_first t h.first) h.first, front_all is_name_char t rest h.each e, past_run is_name_char t rest h.each e, ← h.bytes_of) refl
 
 -- a name begins with no character that may not begin it
 name_begins_not : (k : ℕ) (t n rest : List ℕ) → is_name_first k ≡ false → IsName t n → begins (λ c. c == k) (t ++ rest) ≡ false
 name_begins_not k t n rest none h = begins_differs is_name_first k (t ++ rest) none (begins_front is_name_first true t rest (some_begun is_name_first t h.first) h.first)
 
-dotted_again : (here : Context) (t n rest : List ℕ) → IsName t n → begins is_name_char rest ≡ false → dotted_at here (t ++ rest) ≡ Ok (dot_name n, rest)
+dotted_again : (here : Context) (t n rest : List ℕ) → IsName t n → begins is_name_char rest ≡ false → read_dotted here (t ++ rest) ≡ Ok (dot_name n, rest)
 dotted_again here t n rest h e = rw (name_begins_not 42 t n rest refl h, name_again here t n rest h e) refl
 
 abbrev pub segments_in : Segments → List (SegmentKind × Segment)
@@ -156,14 +156,14 @@ same_segments (segment kind seg more) = ap (segment kind seg) (same_segments mor
 
 module _ (signature : List ℕ → Option Signature) (n : ℕ) (deeper : Deeper) (laws : DeeperLaws signature n deeper) where
   abbrev filters : List ℕ → Parsed Selector
-  filters cs = filter_at signature deeper cs
+  filters cs = read_filter signature deeper cs
 
-  quoted_outcome : (quote : ℕ) (cs : List ℕ) → IsQuote quote → begins (λ c. c == quote) cs ≡ true → Outcome (Spaced (IsSelectorText signature n)) (Inner signature) cs (quoted_at quote (drop 1 cs))
-  unfolding quoted_at
+  quoted_outcome : (quote : ℕ) (cs : List ℕ) → IsQuote quote → begins (λ c. c == quote) cs ≡ true → Outcome (Spaced (IsSelectorText signature n)) (Inner signature) cs (read_quoted quote (drop 1 cs))
+  unfolding read_quoted
   quoted_outcome quote cs is e =
       inner (along (after_one quote cs e) (made_spaced (λ bytes. name bytes) (λ t bytes h. ((tt, omega arith), h)) (string_outcome quote is (drop 1 cs))))
 
-  pub selector_outcome : (cs : List ℕ) → Outcome (Spaced (IsSelectorText signature n)) (Inner signature) cs (selector_at filters cs)
+  pub selector_outcome : (cs : List ℕ) → Outcome (Spaced (IsSelectorText signature n)) (Inner signature) cs (read_selector filters cs)
   selector_outcome cs =
       choose (quoted_outcome 39 cs (inl refl)) (λ _.
       choose (quoted_outcome 34 cs (inr refl)) (λ _.
@@ -173,19 +173,19 @@ module _ (signature : List ℕ → Option Signature) (n : ℕ) (deeper : Deeper)
 
   -- ---- each selector is read
 
-  quoted_again : (quote : ℕ) (cs bytes rest : List ℕ) → IsQuote quote → string_at quote cs ≡ Ok (bytes, rest) → selector_at filters (quote ∷ cs) ≡ Ok (name bytes, past_blanks rest)
-  unfolding quoted_at
-  quoted_again quote cs bytes rest is e = of_quote (λ q. string_at q cs ≡ Ok (bytes, rest) → selector_at filters (q ∷ cs) ≡ Ok (name bytes, past_blanks rest)) (λ e. rw e refl) (λ e. rw e refl) quote is e
+  quoted_again : (quote : ℕ) (cs bytes rest : List ℕ) → IsQuote quote → read_string quote cs ≡ Ok (bytes, rest) → read_selector filters (quote ∷ cs) ≡ Ok (name bytes, past_blanks rest)
+  unfolding read_quoted
+  quoted_again quote cs bytes rest is e = of_quote (λ q. read_string q cs ≡ Ok (bytes, rest) → read_selector filters (q ∷ cs) ≡ Ok (name bytes, past_blanks rest)) (λ e. rw e refl) (λ e. rw e refl) quote is e
 
-  pub selector_again : (t : List ℕ) (sel : Selector) (rest : List ℕ) → IsSelectorText signature n t sel → Follows ends_selector rest → selector_at filters (t ++ rest) ≡ Ok (sel, past_blanks rest)
+  pub selector_again : (t : List ℕ) (sel : Selector) (rest : List ℕ) → IsSelectorText signature n t sel → Follows ends_selector rest → read_selector filters (t ++ rest) ≡ Ok (sel, past_blanks rest)
   selector_again t (name bytes) rest h e =
       let s = string_again t bytes rest h.1 in
       rw s.3 (quoted_again s.0 (s.1 ++ rest) bytes rest s.2 s.4)
-  selector_again t wildcard rest h e = ap (λ (l : List ℕ). selector_at filters (l ++ rest)) h.1
+  selector_again t wildcard rest h e = ap (λ (l : List ℕ). read_selector filters (l ++ rest)) h.1
   selector_again t (index i) rest h e = index_again filters t i rest h.1 e
   selector_again t (slice s) rest h e = slice_again filters t s rest h.1 e
   selector_again t (filter f) rest (good, (k, a, blank, is, same)) e =
-      ap (λ (l : List ℕ). selector_at filters (l ++ rest)) same ∙ ap (λ (l : List ℕ). filters (l ++ rest)) (sym same) ∙ filter_again signature n deeper laws t f rest (good, (k, a, blank, is, same)) e
+      ap (λ (l : List ℕ). read_selector filters (l ++ rest)) same ∙ ap (λ (l : List ℕ). filters (l ++ rest)) (sym same) ∙ filter_again signature n deeper laws t f rest (good, (k, a, blank, is, same)) e
 
   begins_no_blank : (t : List ℕ) (sel : Selector) (rest : List ℕ) → IsSelectorText signature n t sel → begins is_blank (t ++ rest) ≡ false
   begins_no_blank t (name bytes) rest h =
@@ -198,11 +198,11 @@ module _ (signature : List ℕ → Option Signature) (n : ℕ) (deeper : Deeper)
 
   -- ---- the selectors of a bracket
 
-  selector_row : RowLaw signature 44 [] (IsSelectorText signature n) (selector_at filters) ends_selectors
+  selector_row : RowLaw signature 44 [] (IsSelectorText signature n) (read_selector filters) ends_selectors
   selector_row = record { outcome = selector_outcome; again = selector_again; starts = begins_no_blank; sign_no_blank = refl; sign_no_end = refl }
 
-  pub next_selector_takes : Takes (is_at ",") (next_selector_at filters)
-  next_selector_takes = next_takes selector_row
+  pub next_selector_consumes : Consumes (is_at ",") (read_next_selector filters)
+  next_selector_consumes = next_consumes selector_row
 
   abbrev AreTyped : Selectors → Type 0
   AreTyped sels = AreTypedSelectors signature sels × (selectors_depth sels ≤ n)
@@ -213,7 +213,7 @@ module _ (signature : List ℕ → Option Signature) (n : ℕ) (deeper : Deeper)
       let more = more_selectors sels c rest in
       (((is.0.0, more.0.0), omega (arith, is.0.1, more.0.1)), (s, a, c, sign, is.1, more.1, e))
 
-  selectors_outcome : (cs : List ℕ) → Outcome (Spaced (λ t sels. AreTyped (selector_list sels) × ReadSelectors (selector_list sels) t)) (Inner signature) (past_blanks cs) (selectors_at filters cs)
+  selectors_outcome : (cs : List ℕ) → Outcome (Spaced (λ t sels. AreTyped (selector_list sels) × ReadSelectors (selector_list sels) t)) (Inner signature) (past_blanks cs) (read_selectors filters cs)
   selectors_outcome cs = onward (selector_outcome (past_blanks cs)) (λ s _ first.
       row_outcome selector_row (λ sels. sels) (λ sel sels t c is rows.
       let more = more_selectors sels c rows in
@@ -227,7 +227,7 @@ module _ (signature : List ℕ → Option Signature) (n : ℕ) (deeper : Deeper)
 
   -- ---- the bracket
 
-  pub bracket_outcome : (kind : SegmentKind) (cs : List ℕ) → Outcome (IsSegmentText signature n kind) (Inner signature) (dots_before_bracket kind ++ (91 ∷ cs)) (bracket_at filters cs)
+  pub bracket_outcome : (kind : SegmentKind) (cs : List ℕ) → Outcome (IsSegmentText signature n kind) (Inner signature) (dots_before_bracket kind ++ (91 ∷ cs)) (read_bracket filters cs)
   bracket_outcome kind cs =
       let dots = dots_before_bracket kind in
       let j = blanks_of cs in
@@ -252,7 +252,7 @@ module _ (signature : List ℕ → Option Signature) (n : ℕ) (deeper : Deeper)
       }))))
 
   -- after `[`
-  pub bracket_again : (sels : Selectors) (j t k rest : List ℕ) → IsBlank j → ReadSelectors sels t → IsBlank k → AreTyped sels → bracket_at filters ((j ++ (t ++ (k ++ 93 ∷ []))) ++ rest) ≡ Ok (long_hand sels, rest)
+  pub bracket_again : (sels : Selectors) (j t k rest : List ℕ) → IsBlank j → ReadSelectors sels t → IsBlank k → AreTyped sels → read_bracket filters ((j ++ (t ++ (k ++ 93 ∷ []))) ++ rest) ≡ Ok (long_hand sels, rest)
   bracket_again no_selectors j t k rest before is after good = absurd is
   bracket_again (selector sel more) j t k rest before (a, c, is, others, e) after good =
       let closing = k ++ (93 ∷ rest) in
@@ -262,19 +262,19 @@ module _ (signature : List ℕ → Option Signature) (n : ℕ) (deeper : Deeper)
       let begun : past_blanks (j ++ (t ++ closing)) ≡ t ++ closing =
       rw (e, append_assoc a c closing) (past_run is_blank j (a ++ (c ++ closing)) before (begins_no_blank a sel (c ++ closing) first)) in
       let read = row_again selector_row (λ sels. sels) sel rows.0 t a c closing first rows.2 e (ap (begins ends_selectors) closed) in
-      ap (bracket_at filters) (spread j t k (codes "]") rest) ∙ rw (begun, read, closed, rows.1) refl
+      ap (read_bracket filters) (spread j t k (codes "]") rest) ∙ rw (begun, read, closed, rows.1) refl
 
   -- ---- segments that stand here
 
   module _ (here : Context) where
     -- ---- after the dots
 
-    dotted_outcome : (kind : SegmentKind) (at : Context) (cs : List ℕ) → Outcome (IsSegmentText signature n kind) Plain (dots_before_name kind ++ cs) (dotted_at at cs)
+    dotted_outcome : (kind : SegmentKind) (at : Context) (cs : List ℕ) → Outcome (IsSegmentText signature n kind) Plain (dots_before_name kind ++ cs) (read_dotted at cs)
     dotted_outcome kind at cs =
         past_text (dots_before_name kind) refl
         (choose (λ e. gives (dot_wildcard, drop 1 cs) (record { text = 42 ∷ []; is_so = ((tt, omega arith), refl); split = after_one 42 cs e })) (λ _. made (λ n. dot_name n) (λ t n is. ((tt, omega arith), (t, is, refl))) (name_outcome at cs)))
 
-    descendant_outcome : (cs : List ℕ) → Outcome (IsSegmentText signature n descendant) (Inner signature) (46 ∷ 46 ∷ cs) (descendant_at filters here cs)
+    descendant_outcome : (cs : List ℕ) → Outcome (IsSegmentText signature n descendant) (Inner signature) (46 ∷ 46 ∷ cs) (read_descendant filters here cs)
     descendant_outcome cs =
         choose (λ e. along (ap (λ (l : List ℕ). 46 ∷ 46 ∷ l) (after_one 91 cs e)) (bracket_outcome descendant (drop 1 cs))) (λ _. inner (dotted_outcome descendant here cs))
 
@@ -284,12 +284,12 @@ module _ (signature : List ℕ → Option Signature) (n : ℕ) (deeper : Deeper)
     abbrev pub IsItem : List ℕ → (SegmentKind × Segment) → Type 0
     IsItem t x = IsSegmentText signature n x.0 t x.1
 
-    dot_outcome : (cs : List ℕ) → Outcome IsItem (Inner signature) (46 ∷ cs) (dot_at filters here cs)
+    dot_outcome : (cs : List ℕ) → Outcome IsItem (Inner signature) (46 ∷ cs) (read_after_dot filters here cs)
     dot_outcome cs =
         choose (λ e. along (ap (λ (l : List ℕ). 46 ∷ l) (after_one 46 cs e)) (made (λ s. (descendant, s)) (λ t s is. is) (descendant_outcome (drop 1 cs)))) (λ _.
         made (λ s. (child, s)) (λ t s is. is) (inner (dotted_outcome child (after_dot here) cs)))
 
-    segment_outcome : (cs : List ℕ) → begins opens cs ≡ true → Outcome IsItem (Inner signature) cs (segment_at filters here cs)
+    segment_outcome : (cs : List ℕ) → begins opens cs ≡ true → Outcome IsItem (Inner signature) cs (read_segment filters here cs)
     segment_outcome cs o =
         choose (λ e. along (after_one 46 cs e) (dot_outcome (drop 1 cs))) (λ e.
         along (after_one 91 cs (begins_other 46 91 cs o e)) (made (λ s. (child, s)) (λ t s is. is) (bracket_outcome child (drop 1 cs))))
@@ -298,7 +298,7 @@ module _ (signature : List ℕ → Option Signature) (n : ℕ) (deeper : Deeper)
     abbrev pub IsNextItem : List ℕ → (SegmentKind × Segment) → Type 0
     IsNextItem t x = (k a : List ℕ) × IsBlank k × IsItem a x × (t ≡ k ++ a)
 
-    next_segment_outcome : (cs : List ℕ) → opens_next cs ≡ true → Outcome IsNextItem (Inner signature) cs (next_segment_at filters here cs)
+    next_segment_outcome : (cs : List ℕ) → opens_next cs ≡ true → Outcome IsNextItem (Inner signature) cs (read_next_segment filters here cs)
     next_segment_outcome cs o = past_text (blanks_of cs) (whole is_blank cs) (weaker (λ t x is. (blanks_of cs, t, front_each is_blank cs, is, refl)) (segment_outcome (past_blanks cs) o))
 
     -- ---- how a segment's text begins
@@ -327,7 +327,7 @@ module _ (signature : List ℕ → Option Signature) (n : ℕ) (deeper : Deeper)
 
     -- ---- each segment is read
 
-    segment_again : (t : List ℕ) (x : SegmentKind × Segment) (rest : List ℕ) → IsItem t x → begins is_name_char rest ≡ false → segment_at filters here (t ++ rest) ≡ Ok (x, rest)
+    segment_again : (t : List ℕ) (x : SegmentKind × Segment) (rest : List ℕ) → IsItem t x → begins is_name_char rest ≡ false → read_segment filters here (t ++ rest) ≡ Ok (x, rest)
     segment_again t (child, dot_name n) rest h e = rw (h.1.2, name_begins_not 46 h.1.0 n rest refl h.1.1, dotted_again (after_dot here) h.1.0 n rest h.1.1 e) refl
     segment_again t (descendant, dot_name n) rest h e = rw (h.1.2, name_begins_not 91 h.1.0 n rest refl h.1.1, dotted_again here h.1.0 n rest h.1.1 e) refl
     segment_again t (child, dot_wildcard) rest h e = rw h.1 refl
@@ -335,18 +335,18 @@ module _ (signature : List ℕ → Option Signature) (n : ℕ) (deeper : Deeper)
     segment_again t (child, long_hand sels) rest h e = rw (h.1.6, bracket_again sels h.1.0 h.1.1 h.1.2 rest h.1.3 h.1.4 h.1.5 h.0) refl
     segment_again t (descendant, long_hand sels) rest h e = rw (h.1.6, bracket_again sels h.1.0 h.1.1 h.1.2 rest h.1.3 h.1.4 h.1.5 h.0) refl
 
-    next_again : (t : List ℕ) (x : SegmentKind × Segment) (rest : List ℕ) → IsNextItem t x → begins is_name_char rest ≡ false → next_segment_at filters here (t ++ rest) ≡ Ok (x, rest)
-    next_again t x rest h e = ap (segment_at filters here) (past_next t x rest h) ∙ segment_again h.1 x rest h.3 e
+    next_again : (t : List ℕ) (x : SegmentKind × Segment) (rest : List ℕ) → IsNextItem t x → begins is_name_char rest ≡ false → read_next_segment filters here (t ++ rest) ≡ Ok (x, rest)
+    next_again t x rest h e = ap (read_segment filters here) (past_next t x rest h) ∙ segment_again h.1 x rest h.3 e
 
     -- ---- all segments
 
-    pub segment_shorter : (cs rest : List ℕ) (x : SegmentKind × Segment) → begins opens cs ≡ true → segment_at filters here cs ≡ Ok (x, rest) → length rest < length cs
+    pub segment_shorter : (cs rest : List ℕ) (x : SegmentKind × Segment) → begins opens cs ≡ true → read_segment filters here cs ≡ Ok (x, rest) → length rest < length cs
     segment_shorter cs rest x o e =
         let r = (segment_outcome cs o).reads (x, rest) e in
         omega (arith, ap length r.split, length-append r.text rest, some_begun opens (r.text ++ []) (item_begins r.text x [] r.is_so), length-append r.text [])
 
-    pub next_segment_takes : Takes opens_next (next_segment_at filters here)
-    next_segment_takes = record {
+    pub next_segment_consumes : Consumes opens_next (read_next_segment filters here)
+    next_segment_consumes = record {
       shorter = λ cs rest x o e. omega (arith, segment_shorter (past_blanks cs) rest x o e, no_longer cs);
       some = λ cs o. omega (arith, some_begun opens (past_blanks cs) o, no_longer cs);
     }
@@ -360,15 +360,15 @@ module _ (signature : List ℕ → Option Signature) (n : ℕ) (deeper : Deeper)
           (first.0, first.1, h.1, first.2, first.3.1, rest.1, h.4 ∙ ap (λ (l : List ℕ). l ++ h.1) first.4 ∙ append_assoc first.0 first.1 h.1),
         )
 
-    pub segments_outcome : (cs : List ℕ) → Outcome (λ t (ss : List (SegmentKind × Segment)). AreSegmentsText signature n t (segment_list ss)) (Inner signature) cs (segments_at filters here cs)
+    pub segments_outcome : (cs : List ℕ) → Outcome (λ t (ss : List (SegmentKind × Segment)). AreSegmentsText signature n t (segment_list ss)) (Inner signature) cs (read_segments filters here cs)
     unfolding many
-    segments_outcome cs = weaker listed (many_outcome IsNextItem (Inner signature) opens_next (next_segment_at filters here) next_segment_outcome (length cs) cs)
+    segments_outcome cs = weaker listed (many_outcome IsNextItem (Inner signature) opens_next (read_next_segment filters here) next_segment_outcome (length cs) cs)
 
     are_joined : (t : List ℕ) (segs : Segments) → AreSegmentsText signature n t segs → Joined IsNextItem t (segments_in segs)
     are_joined t no_segments h = h.1
     are_joined t (segment kind seg more) (good, (k, a, b, blank, is, rest, e)) =
         (k ++ a, b, (k, a, blank, ((good.0.0, omega (arith, good.1)), is), refl), are_joined b more ((good.0.1, omega (arith, good.1)), rest), e ∙ sym (append_assoc k a b))
 
-    pub segments_again : (t : List ℕ) (segs : Segments) (rest : List ℕ) → AreSegmentsText signature n t segs → begins is_name_char rest ≡ false → opens_next rest ≡ false → segments_at filters here (t ++ rest) ≡ Ok (segments_in segs, rest)
+    pub segments_again : (t : List ℕ) (segs : Segments) (rest : List ℕ) → AreSegmentsText signature n t segs → begins is_name_char rest ≡ false → opens_next rest ≡ false → read_segments filters here (t ++ rest) ≡ Ok (segments_in segs, rest)
     segments_again t segs rest h s e =
-        many_again (record { takes = next_segment_takes; again = next_again; starts = next_segment_begins; failures = next_stops }) t (segments_in segs) rest (are_joined t segs h) s e
+        many_again (record { consumes = next_segment_consumes; again = next_again; starts = next_segment_begins; failures = next_stops }) t (segments_in segs) rest (are_joined t segs h) s e

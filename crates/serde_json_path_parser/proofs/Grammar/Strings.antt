@@ -1,7 +1,7 @@
 -- String literals: what is read is one, each is read, and where a refusal of one stands.
-use Rattle.serde_json_path_parser.proofs.Words.{cases_lt, nat_le, ◌==◌, not, encode_utf8, encode_utf8_all, eq-eqb, and_parts, eqb_tells, length-append, append-nil, ExpectedEndingQuote, BadEscape, ControlCharacter, ◌∈◌, AllPass, is_at, begins, hexadecimal_of, IsHex4, IsPiece, plain, quote_escape, letter_escape, hex_escape, pair_escape, IsQuote, IsString, Parsed, ◌>>=◌, refusal, many, byte_count, is_hexadecimal, head, hexadecimal_at, hex4_at, is_high, is_low, low_at, unicode_at, is_letter_escape, letter_value, escape_at, is_control, piece_at, is_inside, string_at, is_ascii_plain, Stretched, encode_ascii, Failure, Fails, ◌≡◌, ℕ, ◌≤◌, ◌+◌, ◌*◌, ◌<◌, ◌⊎◌, inl, inr, Bool, true, false, cond, ◌&&◌, List, [], ◌∷◌, ◌++◌, length, drop, Some, Ok, Err, refl, sym, ap, subst, ◌∙◌, append_assoc, arith, LongHand, Memory, Refused, is_plain}
+use Rattle.serde_json_path_parser.proofs.Words.{cases_lt, nat_le, ◌==◌, not, encode_utf8, encode_utf8_all, eq-eqb, and_parts, eqb_tells, length-append, append-nil, ExpectedEndingQuote, BadEscape, ControlCharacter, ◌∈◌, AllPass, is_at, begins, hexadecimal_of, IsHex4, IsPiece, plain, quote_escape, letter_escape, hex_escape, pair_escape, IsQuote, IsString, Parsed, ◌>>=◌, refusal, many, byte_count, is_hexadecimal, head, read_hexadecimal, read_hex4, is_high, is_low, read_low, read_unicode, is_letter_escape, letter_value, read_escape, is_control, read_piece, is_inside, read_string, is_ascii_plain, Stretched, encode_ascii, Failure, Fails, ◌≡◌, ℕ, ◌≤◌, ◌+◌, ◌*◌, ◌<◌, ◌⊎◌, inl, inr, Bool, true, false, cond, ◌&&◌, List, [], ◌∷◌, ◌++◌, length, drop, Some, Ok, Err, refl, sym, ap, subst, ◌∙◌, append_assoc, arith, LongHand, Memory, Refused, is_plain}
 use Rattle.serde_json_path_parser.proofs.Texts.{ascii_that}
-use Rattle.serde_json_path_parser.proofs.Reading.{some_begun, after_one, Again, many_again, Plain, OutcomeIn, Outcome, gives, refused, choose, guarded, past_text, past_in, onward, after, after_in, made, many_outcome, Takes, many_end, many_err, many_more, with_front}
+use Rattle.serde_json_path_parser.proofs.Reading.{some_begun, after_one, Again, many_again, Plain, OutcomeIn, Outcome, gives, refused, choose, guarded, past_text, past_in, onward, after, after_in, made, many_outcome, Consumes, many_end, many_err, many_more, with_front}
 
 -- ---- what a reading gives: hexadecimal digits
 
@@ -12,12 +12,12 @@ first_is p (c ∷ cs) e = (refl, e)
 abbrev IsHexDigit : List ℕ → ℕ → Type 0
 IsHexDigit t n = (c : ℕ) × (t ≡ c ∷ []) × (hexadecimal_of c ≡ Some n)
 
-hexadecimal_outcome : (escape cs : List ℕ) → OutcomeIn IsHexDigit Plain escape cs (hexadecimal_at (byte_count escape) cs)
+hexadecimal_outcome : (escape cs : List ℕ) → OutcomeIn IsHexDigit Plain escape cs (read_hexadecimal (byte_count escape) cs)
 hexadecimal_outcome escape cs = guarded BadEscape LongHand refl (λ e.
     let first = first_is is_hexadecimal cs e in
     gives _ (record { text = head cs ∷ []; is_so = (head cs, refl, let digit = first.1 in grind (arith, digit)); split = first.0 }))
 
-hex4_outcome : (escape cs : List ℕ) → OutcomeIn IsHex4 Plain escape cs (hex4_at (byte_count escape) cs)
+hex4_outcome : (escape cs : List ℕ) → OutcomeIn IsHex4 Plain escape cs (read_hex4 (byte_count escape) cs)
 hex4_outcome escape cs =
     after_in (hexadecimal_outcome escape cs) (λ a _ p.
     after_in (hexadecimal_outcome escape a.1) (λ b _ q.
@@ -56,7 +56,7 @@ slash_and_u cs slash letter = after_one 92 cs slash ∙ ap (λ (l : List ℕ). 9
 
 -- after a high surrogate, of these digits
 low_outcome : (quote : ℕ) (escape t : List ℕ) (high : ℕ) (cs : List ℕ) → IsHex4 t high → is_high high ≡ true
-    → OutcomeIn (λ u c. IsPiece quote (92 ∷ 117 ∷ (t ++ u)) c) Plain escape cs (low_at (byte_count escape) high cs)
+    → OutcomeIn (λ u c. IsPiece quote (92 ∷ 117 ∷ (t ++ u)) c) Plain escape cs (read_low (byte_count escape) high cs)
 low_outcome quote escape t high cs first h =
     guarded BadEscape LongHand refl (λ slash.
     guarded BadEscape LongHand refl (λ letter.
@@ -65,7 +65,7 @@ low_outcome quote escape t high cs first h =
     gives _ (record { text = second.text; is_so = pair_escape t second.text high l.0 first second.is_so (range_of 0xd800 0xdbff high h) (range_of 0xdc00 0xdfff l.0 low); split = second.split }))))))
 
 -- after a backslash and `u`
-unicode_outcome : (quote : ℕ) (escape cs : List ℕ) → OutcomeIn (λ t c. IsPiece quote (92 ∷ 117 ∷ t) c) Plain escape cs (unicode_at (byte_count escape) cs)
+unicode_outcome : (quote : ℕ) (escape cs : List ℕ) → OutcomeIn (λ t c. IsPiece quote (92 ∷ 117 ∷ t) c) Plain escape cs (read_unicode (byte_count escape) cs)
 unicode_outcome quote escape cs = onward (hex4_outcome escape cs) (λ h _ first.
     choose (λ high. past_in first.text first.split (low_outcome quote escape first.text h.0 h.1 first.is_so high)) (λ high.
     choose (λ _. refused BadEscape LongHand refl) (λ low.
@@ -82,7 +82,7 @@ letter_sound quote letter is e = elim (eqb_tells letter quote) [
   | inr q ↦ letter_escape letter (letter_value letter) (let other = q.0 in grind (arith, e, other))
 ]
 
-escape_outcome : (quote : ℕ) (cs : List ℕ) → IsQuote quote → is_at "\\" cs ≡ true → Outcome (IsPiece quote) Plain cs (escape_at quote cs)
+escape_outcome : (quote : ℕ) (cs : List ℕ) → IsQuote quote → is_at "\\" cs ≡ true → Outcome (IsPiece quote) Plain cs (read_escape quote cs)
 escape_outcome quote cs is slash =
     choose (λ e. past_in (92 ∷ 117 ∷ []) (slash_and_u cs slash e) (unicode_outcome quote cs (drop 1 (drop 1 cs)))) (λ _.
     guarded BadEscape LongHand refl (λ e.
@@ -93,7 +93,7 @@ escape_outcome quote cs is slash =
       split = after_one 92 cs slash ∙ ap (λ (l : List ℕ). 92 ∷ l) first.0;
     })))
 
-piece_outcome : (quote : ℕ) → IsQuote quote → (cs : List ℕ) → begins (is_inside quote) cs ≡ true → Outcome (IsPiece quote) Plain cs (piece_at quote cs)
+piece_outcome : (quote : ℕ) → IsQuote quote → (cs : List ℕ) → begins (is_inside quote) cs ≡ true → Outcome (IsPiece quote) Plain cs (read_piece quote cs)
 piece_outcome quote is [] i = absurd cc
 piece_outcome quote is (c ∷ cs) i =
     choose (λ e. escape_outcome quote (c ∷ cs) is e) (λ slash.
@@ -101,21 +101,21 @@ piece_outcome quote is (c ∷ cs) i =
     gives (c, cs) (record { text = c ∷ []; is_so = plain c (grind (arith, i, slash, control)); split = refl })))
 
 -- after the opening quote
-pub string_outcome : (quote : ℕ) → IsQuote quote → (cs : List ℕ) → Outcome IsString Plain (quote ∷ cs) (string_at quote cs)
+pub string_outcome : (quote : ℕ) → IsQuote quote → (cs : List ℕ) → Outcome IsString Plain (quote ∷ cs) (read_string quote cs)
 unfolding many
 string_outcome quote is cs =
-    past_text (quote ∷ []) refl (after (many_outcome (IsPiece quote) Plain (begins (is_inside quote)) (piece_at quote) (piece_outcome quote is) (length cs) cs) (λ s _ r.
+    past_text (quote ∷ []) refl (after (many_outcome (IsPiece quote) Plain (begins (is_inside quote)) (read_piece quote) (piece_outcome quote is) (length cs) cs) (λ s _ r.
     guarded ExpectedEndingQuote LongHand refl (λ e.
     gives _ (record { text = quote ∷ []; is_so = (quote, r.text, s.0, is, r.is_so, refl, refl); split = after_one quote s.1 e }))))
 
 -- ---- each string is read
 
-hexadecimal_again : (escape rest : List ℕ) (c n : ℕ) → hexadecimal_of c ≡ Some n → hexadecimal_at (byte_count escape) (c ∷ rest) ≡ Ok (n, rest)
+hexadecimal_again : (escape rest : List ℕ) (c n : ℕ) → hexadecimal_of c ≡ Some n → read_hexadecimal (byte_count escape) (c ∷ rest) ≡ Ok (n, rest)
 hexadecimal_again escape rest c n e = grind (arith, e)
 
-hex4_again : (escape t : List ℕ) (n : ℕ) (rest : List ℕ) → IsHex4 t n → hex4_at (byte_count escape) (t ++ rest) ≡ Ok (n, rest)
+hex4_again : (escape t : List ℕ) (n : ℕ) (rest : List ℕ) → IsHex4 t n → read_hex4 (byte_count escape) (t ++ rest) ≡ Ok (n, rest)
 hex4_again escape t n rest (a, b, c, d, p, q, r, s, text, first, second, third, fourth, value) =
-    ap (λ (l : List ℕ). hex4_at (byte_count escape) (l ++ rest)) text
+    ap (λ (l : List ℕ). read_hex4 (byte_count escape) (l ++ rest)) text
     ∙ rw (
       hexadecimal_again escape (b ∷ c ∷ d ∷ rest) a p first,
       hexadecimal_again escape (c ∷ d ∷ rest) b q second,
@@ -126,12 +126,12 @@ hex4_again escape t n rest (a, b, c, d, p, q, r, s, text, first, second, third, 
 no_surrogate : (n : ℕ) → (n < 0xd800) ⊎ (0xdfff < n) → (is_high n ≡ false) × (is_low n ≡ false)
 no_surrogate n side = (grind (arith, side), grind (arith, side))
 
-piece_again : (quote : ℕ) → IsQuote quote → (t : List ℕ) (c : ℕ) (rest : List ℕ) → IsPiece quote t c → piece_at quote (t ++ rest) ≡ Ok (c, rest)
+piece_again : (quote : ℕ) → IsQuote quote → (t : List ℕ) (c : ℕ) (rest : List ℕ) → IsPiece quote t c → read_piece quote (t ++ rest) ≡ Ok (c, rest)
 piece_again quote is t c rest (plain d e) =
     let slash : (d == 92) ≡ false = grind (arith, e) in
     let control : is_control d ≡ false = grind (arith, e) in
     rw (slash, control) refl
-piece_again quote is t c rest quote_escape = of_quote (λ q. piece_at q (92 ∷ q ∷ rest) ≡ Ok (q, rest)) refl refl quote is
+piece_again quote is t c rest quote_escape = of_quote (λ q. read_piece q (92 ∷ q ∷ rest) ≡ Ok (q, rest)) refl refl quote is
 piece_again quote is t c rest (letter_escape letter d e) = grind (arith, e)
 piece_again quote is t c rest (hex_escape digits d h side) =
     let none = no_surrogate d side in
@@ -144,8 +144,8 @@ piece_begins : (quote : ℕ) → IsQuote quote → (t : List ℕ) (c : ℕ) (res
 piece_begins quote is t c rest (plain d e) = grind (arith, e)
 piece_begins quote is t c rest _ = of_quote (λ quote. is_inside quote 92 ≡ true) refl refl quote is
 
-pub piece_takes : (quote : ℕ) → IsQuote quote → Takes (begins (is_inside quote)) (piece_at quote)
-piece_takes quote is = record {
+pub piece_consumes : (quote : ℕ) → IsQuote quote → Consumes (begins (is_inside quote)) (read_piece quote)
+piece_consumes quote is = record {
   shorter = λ cs rest x i e.
       let r = (piece_outcome quote is cs i).reads (x, rest) e in
       omega (arith, ap length r.split, length-append r.text rest, some_begun (is_inside quote) (r.text ++ []) (piece_begins quote is r.text x [] r.is_so), length-append r.text []);
@@ -153,15 +153,15 @@ piece_takes quote is = record {
 }
 
 -- a string is read after its opening quote
-pub string_again : (t bytes rest : List ℕ) → IsString t bytes → (quote : ℕ) × (inner : List ℕ) × IsQuote quote × (t ≡ quote ∷ inner) × (string_at quote (inner ++ rest) ≡ Ok (bytes, rest))
+pub string_again : (t bytes rest : List ℕ) → IsString t bytes → (quote : ℕ) × (inner : List ℕ) × IsQuote quote × (t ≡ quote ∷ inner) × (read_string quote (inner ++ rest) ≡ Ok (bytes, rest))
 string_again t bytes rest (quote, inside, characters, is, pieces, text, value) =
     let inner = inside ++ (quote ∷ []) in
     let same = eq-eqb quote quote refl in
     let ends : is_inside quote quote ≡ false = rw same refl in
-    let law : Again (IsPiece quote) (begins (is_inside quote)) (piece_at quote) (λ rest. Unit {0}) =
-    record { takes = piece_takes quote is; again = λ t x rest h stops. piece_again quote is t x rest h; starts = piece_begins quote is; failures = λ t x rest h. tt } in
+    let law : Again (IsPiece quote) (begins (is_inside quote)) (read_piece quote) (λ rest. Unit {0}) =
+    record { consumes = piece_consumes quote is; again = λ t x rest h stops. piece_again quote is t x rest h; starts = piece_begins quote is; failures = λ t x rest h. tt } in
     let read = many_again law inside characters (quote ∷ rest) pieces tt ends in
-    (quote, inner, is, text, ap (string_at quote) (append_assoc inside (quote ∷ []) rest) ∙ rw (read, same) (ap (λ (b : List ℕ). Ok (b, rest)) (sym value)))
+    (quote, inner, is, text, ap (read_string quote) (append_assoc inside (quote ∷ []) rest) ∙ rw (read, same) (ap (λ (b : List ℕ). Ok (b, rest)) (sym value)))
 
 -- ---- piece by piece, as the loop of the code meets them
 
@@ -178,12 +178,12 @@ joined quote before x (Err f) = refl
 
 module _ (quote : ℕ) (is : IsQuote quote) where
   abbrev pieces : List ℕ → Parsed (List ℕ)
-  pieces cs = many (begins (is_inside quote)) (piece_at quote) cs
+  pieces cs = many (begins (is_inside quote)) (read_piece quote) cs
 
-  pub goes_on : (before : List ℕ) (x : ℕ) (cs rest : List ℕ) (total : Parsed (List ℕ)) → begins (is_inside quote) cs ≡ true → piece_at quote cs ≡ Ok (x, rest)
+  pub goes_on : (before : List ℕ) (x : ℕ) (cs rest : List ℕ) (total : Parsed (List ℕ)) → begins (is_inside quote) cs ≡ true → read_piece quote cs ≡ Ok (x, rest)
       → with_text quote before (pieces cs) ≡ total → with_text quote (before ++ encode_utf8 x) (pieces rest) ≡ total
   goes_on before x cs rest total t e h =
-      sym (ap (with_text quote before) (many_more (begins (is_inside quote)) (piece_at quote) (piece_takes quote is) cs rest x t e) ∙ joined quote before x (pieces rest)) ∙ h
+      sym (ap (with_text quote before) (many_more (begins (is_inside quote)) (read_piece quote) (piece_consumes quote is) cs rest x t e) ∙ joined quote before x (pieces rest)) ∙ h
 
   -- the same over characters that stand for themselves
   over_plain : (part before rest : List ℕ) (total : Parsed (List ℕ)) → AllPass (is_ascii_plain quote) part
@@ -205,11 +205,11 @@ module _ (quote : ℕ) (is : IsQuote quote) where
   pub is_done : (before cs : List ℕ) (total : Parsed (List ℕ)) → begins (is_inside quote) cs ≡ false → with_text quote before (pieces cs) ≡ total
       → total ≡ cond (begins (λ c. c == quote) cs) (Ok (before, drop 1 cs)) (Err (refusal ExpectedEndingQuote LongHand cs))
   is_done before cs total t h =
-      sym h ∙ ap (with_text quote before) (many_end (begins (is_inside quote)) (piece_at quote) cs t)
+      sym h ∙ ap (with_text quote before) (many_end (begins (is_inside quote)) (read_piece quote) cs t)
       ∙ ap (λ (l : List ℕ). cond (begins (λ c. c == quote) cs) (Ok (l, drop 1 cs)) (Err (refusal ExpectedEndingQuote LongHand cs))) (append-nil before)
 
-  pub fails : (s : Failure) (before cs : List ℕ) (total : Parsed (List ℕ)) → begins (is_inside quote) cs ≡ true → Fails s (piece_at quote cs)
+  pub fails : (s : Failure) (before cs : List ℕ) (total : Parsed (List ℕ)) → begins (is_inside quote) cs ≡ true → Fails s (read_piece quote cs)
       → with_text quote before (pieces cs) ≡ total → Fails s total
   fails Memory before cs total t e h = tt
   fails (Refused f) before cs total t e h =
-      sym h ∙ ap (with_text quote before) (many_err (begins (is_inside quote)) (piece_at quote) (piece_takes quote is) cs f t e)
+      sym h ∙ ap (with_text quote before) (many_err (begins (is_inside quote)) (read_piece quote) (piece_consumes quote is) cs f t e)

@@ -1,5 +1,5 @@
--- The words of contracts of private functions: a reader of a text, what is read at a level, and that what a function of the
--- parser returned is what reading gives.
+-- The words of contracts of private functions: a reader of a text, what is read at a level, and
+-- that what a function of the parser returned is what reading gives.
 use Rattle.std.specs.Prelude.{ℕ, true, false, List, codes, bytes_eq, Option, Some, None, if◌then◌else◌, ◌≡◌, ◌+◌, ◌≤◌, max, drop, length, ◌-◌, ◌++◌, Result, Ok, Err}
 use Rattle.serde_json_path_parser.specs.Imports.{Literal, truth, null, Selector, Query, LogicalOr, query, root, SegmentKind, Segments, Segment, Call, Arguments, Argument, logical_argument, chars, Signature, FunctionSet, Fits, names_of, calls_in_segments, calls_in_selectors, calls_from, calls_in_arguments, calls_in_argument, parts_in, literal_view, Piece, a_segment, calls_in_piece, IsPart, ArePartsOf, AreSelectorsOf, AreArgumentsOf, KeepsTrees, calls_in, signatures_of, tree_of, result_kind, AreCalled, AreDeclared, names_in, kind_view, FunctionArgType, Part, Parts, SyntaxBuilder, Checked}
 use Rattle.serde_json_path_parser.specs.Source.{Told}
@@ -48,7 +48,8 @@ module _ {S : Type 0} {g : Ghosts S} where
   abbrev pub seen : Reader S g → ℕ
   seen r = up_to_second r.index r.next r.second
 
-  -- The text stays, what was read stays read, there were no more looks than bytes that were seen, and none beyond them.
+  -- The text stays, what was read stays read, there were no more looks than bytes that were seen,
+  -- and none beyond them.
   pub record Moves (old new : Reader S g) : Type 0 where
     pub same_source : new.source.ghost_name ≡ old.source.ghost_name
     pub same_text : (told new).text ≡ (told old).text
@@ -72,8 +73,8 @@ module _ {F : Type 0} (set : F → FunctionSet) where
   at_level l read = read (signatures l) (deeper l)
 
   -- how a filter is read
-  abbrev pub filter_at : Parser F → List ℕ → Parsed Selector
-  filter_at l = at_level l filters.filter_at
+  abbrev pub read_filter : Parser F → List ℕ → Parsed Selector
+  read_filter l = at_level l filters.read_filter
 
 -- ---- what a function of the parser gives
 
@@ -83,112 +84,147 @@ Fails failures.Memory read = Unit {0}
 Fails (failures.Refused r) read = read ≡ Err r
 
 -- The result, seen by view, is what reading gives, and the reader stands after it.
-abbrev pub Gives : {X Y S : Type 0} {g : Ghosts S} → (X → Y) → Result X Failure → Reader S g → Parsed Y → Type 0
-Gives view (Ok x) reader read = read ≡ Ok (view x, left reader)
-Gives view (Err e) reader read = Fails e read
+abbrev pub IsAsRead : {X Y S : Type 0} {g : Ghosts S} → (X → Y) → Result X Failure → Reader S g
+    → Parsed Y → Type 0
+IsAsRead view (Ok x) reader read = read ≡ Ok (view x, left reader)
+IsAsRead view (Err e) reader read = Fails e read
 
--- The builder has grown by parts that make these calls: each earlier part stays good, with its tree, and the calls that
--- were made since are these, each with the signature that its name has.
-pub record Grows (signature : List ℕ → Option Signature) (old new : SyntaxBuilder) (calls : List Call) : Type 0 where
+-- The builder has grown by parts that make these calls: each earlier part stays good, with its
+-- tree, and the calls that were made since are these, each with the signature that its name has.
+pub record Grows (signature : List ℕ → Option Signature) (old new : SyntaxBuilder)
+    (calls : List Call) : Type 0 where
   pub trees : KeepsTrees old new
   pub names : names_in (calls_in new) ≡ names_in (calls_in old) ++ names_of calls
   pub declared : AreDeclared signature (calls_in old) → AreDeclared signature (calls_in new)
 
 -- What was made is, as Is says, what reading gives, and Grown says of it how the builder has grown.
-abbrev pub MakesSo : {X A S : Type 0} {g : Ghosts S} → (X → A → Type 0) → (A → Type 0) → Result X Failure → Reader S g → Parsed A → Type 0
-MakesSo {A = A} Is Grown (Ok x) reader read = (a : A) × Is x a × (read ≡ Ok (a, left reader)) × Grown a
+abbrev pub MakesSo : {X A S : Type 0} {g : Ghosts S} → (X → A → Type 0) → (A → Type 0)
+    → Result X Failure → Reader S g → Parsed A → Type 0
+MakesSo {A = A} Is Grown (Ok x) reader read =
+    (a : A) × Is x a × (read ≡ Ok (a, left reader)) × Grown a
 MakesSo Is Grown (Err e) reader read = Fails e read
 
 -- The part that was made stands, as such a piece, for what reading gives.
-abbrev pub Makes : {A S : Type 0} {g : Ghosts S} → (List ℕ → Option Signature) → (A → Piece) → SyntaxBuilder → SyntaxBuilder
-    → Result Part Failure → Reader S g → Parsed A → Type 0
-Makes signature piece old new = MakesSo (λ part x. IsPart new part (piece x)) (λ x. Grows signature old new (calls_in_piece (piece x)))
+abbrev pub Makes : {A S : Type 0} {g : Ghosts S} → (List ℕ → Option Signature) → (A → Piece)
+    → SyntaxBuilder → SyntaxBuilder → Result Part Failure → Reader S g → Parsed A → Type 0
+Makes signature piece old new =
+    MakesSo (λ part x. IsPart new part (piece x))
+    (λ x. Grows signature old new (calls_in_piece (piece x)))
 
--- What was built since some earlier time made the first calls before the builder grew, and makes the others now.
-abbrev pub GrowsFrom : (List ℕ → Option Signature) → SyntaxBuilder → SyntaxBuilder → List Call → List Call → Type 0
-GrowsFrom signature old new first calls = (before : SyntaxBuilder) → Grows signature before old first → Grows signature before new calls
+-- What was built since some earlier time made the first calls before the builder grew, and makes
+-- the others now.
+abbrev pub GrowsFrom : (List ℕ → Option Signature) → SyntaxBuilder → SyntaxBuilder → List Call
+    → List Call → Type 0
+GrowsFrom signature old new first calls =
+    (before : SyntaxBuilder) → Grows signature before old first → Grows signature before new calls
 
 -- The same, out of a part that makes these calls.
-abbrev pub MakesFrom : {A S : Type 0} {g : Ghosts S} → (List ℕ → Option Signature) → List Call → (A → Piece) → SyntaxBuilder
-    → SyntaxBuilder → Result Part Failure → Reader S g → Parsed A → Type 0
+abbrev pub MakesFrom : {A S : Type 0} {g : Ghosts S} → (List ℕ → Option Signature) → List Call
+    → (A → Piece) → SyntaxBuilder → SyntaxBuilder → Result Part Failure → Reader S g → Parsed A
+    → Type 0
 MakesFrom signature first piece old new =
-    MakesSo (λ part x. IsPart new part (piece x)) (λ x. GrowsFrom signature old new first (calls_in_piece (piece x)))
+    MakesSo (λ part x. IsPart new part (piece x))
+    (λ x. GrowsFrom signature old new first (calls_in_piece (piece x)))
 
 -- A part was made out of one that makes these calls, and makes no others.
-abbrev pub MakesOf : {A S : Type 0} {g : Ghosts S} → List Call → (A → Piece) → SyntaxBuilder → Result Part Failure → Reader S g
-    → Parsed A → Type 0
-MakesOf calls piece new = MakesSo (λ part x. IsPart new part (piece x)) (λ x. calls ≡ calls_in_piece (piece x))
+abbrev pub MakesOf : {A S : Type 0} {g : Ghosts S} → List Call → (A → Piece) → SyntaxBuilder
+    → Result Part Failure → Reader S g → Parsed A → Type 0
+MakesOf calls piece new =
+    MakesSo (λ part x. IsPart new part (piece x)) (λ x. calls ≡ calls_in_piece (piece x))
 
 -- a segment's piece
 abbrev pub segment_piece : SegmentKind × Segment → Piece
 segment_piece s = a_segment s.0 s.1
 
--- The tree is that of the segments that reading gives, and the signatures are those of the names that it calls.
-abbrev pub GivesQuery : FunctionSet → Result Checked Failure → Result Segments Refusal → Type 0
-GivesQuery F (Ok checked) read =
-    (segs : Segments) × (tree_of checked ≡ query root segs) × (read ≡ Ok segs) × AreCalled (signatures_of checked) (query root segs)
-    × Fits F (signatures_of checked)
-GivesQuery F (Err e) read = Fails e read
+-- The tree is that of the segments that reading gives, and the signatures are those of the names
+-- that it calls.
+abbrev pub IsQueryAsRead : FunctionSet → Result Checked Failure → Result Segments Refusal → Type 0
+IsQueryAsRead F (Ok checked) read =
+    (segs : Segments) × (tree_of checked ≡ query root segs) × (read ≡ Ok segs)
+    × AreCalled (signatures_of checked) (query root segs) × Fits F (signatures_of checked)
+IsQueryAsRead F (Err e) read = Fails e read
 
 -- The operand is the one that reading gives.
-abbrev pub IsOperandOf : (List ℕ → Option Signature) → SyntaxBuilder → operands.Operand → Operand → Type 0
+abbrev pub IsOperandOf : (List ℕ → Option Signature) → SyntaxBuilder → operands.Operand → Operand
+    → Type 0
 IsOperandOf signature builder (the_operands.Literal l) x = x ≡ a_literal (literal_view l)
-IsOperandOf signature builder (the_operands.Query part) x = (q : Query) × (x ≡ a_query q) × IsPart builder part (piece.a_query q)
+IsOperandOf signature builder (the_operands.Query part) x =
+    (q : Query) × (x ≡ a_query q) × IsPart builder part (piece.a_query q)
 IsOperandOf signature builder (the_operands.Call part kind) x =
-    (c : Call) × (x ≡ a_call c) × IsPart builder part (piece.a_call c) × (result_kind signature c ≡ Some (kind_view kind))
+    (c : Call) × (x ≡ a_call c) × IsPart builder part (piece.a_call c)
+    × (result_kind signature c ≡ Some (kind_view kind))
 
 -- The argument is the one that reading gives.
-abbrev pub IsArgumentOf : (List ℕ → Option Signature) → SyntaxBuilder → arguments.Argument → Argument → Type 0
-IsArgumentOf signature builder (the_arguments.Operand o) x = (y : Operand) × (x ≡ alone y) × IsOperandOf signature builder o y
-IsArgumentOf signature builder (the_arguments.Logical part) x = (e : LogicalOr) × (x ≡ logical_argument e) × IsPart builder part (piece.an_or e)
+abbrev pub IsArgumentOf : (List ℕ → Option Signature) → SyntaxBuilder → arguments.Argument
+    → Argument → Type 0
+IsArgumentOf signature builder (the_arguments.Operand o) x =
+    (y : Operand) × (x ≡ alone y) × IsOperandOf signature builder o y
+IsArgumentOf signature builder (the_arguments.Logical part) x =
+    (e : LogicalOr) × (x ≡ logical_argument e) × IsPart builder part (piece.an_or e)
 
-module _ {S : Type 0} {g : Ghosts S} (signature : List ℕ → Option Signature) (old new : SyntaxBuilder) where
+module _ {S : Type 0} {g : Ghosts S} (signature : List ℕ → Option Signature)
+    (old new : SyntaxBuilder) where
   -- The parts that were made stand for the selectors that reading gives.
   abbrev pub MakesSelectors : Result Parts Failure → Reader S g → Parsed (List Selector) → Type 0
   MakesSelectors =
-      MakesSo (λ parts ss. AreSelectorsOf new (parts_in parts) (selector_list ss)) (λ ss. Grows signature old new (calls_in_selectors (selector_list ss)))
+      MakesSo (λ parts ss. AreSelectorsOf new (parts_in parts) (selector_list ss))
+      (λ ss. Grows signature old new (calls_in_selectors (selector_list ss)))
 
-  -- The parts that were made stand for the segments that reading gives. So many bytes are left after the last one, and
-  -- the reader stands after the blanks there.
-  abbrev pub MakesSegments : Result (Parts × ℕ) Failure → Reader S g → Parsed (List (SegmentKind × Segment)) → Type 0
+  -- The parts that were made stand for the segments that reading gives. So many bytes are left
+  -- after the last one, and the reader stands after the blanks there.
+  abbrev pub MakesSegments : Result (Parts × ℕ) Failure → Reader S g
+      → Parsed (List (SegmentKind × Segment)) → Type 0
   MakesSegments (Ok parts) reader read =
-      (ss : List (SegmentKind × Segment)) × (rest : List ℕ) × ArePartsOf new (parts_in parts.0) (segment_list ss)
-      × (parts.1 ≡ byte_count rest) × (left reader ≡ past_blanks rest) × (read ≡ Ok (ss, rest))
+      (ss : List (SegmentKind × Segment)) × (rest : List ℕ)
+      × ArePartsOf new (parts_in parts.0) (segment_list ss) × (parts.1 ≡ byte_count rest)
+      × (left reader ≡ past_blanks rest) × (read ≡ Ok (ss, rest))
       × Grows signature old new (calls_in_segments (segment_list ss))
   MakesSegments (Err e) reader read = Fails e read
 
   abbrev pub MakesOperand : Result operands.Operand Failure → Reader S g → Parsed Operand → Type 0
-  MakesOperand = MakesSo (IsOperandOf signature new) (λ x. Grows signature old new (calls_in_operand x))
+  MakesOperand =
+      MakesSo (IsOperandOf signature new) (λ x. Grows signature old new (calls_in_operand x))
 
   -- The call is the one that reading gives, and its result is of that type.
   abbrev pub MakesCall : Result (Part × FunctionArgType) Failure → Reader S g → Parsed Call → Type 0
   MakesCall =
-      MakesSo (λ call c. IsPart new call.0 (piece.a_call c) × (result_kind signature c ≡ Some (kind_view call.1))) (λ c. Grows signature old new (calls_from c))
+      MakesSo (λ call c. IsPart new call.0 (piece.a_call c)
+      × (result_kind signature c ≡ Some (kind_view call.1)))
+      (λ c. Grows signature old new (calls_from c))
 
-  abbrev pub MakesArgument : Result arguments.Argument Failure → Reader S g → Parsed Argument → Type 0
-  MakesArgument = MakesSo (IsArgumentOf signature new) (λ x. Grows signature old new (calls_in_argument x))
+  abbrev pub MakesArgument : Result arguments.Argument Failure → Reader S g → Parsed Argument
+      → Type 0
+  MakesArgument =
+      MakesSo (IsArgumentOf signature new) (λ x. Grows signature old new (calls_in_argument x))
 
   -- The parts that were put after others stand for the arguments that reading gives.
-  abbrev pub MakesArguments : List Part → List Part → Result Unit Failure → Reader S g → Parsed Arguments → Type 0
+  abbrev pub MakesArguments : List Part → List Part → Result Unit Failure → Reader S g
+      → Parsed Arguments → Type 0
   MakesArguments before after =
-      MakesSo (λ u args. (parts : List Part) × (after ≡ before ++ parts) × AreArgumentsOf new parts args) (λ args. Grows signature old new (calls_in_arguments args))
+      MakesSo (λ u args. (parts : List Part) × (after ≡ before ++ parts)
+      × AreArgumentsOf new parts args)
+      (λ args. Grows signature old new (calls_in_arguments args))
 
 -- a refusal, and not want of memory
 abbrev pub IsRefused : Failure → Type 0
 IsRefused failures.Memory = ⊥
 IsRefused (failures.Refused r) = Unit {0}
 
--- Where a refusal of some kinds is reported at the byte that is next, no byte was seen beyond the one after its place.
+-- Where a refusal of some kinds is reported at the byte that is next, no byte was seen beyond the
+-- one after its place.
 abbrev pub StopsNear : {S : Type 0} {g : Ghosts S} → Failure → Reader S g → Type 0
 StopsNear failures.Memory reader = Unit {0}
-StopsNear (failures.Refused r) reader = is_told_at_next r.kind ≡ true → seen reader + r.left ≤ length (told reader).text + 2
+StopsNear (failures.Refused r) reader =
+    is_told_at_next r.kind ≡ true → seen reader + r.left ≤ length (told reader).text + 2
 
 abbrev pub IsNear : {X S : Type 0} {g : Ghosts S} → Result X Failure → Reader S g → Type 0
 IsNear (Ok x) reader = Unit {0}
 IsNear (Err e) reader = StopsNear e reader
 
--- The reader moved on, and where it stopped with such a refusal no byte was seen beyond the one after its place.
-pub record MovesTo {X S : Type 0} {g : Ghosts S} (result : Result X Failure) (old new : Reader S g) : Type 0 where
+-- The reader moved on, and where it stopped with such a refusal no byte was seen beyond the one
+-- after its place.
+pub record MovesTo {X S : Type 0} {g : Ghosts S} (result : Result X Failure) (old new : Reader S g)
+    : Type 0 where
   pub moves : Moves old new
   pub near : IsNear result new
 
@@ -200,4 +236,8 @@ IsWithin (failures.Refused r) total = r.left ≤ total
 -- the public error of a failure, in a text of so many bytes
 abbrev pub error_of : Failure → ℕ → ParseError
 error_of failures.Memory total = no_memory
-error_of (failures.Refused r) total = record { kind = r.kind; context = r.context; position = total - r.left + 1 }
+error_of (failures.Refused r) total = record {
+  kind = r.kind;
+  context = r.context;
+  position = total - r.left + 1;
+}

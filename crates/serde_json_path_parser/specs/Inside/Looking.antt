@@ -6,7 +6,8 @@ use Rattle.serde_json_path_parser.specs.Lexical.{◌∈◌, AllPass, is_name_cha
 
 -- ---- what the bytes ahead tell of the characters
 
--- The byte is the first of these characters' bytes: below 128 it is itself the first character; otherwise that is 128 or above.
+-- The byte is the first of these characters' bytes: below 128 it is itself the first character;
+-- otherwise that is 128 or above.
 abbrev pub IsAhead : Option ℕ → List ℕ → Type 0
 IsAhead None cs = cs ≡ []
 IsAhead (Some b) cs = (c : ℕ) × (cs ≡ c ∷ drop 1 cs) × (b < 128 → c ≡ b) × (128 ≤ b → 128 ≤ c)
@@ -20,11 +21,13 @@ is_ascii (Some b) = nat_le b 127
 abbrev pub begins_operator : ℕ → Bool
 begins_operator c = c ∈ "=!<>"
 
--- Where the byte after the next one was looked at, it is the one that stands there, and the next one is ASCII.
+-- Where the byte after the next one was looked at, it is the one that stands there, and the next
+-- one is ASCII.
 abbrev pub IsSecond : Option (Option ℕ) → Option ℕ → Option ℕ → Type 0
 IsSecond second next there = ForSome second (λ s. (s ≡ there) × (is_ascii next ≡ true))
 
--- Up to where a byte may be looked at: up to the text's end, or none where the byte after the next one was.
+-- Up to where a byte may be looked at: up to the text's end, or none where the byte after the next
+-- one was.
 abbrev pub limit_of : Option (Option ℕ) → ℕ → ℕ
 limit_of None total = total
 limit_of (Some second) total = 0
@@ -41,7 +44,8 @@ abbrev pub up_to_second : ℕ → Option ℕ → Option (Option ℕ) → ℕ
 up_to_second index next None = up_to index next
 up_to_second index next (Some second) = up_to (index + 1) second
 
--- The text is the same, there are at most so many looks more, and none at a byte of a greater number.
+-- The text is the same, there are at most so many looks more, and none at a byte of a greater
+-- number.
 pub record LooksOn (old new : Told) (count number : ℕ) : Type 0 where
   pub same_text : new.text ≡ old.text
   pub looks : new.looks ≤ old.looks + count
@@ -64,8 +68,8 @@ pub record Gathered (p : ℕ → Bool) (text : List ℕ) (index end : ℕ) (part
   pub taken : chars (drop index text) ≡ take (end - index) part ++ chars (drop end text)
   pub each : AllPass p (take (end - index) part)
 
--- Of the characters from an index on, the first ones were taken, each of which passes a test, and appended to a text unless
--- memory is out; the others are those from an end on.
+-- Of the characters from an index on, the first ones were taken, each of which passes a test, and
+-- appended to a text unless memory is out; the others are those from an end on.
 pub record Stretched (p : ℕ → Bool) (characters others old new : List ℕ) (ok : Bool) : Type 0 where
   pub part : List ℕ
   pub some : 1 ≤ length part

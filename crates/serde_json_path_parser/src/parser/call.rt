@@ -1,7 +1,7 @@
 //! Calls of functions (RFC 9535, section 2.4).
 
 ghost use Rattle.std.specs.Prelude.{◌≡◌, ◌==◌, ◌<◌, ℕ, List, drop, length, map, true, string_bytes, Option, IfOk};
-ghost use Rattle.serde_json_path_parser.specs.Inside.Words.{KeepsParts, IsPart, an_argument, Signature, argument_at, logical_from, ended, MakesArgument, MakesArguments, MakesCall, IsArgumentOf, Gives, MovesTo, at_level, signatures, deeper, left, begins, no_arguments, parameters_at};
+ghost use Rattle.serde_json_path_parser.specs.Inside.Words.{KeepsParts, IsPart, an_argument, Signature, read_argument, read_logical_from, read_end, MakesArgument, MakesArguments, MakesCall, IsArgumentOf, IsAsRead, MovesTo, at_level, signatures, deeper, left, begins, no_arguments, read_arguments};
 ghost use Rattle.serde_json_path_functions.specs.Terms.{kind_view};
 ghost use Rattle.serde_json_path_parser.specs.Operands as operands;
 ghost use Rattle.serde_json_path_syntax.specs.Tree as tree;
@@ -25,13 +25,13 @@ pub(crate) enum Argument {
 }
 
 impl Argument {
-    /// Whether a parameter of that type takes the argument (RFC 9535, section 2.4.3).
-    fn fits(&self, builder: &SyntaxBuilder, wanted: FunctionArgType) -> bool
+    /// Whether the argument suits a parameter of that type (RFC 9535, section 2.4.3).
+    fn suits(&self, builder: &SyntaxBuilder, wanted: FunctionArgType) -> bool
         requires { (signature : List ℕ → Option Signature) × (x : tree.Argument)
             × IsArgumentOf signature builder.now self.now x }
         ensures { (signature : List ℕ → Option Signature) (x : tree.Argument)
             → IsArgumentOf signature builder.now self.now x
-            → result ≡ operands.fits signature x (kind_view wanted) }
+            → result ≡ operands.suits signature x (kind_view wanted) }
     {
         match self {
             Argument::Operand(Operand::Literal(literal)) => match wanted {
@@ -68,8 +68,8 @@ impl Argument {
     }
 }
 
-/// Parses the end of a call, at its `)`, and the blanks after it. `types` are those of the parameters that have
-/// no argument yet. `place` bytes are left where the call begins.
+/// Parses the end of a call, at its `)`, and the blanks after it. `types` are the types of the parameters that
+/// have no argument yet. `place` bytes are left where the call begins.
 #[inline(always)]
 fn parse_end<S: PathSource>(
     reader: &mut Reader<'_, S>,
@@ -78,8 +78,8 @@ fn parse_end<S: PathSource>(
 ) -> Result<(), Failure>
     requires { 0 < length (left reader.old) }
     ensures moves { MovesTo result reader.old reader.new }
-    ensures gives { Gives (λ u. no_arguments) result reader.new
-        (ended place (map kind_view types.now) (drop 1 (left reader.old))) }
+    ensures gives { IsAsRead (λ u. no_arguments) result reader.new
+        (read_end place (map kind_view types.now) (drop 1 (left reader.old))) }
 {
     if !types.is_empty() {
         return Err(Failure::in_long_hand(Kind::WrongNumberOfArguments, place));
@@ -90,8 +90,8 @@ fn parse_end<S: PathSource>(
 }
 
 impl<F: Functions> Parser<'_, F> {
-    /// Parses a call of the function of that name, from its `(` on, and the blanks after it: the call, and the type
-    /// of its result. `place` bytes are left where the call begins.
+    /// Parses a call of the function with that name, from its `(` on, and the blanks after it. Returns the call and
+    /// the type of its result. `place` bytes are left where the call begins.
     #[cycle(filters)]
     #[tactic(auto, unfolding(crate::specs::Filters::level))]
     pub(crate) fn parse_call<S: PathSource>(
@@ -136,7 +136,7 @@ impl<F: Functions> Parser<'_, F> {
         ensures moves { MovesTo result reader.old reader.new }
         ensures gives { MakesArguments (signatures F.set self.now) builder.old builder.new
             parts.old.items parts.new.items result reader.new
-            (at_level F.set self.now parameters_at place (map kind_view types.now)
+            (at_level F.set self.now read_arguments place (map kind_view types.now)
             (left reader.old)) }
     {
         if reader.sees(b')') {
@@ -147,12 +147,12 @@ impl<F: Functions> Parser<'_, F> {
             let argument_place = reader.bytes_left();
             let argument = self.parse_argument(builder, reader)?;
             if !reader.sees_end_of_argument() {
-                return Err(reader.refuse(Kind::ExpectedClosingParenthesis, Context::LongHand));
+                return Err(reader.refusal(Kind::ExpectedClosingParenthesis, Context::LongHand));
             }
             let Some((first, others)) = types.split_first() else {
                 return Err(Failure::in_long_hand(Kind::WrongNumberOfArguments, place));
             };
-            if !argument.fits(builder, *first) {
+            if !argument.suits(builder, *first) {
                 return Err(Failure::in_long_hand(Kind::WrongArgumentType, argument_place));
             }
             let part = argument.part(builder)?;
@@ -168,7 +168,7 @@ impl<F: Functions> Parser<'_, F> {
 
     /// Parses an argument and the blanks after it.
     #[cycle(filters)]
-    #[tactic(auto, unfolding(crate::specs::Filters::argument_at))]
+    #[tactic(auto, unfolding(crate::specs::Filters::read_argument))]
     fn parse_argument<S: PathSource>(
         &self,
         builder: &mut SyntaxBuilder,
@@ -177,7 +177,7 @@ impl<F: Functions> Parser<'_, F> {
         ensures moves { MovesTo result reader.old reader.new }
         ensures gives { MakesArgument (signatures F.set self.now) builder.old builder.new
             result reader.new
-            (at_level F.set self.now argument_at (left reader.old)) }
+            (at_level F.set self.now read_argument (left reader.old)) }
     {
         if reader.sees_parenthesis_or_negation() {
             let expression = self.parse_logical_or(builder, reader)?;

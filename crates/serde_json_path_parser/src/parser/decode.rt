@@ -1,11 +1,11 @@
-//! Characters out of bytes.
+//! Decodes characters from bytes.
 
 ghost use Rattle.std.specs.Prelude.{◌≡◌, ◌<◌, ◌≤◌, ◌+◌, ◌-◌, ◌%◌, ◌^◌, length, slice_index, slice_get, drop, Some, None};
 ghost use Rattle.serde_json_path_parser.specs.Inside.Words.{ForSome, IsUtf8, StartsWithChar, IsScalar, LooksOn, up_to};
 
 use crate::source::PathSource;
 
-/// The byte of that index, if it is below a limit.
+/// The byte at that index, if it is below a limit.
 pub(crate) fn byte_below<S: PathSource>(source: &mut S, index: usize, limit: usize) -> Option<u8>
     requires { limit ≤ length (S.told source.old).text }
     ensures some { ForSome result (λ b.
@@ -21,7 +21,7 @@ pub(crate) fn byte_below<S: PathSource>(source: &mut S, index: usize, limit: usi
     }
 }
 
-/// The byte of that index, unless the text ends there.
+/// The byte at that index, unless the text ends there.
 pub(crate) fn byte_at<S: PathSource>(source: &mut S, index: usize) -> Option<u8>
     ensures value { result ≡ slice_get (S.told source.old).text index }
     ensures looks { LooksOn (S.told source.old) (S.told source.new)
@@ -47,8 +47,8 @@ fn character(code: u32) -> char
     char::from_u32(code).unwrap()
 }
 
-/// The character of two bytes or more that begins at an index with this byte, and how many bytes it takes.
-// Out of line, so that characters of one byte, which are most, are read in few steps.
+/// The character that begins at an index with this byte and takes two bytes or more, and how many it takes.
+// Out of line, so that characters of one byte, the most frequent ones, are read in few steps.
 #[inline(never)]
 pub(crate) fn wide_character_at<S: PathSource>(
     source: &mut S,

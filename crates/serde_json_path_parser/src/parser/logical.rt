@@ -1,7 +1,7 @@
 //! Logical expressions (RFC 9535, section 2.3.5.1).
 
 ghost use Rattle.std.specs.Prelude.{◌≡◌, ◌==◌, ◌<◌, drop, length, true, IfOk};
-ghost use Rattle.serde_json_path_parser.specs.Inside.Words.{calls_in_and, calls_in_basic, IsPart, an_or, an_and, a_basic, paren_at, negated_at, basic_at, and_from, and_at, or_from, or_at, Makes, MakesFrom, IsOperandOf, MovesTo, at_level, signatures, deeper, left, is_at, begins, calls_in_operand, byte_count, past_blanks, basic_from, LogicalAnd, Basic, is_small_letter};
+ghost use Rattle.serde_json_path_parser.specs.Inside.Words.{calls_in_and, calls_in_basic, IsPart, an_or, an_and, a_basic, read_paren, read_negated, read_basic, read_and_from, read_and, read_or_from, read_or, Makes, MakesFrom, IsOperandOf, MovesTo, at_level, signatures, deeper, left, is_at, begins, calls_in_operand, byte_count, past_blanks, read_basic_from, LogicalAnd, Basic, is_small_letter};
 ghost use Rattle.serde_json_path_parser.specs.Operands as operands;
 
 use crate::error::{Context, Failure, ParseErrorKind as Kind};
@@ -30,7 +30,7 @@ impl<F: Functions> Parser<'_, F> {
             (past_blanks (drop 1 (left reader.old)))) }
     {
         if self.depth == 0 {
-            return Err(reader.refuse(Kind::NestedTooDeep, Context::LongHand));
+            return Err(reader.refusal(Kind::NestedTooDeep, Context::LongHand));
         }
         reader.take_char();
         reader.skip_blanks();
@@ -47,7 +47,7 @@ impl<F: Functions> Parser<'_, F> {
         ensures moves { MovesTo result reader.old reader.new }
         ensures gives { Makes (signatures F.set self.now) an_or builder.old builder.new
             result reader.new
-            (at_level F.set self.now or_at (left reader.old)) }
+            (at_level F.set self.now read_or (left reader.old)) }
     {
         let first = self.parse_logical_and(builder, reader)?;
         self.parse_or_from(builder, reader, first)
@@ -66,7 +66,7 @@ impl<F: Functions> Parser<'_, F> {
         ensures gives { (a : LogicalAnd) → IsPart builder.old first (an_and a)
             → MakesFrom (signatures F.set self.now) (calls_in_and a) an_or
             builder.old builder.new result reader.new
-            (at_level F.set self.now or_from a (left reader.old)) }
+            (at_level F.set self.now read_or_from a (left reader.old)) }
     {
         let mut parts = Parts::new(self.alloc);
         parts.push(first)?;
@@ -89,7 +89,7 @@ impl<F: Functions> Parser<'_, F> {
         ensures moves { MovesTo result reader.old reader.new }
         ensures gives { Makes (signatures F.set self.now) an_and builder.old builder.new
             result reader.new
-            (at_level F.set self.now and_at (left reader.old)) }
+            (at_level F.set self.now read_and (left reader.old)) }
     {
         let first = self.parse_basic(builder, reader)?;
         self.parse_and_from(builder, reader, first)
@@ -110,7 +110,7 @@ impl<F: Functions> Parser<'_, F> {
         ensures gives { (b : Basic) → IsPart builder.old first (a_basic b)
             → MakesFrom (signatures F.set self.now) (calls_in_basic b) an_and
             builder.old builder.new result reader.new
-            (at_level F.set self.now and_from b (left reader.old)) }
+            (at_level F.set self.now read_and_from b (left reader.old)) }
     {
         let mut parts = Parts::new(self.alloc);
         parts.push(first)?;
@@ -133,7 +133,7 @@ impl<F: Functions> Parser<'_, F> {
         ensures moves { MovesTo result reader.old reader.new }
         ensures gives { Makes (signatures F.set self.now) a_basic builder.old builder.new
             result reader.new
-            (at_level F.set self.now basic_at (left reader.old)) }
+            (at_level F.set self.now read_basic (left reader.old)) }
     {
         // No `match` on the next byte, which takes seven instructions more for each parenthesis.
         if reader.sees(b'(') {
@@ -168,7 +168,7 @@ impl<F: Functions> Parser<'_, F> {
             → IsOperandOf (signatures F.set self.now) builder.old operand x
             → MakesFrom (signatures F.set self.now) (calls_in_operand x) a_basic
             builder.old builder.new result reader.new
-            (at_level F.set self.now basic_from place x (left reader.old)) }
+            (at_level F.set self.now read_basic_from place x (left reader.old)) }
     {
         let Some(operator) = parse_operator(reader) else {
             return self.as_test(builder, reader, place, operand);
@@ -192,11 +192,11 @@ impl<F: Functions> Parser<'_, F> {
         ensures moves { MovesTo result reader.old reader.new }
         ensures gives { Makes (signatures F.set self.now) an_or builder.old builder.new
             result reader.new
-            (at_level F.set self.now paren_at (left reader.old)) }
+            (at_level F.set self.now read_paren (left reader.old)) }
     {
         let inner = self.parse_inside(builder, reader)?;
         if !reader.sees(b')') {
-            return Err(reader.refuse(Kind::ExpectedClosingParenthesis, Context::LongHand));
+            return Err(reader.refusal(Kind::ExpectedClosingParenthesis, Context::LongHand));
         }
         reader.take_char();
         reader.skip_blanks();
@@ -215,7 +215,7 @@ impl<F: Functions> Parser<'_, F> {
         ensures moves { MovesTo result reader.old reader.new }
         ensures gives { Makes (signatures F.set self.now) a_basic builder.old builder.new
             result reader.new
-            (at_level F.set self.now negated_at (left reader.old)) }
+            (at_level F.set self.now read_negated (left reader.old)) }
     {
         match reader.peek() {
             Some(b'(') => {
@@ -231,7 +231,7 @@ impl<F: Functions> Parser<'_, F> {
                 Ok(builder.not_exist(query)?)
             }
             Some(b'a'..=b'z') => self.parse_negated_call(builder, reader),
-            _ => Err(reader.refuse(Kind::ExpectedExpression, Context::LongHand)),
+            _ => Err(reader.refusal(Kind::ExpectedExpression, Context::LongHand)),
         }
     }
 
@@ -246,7 +246,7 @@ impl<F: Functions> Parser<'_, F> {
         ensures moves { MovesTo result reader.old reader.new }
         ensures gives { Makes (signatures F.set self.now) a_basic builder.old builder.new
             result reader.new
-            (at_level F.set self.now negated_at (left reader.old)) }
+            (at_level F.set self.now read_negated (left reader.old)) }
     {
         let place = reader.bytes_left();
         let Operand::Call(call, result) = self.parse_named(builder, reader)? else {

@@ -1,7 +1,7 @@
 //! Operands: what a filter compares or tests, read before its use is known (RFC 9535, section 2.3.5.1).
 
 ghost use Rattle.std.specs.Prelude.{◌≡◌, ◌==◌, ◌<◌, ℕ, List, length, true, Option};
-ghost use Rattle.serde_json_path_parser.specs.Inside.Words.{KeepsParts, SyntaxBuilder, a_query, a_comparable, a_basic, Signature, query_at, operand_at, comparable_at, named_at, test_at, text_at, Makes, MakesOf, MakesOperand, IsOperandOf, IsNear, MovesTo, at_level, signatures, left, begins, is_small_letter, IsQuote, calls_in_operand};
+ghost use Rattle.serde_json_path_parser.specs.Inside.Words.{KeepsParts, SyntaxBuilder, a_query, a_comparable, a_basic, Signature, read_query, read_operand, read_comparable, read_named, read_test, read_text, Makes, MakesOf, MakesOperand, IsOperandOf, IsNear, MovesTo, at_level, signatures, left, begins, is_small_letter, IsQuote, calls_in_operand};
 ghost use Rattle.serde_json_path_syntax.specs.Flat.{kind_view};
 ghost use Rattle.serde_json_path_parser.specs.Operands as operands;
 
@@ -28,7 +28,7 @@ pub(crate) enum Operand {
 }
 
 /// Parses a string as an operand, from its quote on, and the blanks after it.
-#[tactic(auto, unfolding(crate::specs::Filters::text_at))]
+#[tactic(auto, unfolding(crate::specs::Filters::read_text))]
 fn parse_text<S: PathSource>(
     alloc: Global,
     reader: &mut Reader<'_, S>,
@@ -39,7 +39,7 @@ fn parse_text<S: PathSource>(
     ensures moves { MovesTo result reader.old reader.new }
     ensures gives { (signature : List ℕ → Option Signature) (builder : SyntaxBuilder)
         → MakesOperand signature builder builder result reader.new
-        (text_at quote (left reader.old)) }
+        (read_text quote (left reader.old)) }
 {
     reader.take_char();
     let text = parse_string(alloc, reader, quote)?;
@@ -60,7 +60,7 @@ impl<F: Functions> Parser<'_, F> {
         ensures moves { MovesTo result reader.old reader.new }
         ensures gives { Makes (signatures F.set self.now) a_query builder.old builder.new
             result reader.new
-            (at_level F.set self.now query_at (kind_view kind) (left reader.old)) }
+            (at_level F.set self.now read_query (kind_view kind) (left reader.old)) }
     {
         reader.take_char();
         let (parts, _rest) = self.parse_segments(builder, reader, Context::LongHand)?;
@@ -69,7 +69,7 @@ impl<F: Functions> Parser<'_, F> {
 
     /// Parses what begins with a small letter (a call, `true`, `false` or `null`), and the blanks after it.
     #[cycle(filters)]
-    #[tactic(auto, unfolding(crate::specs::Filters::named_call_at))]
+    #[tactic(auto, unfolding(crate::specs::Filters::read_named_call))]
     pub(crate) fn parse_named<S: PathSource>(
         &self,
         builder: &mut SyntaxBuilder,
@@ -79,7 +79,7 @@ impl<F: Functions> Parser<'_, F> {
         ensures moves { MovesTo result reader.old reader.new }
         ensures gives { MakesOperand (signatures F.set self.now) builder.old builder.new
             result reader.new
-            (at_level F.set self.now named_at (left reader.old)) }
+            (at_level F.set self.now read_named (left reader.old)) }
     {
         let place = reader.bytes_left();
         let word = read_word(self.alloc, reader)?;
@@ -106,7 +106,7 @@ impl<F: Functions> Parser<'_, F> {
         ensures moves { MovesTo result reader.old reader.new }
         ensures gives { MakesOperand (signatures F.set self.now) builder.old builder.new
             result reader.new
-            (at_level F.set self.now operand_at (left reader.old)) }
+            (at_level F.set self.now read_operand (left reader.old)) }
     {
         match reader.peek() {
             Some(b'\'') => parse_text(self.alloc, reader, b'\''),
@@ -143,7 +143,7 @@ impl<F: Functions> Parser<'_, F> {
         ensures gives { (x : operands.Operand)
             → IsOperandOf (signatures F.set self.now) builder.old operand x
             → MakesOf (calls_in_operand x) a_comparable builder.new result reader.now
-            (at_level F.set self.now comparable_at place x (left reader.now)) }
+            (at_level F.set self.now read_comparable place x (left reader.now)) }
     {
         match operand {
             Operand::Literal(literal) => { Ok(builder.literal(literal)?) }
@@ -177,10 +177,10 @@ impl<F: Functions> Parser<'_, F> {
         ensures gives { (x : operands.Operand)
             → IsOperandOf (signatures F.set self.now) builder.old operand x
             → MakesOf (calls_in_operand x) a_basic builder.new result reader.now
-            (at_level F.set self.now test_at place x (left reader.now)) }
+            (at_level F.set self.now read_test place x (left reader.now)) }
     {
         match operand {
-            Operand::Literal(_literal) => Err(reader.refuse(
+            Operand::Literal(_literal) => Err(reader.refusal(
                 Kind::ExpectedComparisonOperator,
                 Context::LongHand,
             )),

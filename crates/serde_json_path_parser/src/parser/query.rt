@@ -1,7 +1,7 @@
 //! The whole query.
 
 ghost use Rattle.std.specs.Prelude.{◌≡◌, false, IfErr};
-ghost use Rattle.serde_json_path_parser.specs.Inside.Words.{path_at, GivesQuery, MovesTo, IsRefused, left, opens_after_root};
+ghost use Rattle.serde_json_path_parser.specs.Inside.Words.{read_path, IsQueryAsRead, MovesTo, IsRefused, left, opens_after_root};
 
 use crate::error::{Context, Failure, ParseErrorKind as Kind, Refusal};
 use crate::parser::reader::Reader;
@@ -15,20 +15,20 @@ use std::alloc::Global;
 /// functions of this set.
 ///
 /// Memory is asked for only once a segment has begun.
-#[tactic(auto, unfolding(crate::specs::Filters::path_at))]
+#[tactic(auto, unfolding(crate::specs::Filters::read_path))]
 pub(crate) fn parse_path<S: PathSource, F: Functions>(
     alloc: Global,
     reader: &mut Reader<'_, S>,
     functions: &F,
 ) -> Result<Checked, Failure>
     ensures moves { MovesTo result reader.old reader.new }
-    ensures gives { GivesQuery (F.set functions.now) result
-        (path_at (F.set functions.now).signature (left reader.old)) }
+    ensures gives { IsQueryAsRead (F.set functions.now) result
+        (read_path (F.set functions.now).signature (left reader.old)) }
     ensures spares { IfErr result (λ stop.
         opens_after_root (left reader.old) ≡ false → IsRefused stop) }
 {
     if !reader.sees(b'$') {
-        return Err(reader.refuse(Kind::ExpectedRoot, Context::Path));
+        return Err(reader.refusal(Kind::ExpectedRoot, Context::Path));
     }
     reader.take_char();
     let mut builder = SyntaxBuilder::new(alloc);

@@ -71,7 +71,7 @@ impl<'s, S: PathSource> Reader<'s, S> {
         ensures second { self.new.second ≡ None }
     {
         let lead = self.next.unwrap();
-        // A character of one byte has a way of its own, in which nothing is decoded.
+        // A character of one byte needs no decoding.
         if lead < 0x80 {
             self.index += 1;
             // One test finds both the text's end and a known byte, so that a second byte costs the others nothing.
@@ -128,7 +128,7 @@ impl<'s, S: PathSource> Reader<'s, S> {
     }
 
     /// A refusal at the next character.
-    pub(crate) fn refuse(&self, kind: ParseErrorKind, context: Context) -> Failure
+    pub(crate) fn refusal(&self, kind: ParseErrorKind, context: Context) -> Failure
         ensures value { result ≡ Failure.Refused (refusal kind context (left self.now)) }
         ensures near { StopsNear result self.now }
     {
@@ -140,7 +140,7 @@ impl<'s, S: PathSource> Reader<'s, S> {
     }
 
     /// A refusal at the ASCII character that was just taken.
-    pub(crate) fn refuse_before(&self, kind: ParseErrorKind, context: Context) -> Failure
+    pub(crate) fn refusal_before(&self, kind: ParseErrorKind, context: Context) -> Failure
         requires { self.now.second ≡ None }
         ensures value { (c : ℕ) → c < 128
             → result ≡ Failure.Refused (refusal kind context (c ∷ left self.now)) }
@@ -179,7 +179,7 @@ impl<'s, S: PathSource> Reader<'s, S> {
     }
 
     /// Whether these two ASCII characters are next. The byte after the next one is looked at, once, only where the
-    /// first fits.
+    /// first one is next.
     pub(crate) fn sees_both(&mut self, first: u8, second: u8) -> bool
         requires first { first < 128 }
         requires second { second < 128 }
@@ -339,7 +339,7 @@ impl<'s, S: PathSource> Reader<'s, S> {
         self.peek().is_some_and(|next| next.is_ascii_hexdigit())
     }
 
-    /// Whether a character is next that a backslash may escape in a string of these quotes, other than `u`.
+    /// Whether a character is next that a backslash may escape in a string in these quotes, other than `u`.
     pub(crate) fn sees_letter_escape(&self, quote: u8) -> bool
         requires { quote < 128 }
         ensures { result ≡ begins (is_letter_escape quote) (left self.now) }
@@ -356,7 +356,7 @@ impl<'s, S: PathSource> Reader<'s, S> {
         self.peek().is_some_and(|next| next < 32)
     }
 
-    /// Whether a string of these quotes goes on here.
+    /// Whether a string in these quotes goes on here.
     pub(crate) fn sees_inside(&self, quote: u8) -> bool
         requires { quote < 128 }
         ensures { result ≡ begins (is_inside quote) (left self.now) }

@@ -1,7 +1,7 @@
 //! Segments.
 
 ghost use Rattle.std.specs.Prelude.{◌≡◌, true, ℕ, List, Option, IfErr, false};
-ghost use Rattle.serde_json_path_parser.specs.Inside.Words.{segment_kind_view, Signature, Makes, MakesSegments, segment_piece, MovesTo, IsRefused, filter_at, signatures, left, begins, opens, bracket_at, after_dot, dotted_at, of_kind, segment_at, segments_at, opens_next};
+ghost use Rattle.serde_json_path_parser.specs.Inside.Words.{segment_kind_view, Signature, Makes, MakesSegments, segment_piece, MovesTo, IsRefused, read_filter, signatures, left, begins, opens, read_bracket, after_dot, read_dotted, of_kind, read_segment, read_segments, opens_next};
 
 use crate::error::{Context, Failure, ParseErrorKind as Kind};
 use crate::parser::Parser;
@@ -25,7 +25,7 @@ fn parse_dotted<S: PathSource>(
     ensures moves { MovesTo result reader.old reader.new }
     ensures gives { (signature : List ℕ → Option Signature)
         → Makes signature segment_piece builder.old builder.new result reader.new
-        (of_kind (segment_kind_view kind) (dotted_at context (left reader.old))) }
+        (of_kind (segment_kind_view kind) (read_dotted context (left reader.old))) }
 {
     if reader.sees(b'*') {
         reader.take_char();
@@ -58,11 +58,11 @@ impl<F: Functions> Parser<'_, F> {
         ensures gives { Makes (signatures F.set self.now) segment_piece builder.old builder.new
             result reader.new
             (of_kind (segment_kind_view kind)
-            (bracket_at (filter_at F.set self.now) (left reader.old))) }
+            (read_bracket (read_filter F.set self.now) (left reader.old))) }
     {
         let selectors = self.parse_selectors(builder, reader)?;
         if !reader.sees(b']') {
-            return Err(reader.refuse(Kind::ExpectedClosingBracket, Context::LongHand));
+            return Err(reader.refusal(Kind::ExpectedClosingBracket, Context::LongHand));
         }
         reader.take_char();
         Ok(builder.long_hand(kind, selectors)?)
@@ -80,7 +80,7 @@ impl<F: Functions> Parser<'_, F> {
         ensures moves { MovesTo result reader.old reader.new }
         ensures gives { Makes (signatures F.set self.now) segment_piece builder.old builder.new
             result reader.new
-            (segment_at (filter_at F.set self.now) context (left reader.old)) }
+            (read_segment (read_filter F.set self.now) context (left reader.old)) }
     {
         let mut kind = SegmentKind::Child;
         if reader.sees(b'.') {
@@ -111,7 +111,7 @@ impl<F: Functions> Parser<'_, F> {
         ensures moves { MovesTo result reader.old reader.new }
         ensures gives { MakesSegments (signatures F.set self.now) builder.old builder.new
             result reader.new
-            (segments_at (filter_at F.set self.now) context (left reader.old)) }
+            (read_segments (read_filter F.set self.now) context (left reader.old)) }
         ensures spares { IfErr result (λ stop.
             opens_next (left reader.old) ≡ false → IsRefused stop) }
     {

@@ -1,7 +1,7 @@
 //! Selectors.
 
 ghost use Rattle.std.specs.Prelude.{◌≡◌, ℕ, List, Option};
-ghost use Rattle.serde_json_path_parser.specs.Inside.Words.{a_selector, Signature, Makes, MakesSelectors, MovesTo, filter_at, signatures, left, begins, IsQuote, position_at, quoted_at, selector_at, selectors_at};
+ghost use Rattle.serde_json_path_parser.specs.Inside.Words.{a_selector, Signature, Makes, MakesSelectors, MovesTo, read_filter, signatures, left, begins, IsQuote, read_index_or_slice, read_quoted, read_selector, read_selectors};
 
 use crate::error::Failure;
 use crate::parser::Parser;
@@ -23,7 +23,7 @@ fn parse_index_or_slice<S: PathSource>(
     ensures moves { MovesTo result reader.old reader.new }
     ensures gives { (signature : List ℕ → Option Signature)
         → Makes signature a_selector builder.old builder.new result reader.new
-        (position_at (left reader.old)) }
+        (read_index_or_slice (left reader.old)) }
 {
     let start = parse_int(reader)?;
     reader.skip_blanks();
@@ -36,7 +36,7 @@ fn parse_index_or_slice<S: PathSource>(
 }
 
 /// Parses a name selector after its opening quote, and the blanks after it (RFC 9535, section 2.3.1).
-#[tactic(auto, unfolding(crate::specs::Parsing::quoted_at))]
+#[tactic(auto, unfolding(crate::specs::Parsing::read_quoted))]
 fn parse_quoted<S: PathSource>(
     alloc: Global,
     builder: &mut SyntaxBuilder,
@@ -47,7 +47,7 @@ fn parse_quoted<S: PathSource>(
     ensures moves { MovesTo result reader.old reader.new }
     ensures gives { (signature : List ℕ → Option Signature)
         → Makes signature a_selector builder.old builder.new result reader.new
-        (quoted_at quote (left reader.old)) }
+        (read_quoted quote (left reader.old)) }
 {
     let text = parse_string(alloc, reader, quote)?;
     reader.skip_blanks();
@@ -65,7 +65,7 @@ impl<F: Functions> Parser<'_, F> {
         ensures moves { MovesTo result reader.old reader.new }
         ensures gives { Makes (signatures F.set self.now) a_selector builder.old builder.new
             result reader.new
-            (selector_at (filter_at F.set self.now) (left reader.old)) }
+            (read_selector (read_filter F.set self.now) (left reader.old)) }
     {
         // Filters first, which a `match` on the next byte does not do: it takes fourteen instructions more for each.
         if reader.sees(b'?') {
@@ -104,7 +104,7 @@ impl<F: Functions> Parser<'_, F> {
         ensures moves { MovesTo result reader.old reader.new }
         ensures gives { MakesSelectors (signatures F.set self.now) builder.old builder.new
             result reader.new
-            (selectors_at (filter_at F.set self.now) (left reader.old)) }
+            (read_selectors (read_filter F.set self.now) (left reader.old)) }
     {
         reader.skip_blanks();
         let first = self.parse_selector(builder, reader)?;

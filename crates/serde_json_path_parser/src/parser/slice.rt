@@ -1,7 +1,7 @@
 //! Slices.
 
 ghost use Rattle.std.specs.Prelude.{IfOk};
-ghost use Rattle.serde_json_path_parser.specs.Inside.Words.{slice_view, IsOptionalInteger, Gives, MovesTo, left, bound_at, slice_at};
+ghost use Rattle.serde_json_path_parser.specs.Inside.Words.{slice_view, IsOptionalInteger, IsAsRead, MovesTo, left, read_bound, read_slice};
 
 use crate::error::Failure;
 use crate::parser::primitive::int::parse_int;
@@ -12,7 +12,7 @@ use serde_json_path_syntax::Slice;
 /// Parses a bound of a slice and the blanks after it, or nothing.
 fn parse_bound<S: PathSource>(reader: &mut Reader<'_, S>) -> Result<Option<i64>, Failure>
     ensures moves { MovesTo result reader.old reader.new }
-    ensures gives { Gives (λ i. i) result reader.new (bound_at (left reader.old)) }
+    ensures gives { IsAsRead (λ i. i) result reader.new (read_bound (left reader.old)) }
     ensures range { IfOk result (λ i. IsOptionalInteger i) }
 {
     if !reader.sees_int() {
@@ -30,7 +30,7 @@ pub(crate) fn parse_rest_of_slice<S: PathSource>(
 ) -> Result<Slice, Failure>
     requires { IsOptionalInteger start }
     ensures moves { MovesTo result reader.old reader.new }
-    ensures gives { Gives slice_view result reader.new (slice_at start (left reader.old)) }
+    ensures gives { IsAsRead slice_view result reader.new (read_slice start (left reader.old)) }
     ensures start { IfOk result (λ slice. IsOptionalInteger slice.start) }
     ensures end { IfOk result (λ slice. IsOptionalInteger slice.end) }
     ensures step { IfOk result (λ slice. IsOptionalInteger slice.step) }

@@ -102,7 +102,7 @@ fn push_ascii(text: &mut String, bytes: &[u8]) -> Result<(), AllocError>
 
 /// Takes one or more characters of a class from an index on, beginning with this one, and appends them to a text.
 /// Returns where they end, and the byte there.
-// Out of line, so that no other function has a place for the gathered characters.
+// Out of line, so that no other function keeps room for the gathered characters.
 #[inline(never)]
 pub(crate) fn push_stretch<S: PathSource, C: Class>(
     source: &mut S,

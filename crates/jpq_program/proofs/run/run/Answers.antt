@@ -8,7 +8,7 @@ returns-in-Ok-WrongUse-clause-status g c =
 
 pub returns-clause-status : goal.returns-clause-status
 returns-clause-status g c = elim c.match-read.branch [
-  | in-Ok-Run w ↦ inl (w.in-Ok-Run.field-0, rw w.in-Ok-Run.is at c.read.ensures, rw w.in-Ok-Run.field-0-is c.status_of.ensures.few)
-  | in-Ok-Print w ↦ inl (w.in-Ok-Print.field-0, rw w.in-Ok-Print.is at c.read.ensures, rw w.in-Ok-Print.field-0-is c.status_of.ensures.few)
-  | in-Err w ↦ inr (c.status_of.ensures.memory w.ended-is)
+  | in-Ok-Run w ↦ inl (w.in-Ok-Run.field-0, rw w.in-Ok-Run.is at c.read.ensures, rw w.in-Ok-Run.field-0-is c.exit_status.ensures.few)
+  | in-Ok-Print w ↦ inl (w.in-Ok-Print.field-0, rw w.in-Ok-Print.is at c.read.ensures, rw w.in-Ok-Print.field-0-is c.exit_status.ensures.few)
+  | in-Err w ↦ inr (c.exit_status.ensures.memory w.ended-is)
 ]

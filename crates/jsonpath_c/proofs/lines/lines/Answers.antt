@@ -23,10 +23,10 @@ returns-in-Err-Path c =
     let same = c.in-Ok.ensures.cases.0 in
     let e = c.in-Err-Path.e in
     let refused : c.report_in.result ≡ Err (Path e) = search rules in
-    let reported : c.refuse.result ≡ 1 → IsReportedWith c.args.path.now e = λ one. (
+    let reported : c.put_refusal.result ≡ 1 → IsReportedWith c.args.path.now e = λ one. (
       (
         rw (before_itself, same) at (c.report_in.ensures.path_refused e refused),
-        λ memory. let no : ◌≡◌ {A = ℕ} 1 4 = sym one ∙ (c.refuse.ensures.memory memory).0 in cc,
+        λ memory. let no : ◌≡◌ {A = ℕ} 1 4 = sym one ∙ (c.put_refusal.ensures.memory memory).0 in cc,
       ),
       rw (before_itself, same) at (c.report_in.ensures.path_reported e refused),
     ) in

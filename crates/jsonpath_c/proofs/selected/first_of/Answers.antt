@@ -19,4 +19,4 @@ returns-then-not-branch c =
     let all : map located found ≡ map located (take index found) ++ (located node ∷ map located later) =
     ap (map located) (sym (take-append-drop index found) ∙ ap (λ l. take index found ++ l) next) ∙ map-append located (take index found) (node ∷ later) in
     subst (λ (list : List KeptNode). AreFirstNodes limits (map located found) list false) (sym full.1)
-    (cut_within limits c.loop-node.filling.left (map located (take index found)) (located node) (map located later) (map located found) c.loop-node.filling.nodes c.loop-node.invariant all full.0)
+    (cut_within limits c.loop-node.bounded_list.left (map located (take index found)) (located node) (map located later) (map located found) c.loop-node.bounded_list.nodes c.loop-node.invariant all full.0)

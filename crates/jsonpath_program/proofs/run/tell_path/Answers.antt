@@ -5,7 +5,7 @@ use Rattle.serde_json_path_parser.specs.declared.error.ParseErrorKind.TheVariant
 use Rattle.jsonpath_program.specs.Run.{AppendsBeginning, line_of}
 use Rattle.jsonpath_program.specs.declared.report.ReportError.TheVariants.{Path}
 use Rattle.jsonpath_program.proofs.Runs.{no_memory_line}
-use Rattle.jsonpath_program.proofs.Lines.{beginning_of_longer}
+use Rattle.jsonpath_program.proofs.Beginnings.{beginning_of_longer}
 use Rattle.jsonpath_program.proofs.run.tell_path.Goals as goal
 
 pub returns-then-eq : goal.returns-then-eq

@@ -1,6 +1,6 @@
 use Rattle.std.proofs.Common.{◌++◌, take, sym, ap, ◌∙◌}
 use Rattle.std.proofs.KnownBytes.{Appends-kept, Appends-trans}
-use Rattle.jsonpath_program.proofs.Lines.{split_further}
+use Rattle.jsonpath_program.proofs.Beginnings.{split_further}
 use Rattle.jsonpath_program.proofs.run.write_text.Goals as goal
 use Rattle.jsonpath_program.proofs.run.write_text.Goals.{in-Ok, in-Err}
 

@@ -9,7 +9,7 @@ use crate::source::PathSource;
 /// Numbers below this one take another digit in 64 bits.
 const SHORT: u128 = 1 << 60;
 
-/// The number that a digit after a number makes of it, saturating at `u128::MAX`.
+/// Appends a digit to a number, saturating at `u128::MAX`.
 #[inline(always)]
 fn with_digit(n: u128, digit: u32) -> u128
     requires { digit < 10 }

@@ -1,7 +1,7 @@
 //! Integers.
 
 ghost use Rattle.std.specs.Prelude.{◌≡◌, ◌≤◌, List, ℕ, length, IfOk};
-ghost use Rattle.serde_json_path_parser.specs.Inside.Words.{largest, IsInteger, Gives, MovesTo, left, digits_at, int_at};
+ghost use Rattle.serde_json_path_parser.specs.Inside.Words.{largest, IsInteger, IsAsRead, MovesTo, left, read_digits, read_int};
 
 use crate::error::{Context, Failure, ParseErrorKind as Kind};
 use crate::parser::primitive::decimal::parse_decimal;
@@ -15,7 +15,7 @@ const LARGEST: u128 = 9_007_199_254_740_991;
 /// range is checked.
 fn parse_digits<S: PathSource>(reader: &mut Reader<'_, S>, place: usize) -> Result<u64, Failure>
     ensures moves { MovesTo result reader.old reader.new }
-    ensures gives { Gives (λ n. n) result reader.new (digits_at place (left reader.old)) }
+    ensures gives { IsAsRead (λ n. n) result reader.new (read_digits place (left reader.old)) }
     ensures range { IfOk result (λ n. n ≤ largest) }
 {
     let n = parse_decimal(reader);
@@ -25,17 +25,17 @@ fn parse_digits<S: PathSource>(reader: &mut Reader<'_, S>, place: usize) -> Resu
     Ok(n as u64)
 }
 
-/// Parses an integer of -(2^53 - 1) to 2^53 - 1 (RFC 9535, section 2.3.3.1): an index, or a part of a slice.
+/// Parses an integer from -(2^53 - 1) to 2^53 - 1 (RFC 9535, section 2.3.3.1): an index, or a part of a slice.
 pub(crate) fn parse_int<S: PathSource>(reader: &mut Reader<'_, S>) -> Result<i64, Failure>
     ensures moves { MovesTo result reader.old reader.new }
-    ensures gives { Gives (λ i. i) result reader.new (int_at (left reader.old)) }
+    ensures gives { IsAsRead (λ i. i) result reader.new (read_int (left reader.old)) }
     ensures range { IfOk result (λ i. IsInteger i) }
 {
     let place = reader.bytes_left();
     if reader.sees(b'-') {
         reader.take_char();
         if !reader.sees_first_digit() {
-            return Err(reader.refuse_before(Kind::ExpectedSelector, Context::LongHand));
+            return Err(reader.refusal_before(Kind::ExpectedSelector, Context::LongHand));
         }
         let amount = parse_digits(reader, place)?;
         return Ok(-(amount as i64));
@@ -45,7 +45,7 @@ pub(crate) fn parse_int<S: PathSource>(reader: &mut Reader<'_, S>) -> Result<i64
         return Ok(0);
     }
     if !reader.sees_first_digit() {
-        return Err(reader.refuse(Kind::ExpectedSelector, Context::LongHand));
+        return Err(reader.refusal(Kind::ExpectedSelector, Context::LongHand));
     }
     let amount = parse_digits(reader, place)?;
     Ok(amount as i64)

@@ -1,7 +1,7 @@
 //! Number literals.
 
 ghost use Rattle.std.specs.Prelude.{◌≡◌, ◌≤◌, ◌<◌, ℕ, List, length, IfOk};
-ghost use Rattle.serde_json_path_parser.specs.Inside.Words.{number_amount, Gives, MovesTo, left, whole_at, fraction_at, amount_at, number_at, capped};
+ghost use Rattle.serde_json_path_parser.specs.Inside.Words.{number_amount, IsAsRead, MovesTo, left, read_whole, read_fraction, read_amount, read_number, capped};
 
 use crate::error::{Failure, ParseErrorKind as Kind};
 use crate::parser::primitive::decimal::parse_decimal;
@@ -21,7 +21,7 @@ const TOO_MANY: u128 = (1 << 127) - 1;
 /// Parses the digits before a point.
 fn parse_whole<S: PathSource>(reader: &mut Reader<'_, S>, place: usize) -> Result<u128, Failure>
     ensures moves { MovesTo result reader.old reader.new }
-    ensures gives { Gives (λ n. n) result reader.new (capped (whole_at place (left reader.old))) }
+    ensures gives { IsAsRead (λ n. n) result reader.new (capped (read_whole place (left reader.old))) }
 {
     if reader.sees(b'0') {
         reader.take_char();
@@ -33,11 +33,11 @@ fn parse_whole<S: PathSource>(reader: &mut Reader<'_, S>, place: usize) -> Resul
     Ok(parse_decimal(reader))
 }
 
-/// Parses a fraction, whose digits are read whole: its billionths, or 0 where there is none.
-#[tactic(auto, unfolding(crate::specs::Numbers::fraction_at))]
+/// Parses a fraction, whose digits are read whole. Returns its billionths, or 0 where there is none.
+#[tactic(auto, unfolding(crate::specs::Numbers::read_fraction))]
 fn parse_fraction<S: PathSource>(reader: &mut Reader<'_, S>, place: usize) -> Result<u128, Failure>
     ensures moves { MovesTo result reader.old reader.new }
-    ensures gives { Gives (λ n. n) result reader.new (fraction_at place (left reader.old)) }
+    ensures gives { IsAsRead (λ n. n) result reader.new (read_fraction place (left reader.old)) }
 {
     if !reader.sees(b'.') {
         if reader.sees_exponent() {
@@ -61,24 +61,24 @@ fn parse_fraction<S: PathSource>(reader: &mut Reader<'_, S>, place: usize) -> Re
     Ok(value * 10_u128.pow((FRACTION_DIGITS - count) as u32))
 }
 
-/// Parses a number without its sign: its billionths, or `u128::MAX` where there are more.
-#[tactic(auto, unfolding(crate::specs::Numbers::amount_at))]
+/// Parses a number without its sign. Returns its billionths, or `u128::MAX` where there are more.
+#[tactic(auto, unfolding(crate::specs::Numbers::read_amount))]
 fn parse_amount<S: PathSource>(reader: &mut Reader<'_, S>, place: usize) -> Result<u128, Failure>
     ensures moves { MovesTo result reader.old reader.new }
-    ensures gives { Gives (λ n. n) result reader.new (capped (amount_at place (left reader.old))) }
+    ensures gives { IsAsRead (λ n. n) result reader.new (capped (read_amount place (left reader.old))) }
 {
     let whole = parse_whole(reader, place)?;
     let fraction = parse_fraction(reader, place)?;
     Ok(whole.saturating_mul(ONE).saturating_add(fraction))
 }
 
-/// Parses a number literal of -2^63 to 2^64 - 1 (RFC 9535, section 2.3.5.1), from its first digit or its `-` on. It
+/// Parses a number literal from -2^63 to 2^64 - 1 (RFC 9535, section 2.3.5.1), from its first digit or its `-` on. It
 /// has no exponent, and at most nine digits after its point. Its digits are read whole before they are checked.
 pub(crate) fn parse_number<S: PathSource>(
     reader: &mut Reader<'_, S>,
 ) -> Result<NumberLiteral, Failure>
     ensures moves { MovesTo result reader.old reader.new }
-    ensures gives { Gives number_amount result reader.new (number_at (left reader.old)) }
+    ensures gives { IsAsRead number_amount result reader.new (read_number (left reader.old)) }
 {
     let place = reader.bytes_left();
     let is_negative = reader.sees(b'-');

@@ -1,7 +1,7 @@
 //! Comparison operators.
 
 ghost use Rattle.std.specs.Prelude.{◌≡◌, IsNone, option_map};
-ghost use Rattle.serde_json_path_parser.specs.Inside.Words.{operator_view, operator_at, left, Moves};
+ghost use Rattle.serde_json_path_parser.specs.Inside.Words.{operator_view, read_operator, left, Moves};
 
 use crate::parser::reader::Reader;
 use crate::source::PathSource;
@@ -14,10 +14,10 @@ pub(crate) fn parse_operator<S: PathSource>(
 ) -> Option<ComparisonOperator>
     ensures moves { Moves reader.old reader.new }
     ensures stays { IsNone result → left reader.new ≡ left reader.old }
-    ensures value { operator_at (left reader.old)
+    ensures value { read_operator (left reader.old)
         ≡ option_map (λ op. (operator_view op, left reader.new)) result }
 {
-    // After a test there is none, which one look tells.
+    // After a test there is none, and one look shows that.
     if !reader.sees_operator() {
         return None;
     }

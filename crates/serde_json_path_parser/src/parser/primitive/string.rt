@@ -1,7 +1,7 @@
 //! String literals.
 
 ghost use Rattle.std.specs.Prelude.{◌≡◌, ◌==◌, ◌<◌, ◌≤◌, ◌+◌, ◌^◌, ℕ, List, length, true, IfOk, string_bytes};
-ghost use Rattle.serde_json_path_parser.specs.Inside.Words.{IsScalar, Gives, MovesTo, left, begins, IsQuote, hexadecimal_at, hex4_at, is_high, low_at, unicode_at, piece_at, is_inside, string_at};
+ghost use Rattle.serde_json_path_parser.specs.Inside.Words.{IsScalar, IsAsRead, MovesTo, left, begins, IsQuote, read_hexadecimal, read_hex4, is_high, read_low, read_unicode, read_piece, is_inside, read_string};
 
 use crate::error::{Context, Failure, ParseErrorKind as Kind};
 use crate::parser::reader::Reader;
@@ -9,14 +9,14 @@ use crate::parser::stretch::PlainChars;
 use crate::source::PathSource;
 use std::alloc::Global;
 
-/// Parses a hexadecimal digit of either case.
+/// Parses a hexadecimal digit in either case.
 fn parse_hexadecimal<S: PathSource>(
     reader: &mut Reader<'_, S>,
     place: usize,
 ) -> Result<u32, Failure>
     ensures moves { MovesTo result reader.old reader.new }
     ensures small { IfOk result (λ n. n < 16) }
-    ensures gives { Gives (λ n. n) result reader.new (hexadecimal_at place (left reader.old)) }
+    ensures gives { IsAsRead (λ n. n) result reader.new (read_hexadecimal place (left reader.old)) }
 {
     if !reader.sees_hexadecimal() {
         return Err(Failure::in_long_hand(Kind::BadEscape, place));
@@ -35,7 +35,7 @@ fn parse_hexadecimal<S: PathSource>(
 fn parse_hex4<S: PathSource>(reader: &mut Reader<'_, S>, place: usize) -> Result<u32, Failure>
     ensures moves { MovesTo result reader.old reader.new }
     ensures small { IfOk result (λ n. n < 65536) }
-    ensures gives { Gives (λ n. n) result reader.new (hex4_at place (left reader.old)) }
+    ensures gives { IsAsRead (λ n. n) result reader.new (read_hex4 place (left reader.old)) }
 {
     let a = parse_hexadecimal(reader, place)?;
     let b = parse_hexadecimal(reader, place)?;
@@ -52,7 +52,7 @@ fn parse_low_surrogate<S: PathSource>(
 ) -> Result<char, Failure>
     requires { is_high high ≡ true }
     ensures moves { MovesTo result reader.old reader.new }
-    ensures gives { Gives (λ c. c) result reader.new (low_at place high (left reader.old)) }
+    ensures gives { IsAsRead (λ c. c) result reader.new (read_low place high (left reader.old)) }
 {
     if !reader.sees(b'\\') {
         return Err(Failure::in_long_hand(Kind::BadEscape, place));
@@ -69,10 +69,10 @@ fn parse_low_surrogate<S: PathSource>(
     Ok(char::from_u32(0x10000 + 0x400 * (high - 0xd800) + (low - 0xdc00)).unwrap())
 }
 
-/// Parses the digits of an escape after its `u`: its character.
+/// Parses the digits of an escape after its `u`, and returns the character that they name.
 fn parse_unicode<S: PathSource>(reader: &mut Reader<'_, S>, place: usize) -> Result<char, Failure>
     ensures moves { MovesTo result reader.old reader.new }
-    ensures gives { Gives (λ c. c) result reader.new (unicode_at place (left reader.old)) }
+    ensures gives { IsAsRead (λ c. c) result reader.new (read_unicode place (left reader.old)) }
 {
     let code = parse_hex4(reader, place)?;
     if code >= 0xd800 && code <= 0xdbff {
@@ -89,11 +89,11 @@ fn parse_piece<S: PathSource>(reader: &mut Reader<'_, S>, quote: u8) -> Result<c
     requires quote { quote < 128 }
     requires inside { begins (is_inside quote) (left reader.old) ≡ true }
     ensures moves { MovesTo result reader.old reader.new }
-    ensures gives { Gives (λ c. c) result reader.new (piece_at quote (left reader.old)) }
+    ensures gives { IsAsRead (λ c. c) result reader.new (read_piece quote (left reader.old)) }
 {
     if !reader.sees(b'\\') {
         if reader.sees_control() {
-            return Err(reader.refuse(Kind::ControlCharacter, Context::LongHand));
+            return Err(reader.refusal(Kind::ControlCharacter, Context::LongHand));
         }
         return Ok(reader.take_char());
     }
@@ -125,8 +125,8 @@ pub(crate) fn parse_string<S: PathSource>(
 ) -> Result<String, Failure>
     requires { IsQuote quote }
     ensures moves { MovesTo result reader.old reader.new }
-    ensures gives { Gives (λ text. string_bytes text) result reader.new
-        (string_at quote (left reader.old)) }
+    ensures gives { IsAsRead (λ text. string_bytes text) result reader.new
+        (read_string quote (left reader.old)) }
 {
     let mut text = String::new(alloc);
     let plain = PlainChars { quote };
@@ -139,7 +139,7 @@ pub(crate) fn parse_string<S: PathSource>(
         text.push(c)?;
     }
     if !reader.sees(quote) {
-        return Err(reader.refuse(Kind::ExpectedEndingQuote, Context::LongHand));
+        return Err(reader.refusal(Kind::ExpectedEndingQuote, Context::LongHand));
     }
     reader.take_char();
     Ok(text)

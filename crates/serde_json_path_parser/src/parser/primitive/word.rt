@@ -24,7 +24,7 @@ pub(crate) fn read_word<S: PathSource>(
     Ok(text)
 }
 
-/// The literal that is written so.
+/// The literal that is written as this word.
 pub(crate) fn literal_word(word: &str) -> Option<Literal>
     ensures { option_map literal_view result ≡ literal_word word.now }
 {

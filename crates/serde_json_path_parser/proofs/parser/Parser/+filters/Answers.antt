@@ -1,7 +1,7 @@
 use Rattle.serde_json_path_parser.proofs.Reading.{first_fails, no_longer, with_none}
 use Rattle.serde_json_path_parser.proofs.Texts.{is_ahead}
-use Rattle.serde_json_path_parser.proofs.Words.{drop, ◌∙◌, [], Some, Err, refl, sym, ap, option_map, arith, true≢false, past_blanks, string_bytes, nil_from_length, err_from_is_err_and, literal_view, operator_view, a_comparable, logical_argument, call, signature_view, alone, and_list, or_list, signatures, deeper, begins, is_at, opens, a_literal, a_call, left, common_steps, selector_list, segments_at, segment_list, named_call_at, calls_in_operand, a_query, AreAndPartsOf, AreOrPartsOf, AreSelectorsOf, map, kind_view, argument_at, segment_kind_view, query_kind_view}
-use Rattle.serde_json_path_parser.specs.Inside.Giving.{filter_at}
+use Rattle.serde_json_path_parser.proofs.Words.{drop, ◌∙◌, [], Some, Err, refl, sym, ap, option_map, arith, true≢false, past_blanks, string_bytes, nil_from_length, err_from_is_err_and, literal_view, operator_view, a_comparable, logical_argument, call, signature_view, alone, and_list, or_list, signatures, deeper, begins, is_at, opens, a_literal, a_call, left, common_steps, selector_list, read_segments, segment_list, read_named_call, calls_in_operand, a_query, AreAndPartsOf, AreOrPartsOf, AreSelectorsOf, map, kind_view, read_argument, segment_kind_view, query_kind_view}
+use Rattle.serde_json_path_parser.specs.Inside.Giving.{read_filter}
 use Rattle.serde_json_path_parser.proofs.Steps.{none_made, one_more, first_refused, first_open, alone_calls, literal_word_reads, level_down, at_mark, value_kind, negated_named, no_call, grows_none, grows_kept, grows_same, grows_then, grows_call, grown_so, begins_row, row_fails, row_shorter, row_goes_on, row_done, segments_stand, selectors_stand, ors_stand, ands_stand, segment_shorter, some_parts}
 use Rattle.serde_json_path_parser.proofs.parser.Parser.+filters.Goals as goal
 use Rattle.serde_json_path_syntax.specs.Tree as tree
@@ -42,19 +42,19 @@ parse_and_from-returns-clause-gives g t c = λ x is.
     )
 
 pub parse_argument-returns-then-sees_parenthesis_or_negation-clause-gives : goal.parse_argument-returns-then-sees_parenthesis_or_negation-clause-gives
-unfolding argument_at
+unfolding read_argument
 parse_argument-returns-then-sees_parenthesis_or_negation-clause-gives g t c =
     let e = c.in_ok-expression.ensures.gives in
     (logical_argument e.0, (e.0, refl, e.1), grind (arith, common_steps), e.3)
 
 pub parse_argument-returns-then-sees_end_of_argument-clause-gives : goal.parse_argument-returns-then-sees_end_of_argument-clause-gives
-unfolding argument_at
+unfolding read_argument
 parse_argument-returns-then-sees_end_of_argument-clause-gives g t c =
     let o = c.in_ok-operand.ensures.gives in
     (alone o.0, (o.0, refl, o.1), grind (arith, common_steps), grows_same (alone_calls o.0) o.3)
 
 pub parse_argument-returns-clause-gives : goal.parse_argument-returns-clause-gives
-unfolding argument_at
+unfolding read_argument
 parse_argument-returns-clause-gives g t c =
     let o = c.in_ok-operand.ensures.gives in
     let b = rw c.bytes_left-place.ensures.value at (c.in_ok-basic.ensures.gives o.0 o.1) in
@@ -77,35 +77,35 @@ parse_arguments-returns-in_err-argument-clause-gives g t c =
 
 pub parse_arguments-returns-then-not-sees_end_of_argument-clause-gives : goal.parse_arguments-returns-then-not-sees_end_of_argument-clause-gives
 parse_arguments-returns-then-not-sees_end_of_argument-clause-gives g t c =
-    c.arguments.invariant.so_far.made c.arguments.builder [] c.arguments.reader (Err c.refuse.result)
-    (rw c.refuse.ensures.value (first_open (signatures g.F.Functions.set c.args.self.now) (deeper g.F.Functions.set c.args.self.now) c.args.place (map kind_view c.arguments.types.now) (left c.arguments.reader) _ c.in_ok-argument.ensures.gives.2 (sym c.sees_end_of_argument.ensures ∙ c.if-not-sees_end_of_argument.true)))
+    c.arguments.invariant.so_far.made c.arguments.builder [] c.arguments.reader (Err c.refusal.result)
+    (rw c.refusal.ensures.value (first_open (signatures g.F.Functions.set c.args.self.now) (deeper g.F.Functions.set c.args.self.now) c.args.place (map kind_view c.arguments.types.now) (left c.arguments.reader) _ c.in_ok-argument.ensures.gives.2 (sym c.sees_end_of_argument.ensures ∙ c.if-not-sees_end_of_argument.true)))
 
 pub parse_arguments-returns-in_default-clause-gives : goal.parse_arguments-returns-in_default-clause-gives
 parse_arguments-returns-in_default-clause-gives g t c =
     c.arguments.invariant.so_far.made c.arguments.builder [] c.arguments.reader (Err c.in_long_hand.result)
     (rw (c.in_long_hand.ensures, nil_from_length c.arguments.types.now c.in_default.ensures.cases, c.in_ok-argument.ensures.gives.2, sym c.sees_end_of_argument.ensures ∙ c.if-not-sees_end_of_argument.false) refl)
 
-pub parse_arguments-returns-then-not-fits-clause-gives : goal.parse_arguments-returns-then-not-fits-clause-gives
-parse_arguments-returns-then-not-fits-clause-gives g t c =
+pub parse_arguments-returns-then-not-suits-clause-gives : goal.parse_arguments-returns-then-not-suits-clause-gives
+parse_arguments-returns-then-not-suits-clause-gives g t c =
     let a = c.in_ok-argument.ensures.gives in
-    let fits = c.fits.ensures _ a.0 a.1 in
-    c.arguments.invariant.so_far.made c.arguments.builder [] c.arguments.reader (Err c.in_long_hand-then-not-fits.result) (grind (arith, common_steps, a.2, fits))
+    let suits = c.suits.ensures _ a.0 a.1 in
+    c.arguments.invariant.so_far.made c.arguments.builder [] c.arguments.reader (Err c.in_long_hand-then-not-suits.result) (grind (arith, common_steps, a.2, suits))
 
 pub parse_arguments-arguments-preserved : goal.parse_arguments-arguments-preserved
 parse_arguments-arguments-preserved g t c =
     let a = c.in_ok-argument.ensures.gives in
-    let fits = c.fits.ensures _ a.0 a.1 in
+    let suits = c.suits.ensures _ a.0 a.1 in
     let further = c.skip_blanks.ensures.left ∙ ap (λ cs. past_blanks (drop 1 cs)) (sym c.take_char.ensures.value) in
     record {
       moves = grind (arith, common_steps);
-      so_far = one_more a.0 c.arguments.invariant.so_far c.in_ok-push.ensures.items (c.in_ok-part.ensures.made _ a.0 a.1) (grows_kept a.3 c.part.ensures.keeps) (grind (arith, common_steps, a.2, fits, further));
+      so_far = one_more a.0 c.arguments.invariant.so_far c.in_ok-push.ensures.items (c.in_ok-part.ensures.made _ a.0 a.1) (grows_kept a.3 c.part.ensures.keeps) (grind (arith, common_steps, a.2, suits, further));
     }
 
 pub parse_arguments-returns-then-not-sees-clause-gives : goal.parse_arguments-returns-then-not-sees-clause-gives
 parse_arguments-returns-then-not-sees-clause-gives g t c =
     let a = c.in_ok-argument.ensures.gives in
-    let fits = c.fits.ensures _ a.0 a.1 in
-    (one_more a.0 c.arguments.invariant.so_far c.in_ok-push.ensures.items (c.in_ok-part.ensures.made _ a.0 a.1) (grows_kept a.3 c.part.ensures.keeps) (grind (arith, common_steps, a.2, fits))).made _ _ _ c.parse_end-then-not-sees.result
+    let suits = c.suits.ensures _ a.0 a.1 in
+    (one_more a.0 c.arguments.invariant.so_far c.in_ok-push.ensures.items (c.in_ok-part.ensures.made _ a.0 a.1) (grows_kept a.3 c.part.ensures.keeps) (grind (arith, common_steps, a.2, suits))).made _ _ _ c.parse_end-then-not-sees.result
     (none_made _ c.part.new.builder c.push.new.self.items _ _ _ c.parse_end-then-not-sees.ensures.gives)
 
 pub parse_basic-returns-then-sees-clause-gives : goal.parse_basic-returns-then-sees-clause-gives
@@ -172,10 +172,10 @@ parse_inside-returns-clause-gives g t c =
     rw (level_down (signatures g.F.Functions.set c.args.self.now) c.args.self.now.depth c.deeper.result.depth (omega (arith, c.if-self-eq0.false)) c.deeper.ensures.depth, c.take_char.ensures.value, ← c.skip_blanks.ensures.left) (rw c.deeper.ensures.functions at c.parse_logical_or.ensures.gives)
 
 pub parse_named-returns-then-sees-clause-gives : goal.parse_named-returns-then-sees-clause-gives
-unfolding named_call_at
+unfolding read_named_call
 parse_named-returns-then-sees-clause-gives g t c =
     let k = rw c.bytes_left-place.ensures.value at c.in_ok-call.ensures.gives in
-    (a_call k.0, (k.0, refl, k.1.0, k.1.1), rw (c.requires, ← c.in_ok-word.ensures.rest, sym c.sees.ensures ∙ c.if-sees.true, named_call_at, ← c.in_ok-word.ensures.word, k.2) refl, k.3)
+    (a_call k.0, (k.0, refl, k.1.0, k.1.1), rw (c.requires, ← c.in_ok-word.ensures.rest, sym c.sees.ensures ∙ c.if-sees.true, read_named_call, ← c.in_ok-word.ensures.word, k.2) refl, k.3)
 
 pub parse_named-returns-in-Some-clause-gives : goal.parse_named-returns-in-Some-clause-gives
 parse_named-returns-in-Some-clause-gives g t c =
@@ -304,7 +304,7 @@ parse_segments-segments-init g t c = record {
       items = [];
       are = rw c.new-parts.ensures.items tt;
       some = omega arith;
-      reads = with_none (segments_at (filter_at g.F.Functions.set c.args.self.now) c.args.context (left c.args.reader.now));
+      reads = with_none (read_segments (read_filter g.F.Functions.set c.args.self.now) c.args.context (left c.args.reader.now));
       grown = λ before grown. grown;
     },
   );

@@ -1,5 +1,5 @@
-use Rattle.serde_json_path_parser.proofs.Words.{calls_in_and, calls_in_basic, parts_in, LogicalAnd, Basic, IsPart, an_and, a_basic, begins, opens, signatures, at_level, and_from, or_from, past_blanks, byte_count, opens_next, selectors_at, segments_at, left, Moves, kind_view, parameters_at, arguments_at, ◌≡◌, ◌+◌, ◌*◌, ℕ, List, [], false, length, map}
-use Rattle.serde_json_path_parser.specs.Inside.Giving.{filter_at}
+use Rattle.serde_json_path_parser.proofs.Words.{calls_in_and, calls_in_basic, parts_in, LogicalAnd, Basic, IsPart, an_and, a_basic, begins, opens, signatures, at_level, read_and_from, read_or_from, past_blanks, byte_count, opens_next, read_selectors, read_segments, left, Moves, kind_view, read_arguments, read_some_arguments, ◌≡◌, ◌+◌, ◌*◌, ℕ, List, [], false, length, map}
+use Rattle.serde_json_path_parser.specs.Inside.Giving.{read_filter}
 use Rattle.serde_json_path_parser.proofs.Steps.{LeadsTo, SoFar, segment_row, selector_row, or_row, and_row}
 use Rattle.serde_json_path_parser.proofs.parser.Parser.+filters.Given as goal
 
@@ -76,7 +76,7 @@ invariant-parse_segments-segments g l = record {
   none : opens_next (left l.fn.reader) ≡ false → begins opens (left l.reader) ≡ false;
   so_far : (rest : List ℕ) × (l.rest ≡ byte_count rest) × (left l.reader ≡ past_blanks rest)
       × SoFar (at_level g.F.Functions.set l.self segment_row l.context) (signatures g.F.Functions.set l.self) l.fn.builder l.builder [] (parts_in l.parts) rest
-      (segments_at (filter_at g.F.Functions.set l.self) l.context (left l.fn.reader));
+      (read_segments (read_filter g.F.Functions.set l.self) l.context (left l.fn.reader));
 }
 
 abbrev pub decreases-parse_segments-segments : goal.decreases-parse_segments-segments
@@ -86,7 +86,7 @@ abbrev pub invariant-parse_selectors-selectors : goal.invariant-parse_selectors-
 invariant-parse_selectors-selectors g l = record {
   moves : Moves l.fn.reader l.reader;
   so_far : SoFar (at_level g.F.Functions.set l.self selector_row) (signatures g.F.Functions.set l.self) l.fn.builder l.builder [] (parts_in l.parts) (left l.reader)
-      (selectors_at (filter_at g.F.Functions.set l.self) (left l.fn.reader));
+      (read_selectors (read_filter g.F.Functions.set l.self) (left l.fn.reader));
 }
 
 abbrev pub decreases-parse_selectors-selectors : goal.decreases-parse_selectors-selectors
@@ -97,7 +97,7 @@ invariant-parse_or_from-parts g l = record {
   moves : Moves l.fn.reader l.reader;
   so_far : (a : LogicalAnd) → IsPart l.fn.builder l.fn.first (an_and a)
       → SoFar (at_level g.F.Functions.set l.self or_row) (signatures g.F.Functions.set l.self) l.fn.builder l.builder (calls_in_and a) (parts_in l.parts) (left l.reader)
-      (at_level g.F.Functions.set l.self or_from a (left l.fn.reader));
+      (at_level g.F.Functions.set l.self read_or_from a (left l.fn.reader));
 }
 
 abbrev pub decreases-parse_or_from-parts : goal.decreases-parse_or_from-parts
@@ -108,7 +108,7 @@ invariant-parse_and_from-parts g l = record {
   moves : Moves l.fn.reader l.reader;
   so_far : (b : Basic) → IsPart l.fn.builder l.fn.first (a_basic b)
       → SoFar (at_level g.F.Functions.set l.self and_row) (signatures g.F.Functions.set l.self) l.fn.builder l.builder (calls_in_basic b) (parts_in l.parts) (left l.reader)
-      (at_level g.F.Functions.set l.self and_from b (left l.fn.reader));
+      (at_level g.F.Functions.set l.self read_and_from b (left l.fn.reader));
 }
 
 abbrev pub decreases-parse_and_from-parts : goal.decreases-parse_and_from-parts
@@ -118,7 +118,7 @@ abbrev pub invariant-parse_arguments-arguments : goal.invariant-parse_arguments-
 invariant-parse_arguments-arguments g l = record {
   moves : Moves l.fn.reader l.reader;
   so_far : LeadsTo g.S.PathSource (signatures g.F.Functions.set l.self) l.fn.builder l.builder l.fn.parts.items l.parts.items
-      (at_level g.F.Functions.set l.self arguments_at l.place (map kind_view l.types) (left l.reader)) (at_level g.F.Functions.set l.self parameters_at l.place (map kind_view l.fn.types) (left l.fn.reader));
+      (at_level g.F.Functions.set l.self read_some_arguments l.place (map kind_view l.types) (left l.reader)) (at_level g.F.Functions.set l.self read_arguments l.place (map kind_view l.fn.types) (left l.fn.reader));
 }
 
 abbrev pub decreases-parse_arguments-arguments : goal.decreases-parse_arguments-arguments

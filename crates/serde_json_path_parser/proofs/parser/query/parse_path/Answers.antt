@@ -1,11 +1,11 @@
-use Rattle.serde_json_path_parser.proofs.Words.{err_from_is_err_and, parts_in, query, root, AreCalled, Fits, path_at, segment_list, left, calls_in, ◌≡◌, ◌∙◌, [], true≢false, Ok, sym, ap, subst, refl, arith}
+use Rattle.serde_json_path_parser.proofs.Words.{err_from_is_err_and, parts_in, query, root, AreCalled, Fits, read_path, segment_list, left, calls_in, ◌≡◌, ◌∙◌, [], true≢false, Ok, sym, ap, subst, refl, arith}
 use Rattle.serde_json_path_parser.proofs.Grammar.Paths.{all_read, none_read, path_outcome}
 use Rattle.serde_json_path_syntax.proofs.Names.Once.{called_once, each_fits, fits_once}
 use Rattle.serde_json_path_parser.proofs.Steps.{all_declared, finishes, none_for_none}
 use Rattle.serde_json_path_parser.proofs.parser.query.parse_path.Goals as goal
 
 pub returns-then-is_empty-clause-gives : goal.returns-then-is_empty-clause-gives
-unfolding path_at
+unfolding read_path
 returns-then-is_empty-clause-gives g c =
     let gives = c.in_ok-parts.ensures.gives in
     let ended = all_read gives.1 c.in_ok-parts.rest gives.3 (omega (arith, c.if-rest-ne0.false)) in
@@ -27,22 +27,22 @@ returns-in_err-part-clause-spares g c =
     absurd (true≢false (sym empty ∙ c.if-is_empty.false)))
 
 pub finish-requires : goal.finish-requires
-unfolding path_at
+unfolding read_path
 finish-requires g c =
     let F = g.F.Functions.set c.args.functions.now in
     let gives = c.in_ok-parts.ensures.gives in
     let ended = all_read gives.1 c.in_ok-parts.rest gives.3 (omega (arith, c.if-rest-ne0.false)) in
-    let whole : path_at F.signature (left c.args.reader.now) ≡ Ok (segment_list gives.0) = rw (sym c.sees.ensures ∙ c.if-not-sees.false, c.take_char.ensures.value, gives.5, ended) refl in
+    let whole : read_path F.signature (left c.args.reader.now) ≡ Ok (segment_list gives.0) = rw (sym c.sees.ensures ∙ c.if-not-sees.false, c.take_char.ensures.value, gives.5, ended) refl in
     let sound = (path_outcome F.signature (left c.args.reader.now)).reads (segment_list gives.0) whole in
     (query root (segment_list gives.0), c.in_ok-part.ensures.made (segment_list gives.0) gives.2, finishes F.signature c.new-builder.result c.parse_segments.new.builder c.query.new.self (segment_list gives.0) c.new-builder.ensures.silent gives.6 c.query.ensures.keeps sound.1.0.0 sound.1.0.1)
 
 pub returns-clause-gives : goal.returns-clause-gives
-unfolding path_at
+unfolding read_path
 returns-clause-gives g c =
     let F = g.F.Functions.set c.args.functions.now in
     let gives = c.in_ok-parts.ensures.gives in
     let ended = all_read gives.1 c.in_ok-parts.rest gives.3 (omega (arith, c.if-rest-ne0.false)) in
-    let whole : path_at F.signature (left c.args.reader.now) ≡ Ok (segment_list gives.0) = rw (sym c.sees.ensures ∙ c.if-not-sees.false, c.take_char.ensures.value, gives.5, ended) refl in
+    let whole : read_path F.signature (left c.args.reader.now) ≡ Ok (segment_list gives.0) = rw (sym c.sees.ensures ∙ c.if-not-sees.false, c.take_char.ensures.value, gives.5, ended) refl in
     let q = query root (segment_list gives.0) in
     let sound = (path_outcome F.signature (left c.args.reader.now)).reads (segment_list gives.0) whole in
     let finished = finishes F.signature c.new-builder.result c.parse_segments.new.builder c.query.new.self (segment_list gives.0) c.new-builder.ensures.silent gives.6 c.query.ensures.keeps sound.1.0.0 sound.1.0.1 in

@@ -1,4 +1,4 @@
-use Rattle.serde_json_path_parser.proofs.Words.{begins, is_digit, is_exponent, front, past, left, ◌≡◌, ◌-◌, ◌<◌, ◌≤◌, true, false, length, sym, ap, ◌∙◌, arith, fraction_at}
+use Rattle.serde_json_path_parser.proofs.Words.{begins, is_digit, is_exponent, front, past, left, ◌≡◌, ◌-◌, ◌<◌, ◌≤◌, true, false, length, sym, ap, ◌∙◌, arith, read_fraction}
 use Rattle.serde_json_path_parser.proofs.Grammar.Numbers.{counted, fraction_below, fraction_is, too_long, reads}
 use Rattle.serde_json_path_parser.proofs.Reading.{front_each}
 use Rattle.serde_json_path_parser.proofs.parser.primitive.number.parse_fraction.Goals as goal
@@ -9,7 +9,7 @@ overflow_sub-count g c =
     omega (arith, read)
 
 pub returns-then-count-gt-FRACTION_DIGITS-clause-gives : goal.returns-then-count-gt-FRACTION_DIGITS-clause-gives
-unfolding fraction_at
+unfolding read_fraction
 returns-then-count-gt-FRACTION_DIGITS-clause-gives g c =
     let cs = left c.take_char.new.self in
     let read = counted cs (left c.parse_decimal-value.new.reader) c.bytes_left-before.result c.bytes_left.result c.parse_decimal-value.ensures.rest c.bytes_left-before.ensures.value c.bytes_left.ensures.value in
@@ -27,7 +27,7 @@ overflow_mul-result g c =
     rw is (omega (arith, fraction_below (front is_digit cs) (front_each is_digit cs) few))
 
 pub returns-clause-gives : goal.returns-clause-gives
-unfolding fraction_at
+unfolding read_fraction
 returns-clause-gives g c =
     let cs = left c.take_char.new.self in
     let read = counted cs (left c.parse_decimal-value.new.reader) c.bytes_left-before.result c.bytes_left.result c.parse_decimal-value.ensures.rest c.bytes_left-before.ensures.value c.bytes_left.ensures.value in

@@ -1,0 +1,6 @@
+use Rattle.std.proofs.Common.{◌≡◌, ◌+◌}
+use Rattle.jsonpath_c.specs.Handles.{name_bytes}
+use Rattle.jsonpath_c.proofs.bounded_list.without_names.Given as goal
+
+abbrev pub invariant-loop-element : goal.invariant-loop-element
+invariant-loop-element l = l.left + name_bytes l.fn.location ≡ l.bytes + name_bytes l.element-iterator

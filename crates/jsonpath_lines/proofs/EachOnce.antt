@@ -1,0 +1,152 @@
+-- Nodes of which each location is taken once: of their beginning, of one node more, and of those that were taken so before.
+use Rattle.std.proofs.Common.{◌≡◌, ◌⊎◌, inl, inr, ℕ, Bool, true, false, ◌||◌, if◌then◌else◌, List, [], ◌∷◌, ◌++◌, Option, Some, None, length, map, take, refl, sym, ap, subst, ◌∙◌, append_assoc, append-nil, arith}
+use Rattle.std.proofs.lemmas.Bool.Decides.{nat_tests}
+use Rattle.std.proofs.lemmas.List.{take-append-le}
+use Rattle.std.proofs.lemmas.List.Folds.{list_any-append}
+use Rattle.serde_json_path_nodes.specs.Lists.{first_places, first_places_after, is_among}
+use Rattle.serde_json_path_nodes.specs.Location.{Located, Step}
+use Rattle.serde_json_path_nodes.specs.Same.{same_steps, same_steps_decides}
+use Rattle.serde_json_path_nodes.specs.Views.{located, location_of}
+use Rattle.serde_json_path_nodes.specs.declared.located_node.LocatedNode.{LocatedNode}
+use Rattle.jsonpath_lines.specs.Distinct.{AreEnough, IsExceeded}
+use Rattle.jsonpath_lines.specs.Inside.{TookDistinct}
+use Rattle.jsonpath_lines.specs.Output.{up_to}
+use Rattle.jsonpath_lines.specs.declared.distinct.DistinctNodes.{DistinctNodes}
+
+-- nodes that follow others
+after_append : (earlier : List (List Step)) (nodes later : List Located)
+    → first_places_after earlier (nodes ++ later) ≡ first_places_after earlier nodes ++ first_places_after (earlier ++ map location_of nodes) later
+after_append earlier [] later = ap (λ e. first_places_after e later) (sym (append-nil earlier))
+after_append earlier (n ∷ nodes) later =
+    let first : List Located = if is_among n.location earlier then [] else n ∷ [] in
+    let seen : List (List Step) = earlier ++ n.location ∷ [] in
+    ap (λ l. first ++ l) (after_append seen nodes later)
+    ∙ sym (append_assoc first (first_places_after seen nodes) (first_places_after (seen ++ map location_of nodes) later))
+    ∙ ap (λ e. (first ++ first_places_after seen nodes) ++ first_places_after e later) (append_assoc earlier (n.location ∷ []) (map location_of nodes))
+
+-- a location that is among others adds none to them
+absorbed : (same among : Bool) → (same ≡ true → among ≡ true) → (among || same) ≡ among
+absorbed true true h = refl
+absorbed true false h = sym (h refl)
+absorbed false true h = refl
+absorbed false false h = refl
+
+adds_none : (location known : List Step) (earlier : List (List Step)) → is_among known earlier ≡ true
+    → (is_among location earlier || same_steps location known) ≡ is_among location earlier
+adds_none location known earlier among =
+    absorbed (same_steps location known) (is_among location earlier)
+    (λ same. ap (λ l. is_among l earlier) ((same_steps_decides location known).0 same) ∙ among)
+
+-- the locations of the nodes that are taken are those of all
+with_one : (location known : List Step) (earlier others : List (List Step))
+    → is_among location ((earlier ++ known ∷ []) ++ others) ≡ ((is_among location earlier || same_steps location known) || is_among location others)
+with_one location known earlier others =
+    grind (arith, nat_tests, list_any-append (same_steps location) (earlier ++ known ∷ []) others, list_any-append (same_steps location) earlier (known ∷ []))
+
+one_among : (earlier : List (List Step)) (n : Located) (nodes : List Located) (location : List Step) (among : Bool) → is_among n.location earlier ≡ among
+    → is_among location ((earlier ++ n.location ∷ []) ++ map location_of (first_places_after (earlier ++ n.location ∷ []) nodes))
+    ≡ is_among location ((earlier ++ n.location ∷ []) ++ map location_of nodes)
+    → is_among location (earlier ++ map location_of ((if among then [] else n ∷ []) ++ first_places_after (earlier ++ n.location ∷ []) nodes))
+    ≡ is_among location (earlier ++ n.location ∷ map location_of nodes)
+one_among earlier n nodes location true is further =
+    let seen : List (List Step) = earlier ++ n.location ∷ [] in
+    let taken : List (List Step) = map location_of (first_places_after seen nodes) in
+    list_any-append (same_steps location) earlier taken
+    ∙ ap (λ b. b || is_among location taken) (sym (adds_none location n.location earlier is))
+    ∙ sym (with_one location n.location earlier taken)
+    ∙ further
+    ∙ ap (is_among location) (append_assoc earlier (n.location ∷ []) (map location_of nodes))
+one_among earlier n nodes location false is further =
+    let seen : List (List Step) = earlier ++ n.location ∷ [] in
+    let taken : List (List Step) = map location_of (first_places_after seen nodes) in
+    ap (is_among location) (sym (append_assoc earlier (n.location ∷ []) taken))
+    ∙ further
+    ∙ ap (is_among location) (append_assoc earlier (n.location ∷ []) (map location_of nodes))
+
+same_among : (earlier : List (List Step)) (nodes : List Located) (location : List Step)
+    → is_among location (earlier ++ map location_of (first_places_after earlier nodes)) ≡ is_among location (earlier ++ map location_of nodes)
+same_among earlier [] location = refl
+same_among earlier (n ∷ nodes) location =
+    one_among earlier n nodes location (is_among n.location earlier) refl (same_among (earlier ++ n.location ∷ []) nodes location)
+
+-- of nodes that are taken so, all are taken again, after no other locations than before
+abbrev AreAmong : List (List Step) → List (List Step) → Type 0
+AreAmong some others = (location : List Step) → is_among location some ≡ true → is_among location others ≡ true
+
+among_more : (known : List Step) (some others : List (List Step)) → AreAmong some others → AreAmong some (others ++ known ∷ [])
+among_more known some others are location is =
+    list_any-append (same_steps location) others (known ∷ []) ∙ ap (λ b. b || is_among location (known ∷ [])) (are location is)
+
+among_both : (known : List Step) (some others : List (List Step)) → AreAmong some others → AreAmong (some ++ known ∷ []) (others ++ known ∷ [])
+among_both known some others are location is =
+    let in_some = list_any-append (same_steps location) some (known ∷ []) in
+    let in_others = list_any-append (same_steps location) others (known ∷ []) in
+    let passed = are location in
+    grind (arith, nat_tests)
+
+-- a location that is not among others is not among some of them
+not_among : (location : List Step) (some others : List (List Step)) → AreAmong some others → is_among location others ≡ false → is_among location some ≡ false
+not_among location some others are is = grind (arith, nat_tests, are location)
+
+one_again : (earlier known : List (List Step)) (n : Located) (nodes : List Located) (among : Bool) → is_among n.location earlier ≡ among → AreAmong known earlier
+    → ((k : List (List Step)) → AreAmong k (earlier ++ n.location ∷ []) → first_places_after k (first_places_after (earlier ++ n.location ∷ []) nodes) ≡ first_places_after (earlier ++ n.location ∷ []) nodes)
+    → first_places_after known ((if among then [] else n ∷ []) ++ first_places_after (earlier ++ n.location ∷ []) nodes)
+    ≡ (if among then [] else n ∷ []) ++ first_places_after (earlier ++ n.location ∷ []) nodes
+one_again earlier known n nodes true is are further = further known (among_more n.location known earlier are)
+one_again earlier known n nodes false is are further =
+    let taken : List Located = first_places_after (earlier ++ n.location ∷ []) nodes in
+    ap (λ b. (if b then [] else n ∷ []) ++ first_places_after (known ++ n.location ∷ []) taken) (not_among n.location known earlier are is)
+    ∙ ap (λ l. n ∷ l) (further (known ++ n.location ∷ []) (among_both n.location known earlier are))
+
+again_after : (earlier known : List (List Step)) (nodes : List Located) → AreAmong known earlier
+    → first_places_after known (first_places_after earlier nodes) ≡ first_places_after earlier nodes
+again_after earlier known [] are = refl
+again_after earlier known (n ∷ nodes) are =
+    one_again earlier known n nodes (is_among n.location earlier) refl are (λ k. again_after (earlier ++ n.location ∷ []) k nodes)
+
+pub distinct_again : (nodes : List Located) → first_places (first_places nodes) ≡ first_places nodes
+distinct_again nodes = again_after [] [] nodes (λ _ is. is)
+
+-- the first places of the beginning of a list are the beginning of those of all
+pub distinct_beginning : (nodes later : List Located) → (more : List Located) × (first_places (nodes ++ later) ≡ first_places nodes ++ more)
+distinct_beginning nodes later = (first_places_after (map location_of nodes) later, after_append [] nodes later)
+
+-- one node more
+pub distinct_push : (some others : List Located) (next : Located) → first_places some ≡ first_places others → first_places (some ++ next ∷ []) ≡ first_places (others ++ next ∷ [])
+distinct_push some others next same =
+    let among : is_among next.location (map location_of some) ≡ is_among next.location (map location_of others) =
+    sym (same_among [] some next.location) ∙ ap (λ l. is_among next.location (map location_of l)) same ∙ same_among [] others next.location in
+    after_append [] some (next ∷ [])
+    ∙ ap (λ b. first_places some ++ ((if b then [] else next ∷ []) ++ [])) among
+    ∙ ap (λ l. l ++ ((if is_among next.location (map location_of others) then [] else next ∷ []) ++ [])) same
+    ∙ sym (after_append [] others (next ∷ []))
+
+-- ---- a sink of nodes that differ in their locations
+
+-- none were taken yet
+pub none_met : (found : DistinctNodes) → found.nodes.items ≡ [] → TookDistinct found [] found
+none_met found none = record { limit = refl; met = ap (λ (nodes : List LocatedNode). first_places (map located nodes)) none }
+
+-- those that are left are enough
+pub enough_met : (before old : DistinctNodes) (nodes later found : List Located) → TookDistinct before nodes old
+    → found ≡ first_places (map located old.nodes.items) → IsExceeded old.limit (length found) → AreEnough before.limit (first_places (nodes ++ later)) found
+enough_met before old nodes later found took left many =
+    let same : first_places nodes ≡ found = sym took.met ∙ sym left in
+    let beginning = distinct_beginning nodes later in (
+      beginning.0,
+      beginning.1 ∙ ap (λ (l : List Located). l ++ beginning.0) same,
+      inr (subst (λ limit. IsExceeded limit (length found)) took.limit many),
+    )
+
+-- what is left of all is enough
+pub all_met : (before now : DistinctNodes) (nodes left : List Located) → TookDistinct before nodes now → left ≡ first_places (map located now.nodes.items) → AreEnough before.limit (first_places nodes) left
+all_met before now nodes left took is = ([], sym (append-nil (first_places nodes)) ∙ ap (λ (l : List Located). l ++ []) (sym (is ∙ took.met)), inl refl)
+
+-- the first of enough nodes, up to a limit, are the first of all
+pub first_of_enough : (limit : Option ℕ) (nodes found : List Located) → AreEnough limit nodes found → up_to limit found ≡ up_to limit nodes
+first_of_enough limit nodes found enough = by_rest limit nodes found enough.0 enough.1 enough.2
+  where
+    by_rest : (limit : Option ℕ) (nodes found later : List Located) → nodes ≡ found ++ later → (later ≡ []) ⊎ IsExceeded limit (length found) → up_to limit found ≡ up_to limit nodes
+    by_rest limit nodes found later is (inl none) = ap (up_to limit) (sym (is ∙ ap (λ (l : List Located). found ++ l) none ∙ append-nil found))
+    by_rest None nodes found later is (inr more) = absurd more
+    by_rest (Some most) nodes found later is (inr more) = sym (ap (λ (ns : List Located). take most ns) is ∙ take-append-le most found later (omega (arith, more)))

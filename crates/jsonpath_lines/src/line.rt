@@ -1,0 +1,168 @@
+//! The lines of nodes, one after the other.
+
+ghost use Rattle.std.specs.Prelude.{◌≡◌, ◌++◌, codes, IfOk, OnOk, string_bytes};
+ghost use Rattle.json.specs.Lex.{tokens};
+ghost use Rattle.json.specs.Print.{ArePrintable};
+ghost use Rattle.serde_json.specs.Written.{comma_if};
+ghost use Rattle.serde_json_path_nodes.specs.Views.{located};
+ghost use Rattle.jsonpath_lines.specs.Output.{IsLine, IsText};
+ghost use Rattle.jsonpath_lines.specs.Inside.{Appends, IsArrayLine, IsClosedIn, IsLaidOut, IsPiece, opening};
+
+use crate::forms::{Form, Layout, Output};
+use crate::values::{indented, push_item, push_json, push_raw};
+use serde_json_path::LocatedNode;
+use std::alloc::{AllocError, Global};
+
+/// How nodes are written: in which form, and what each line begins with.
+#[derive(Clone, Copy, Drop)]
+pub(crate) struct LineWriter<'a> {
+    pub(crate) alloc: Global,
+    pub(crate) output: &'a Output,
+    pub(crate) head: &'a str,
+}
+
+/// Appends a comma where something stands before.
+fn push_comma(text: &mut String, is_later: bool) -> Result<(), AllocError>
+    ensures { OnOk result
+        (string_bytes text.new ≡ string_bytes text.old ++ comma_if is_later) }
+{
+    if is_later {
+        return text.push(',');
+    }
+    Ok(())
+}
+
+impl LineWriter<'_> {
+    /// Appends what is written before all nodes.
+    pub(crate) fn open(&self, text: &mut String) -> Result<(), AllocError>
+        ensures { OnOk result
+            (string_bytes text.new ≡ string_bytes text.old ++ opening self.now.output.now.form) }
+    {
+        if self.output.form == Form::Json {
+            return text.push('[');
+        }
+        Ok(())
+    }
+
+    /// Appends a node's text in its form.
+    // Inlined, as what calls it and what it calls: each node passes here.
+    #[inline(always)]
+    fn push_text(&self, text: &mut String, node: &LocatedNode<'_>) -> Result<(), AllocError>
+        ensures { OnOk result (Appends
+            (IsText self.now.output.now.form self.now.output.now.layout (located node.now))
+            (string_bytes text.old) (string_bytes text.new)) }
+    {
+        let (alloc, layout) = (self.alloc, self.output.layout);
+        match self.output.form {
+            Form::LocationAndValue => {
+                write!(text, "{}\t", node.location())?;
+                push_json(alloc, layout, text, node.node())
+            }
+            Form::Value => push_json(alloc, layout, text, node.node()),
+            Form::Raw => push_raw(alloc, layout, text, node.node()),
+            Form::Location => write!(text, "{}", node.location()),
+            Form::Pointer => {
+                let pointer = node.location().to_json_pointer(alloc)?;
+                text.push_str(pointer.as_str())
+            }
+            Form::Json | Form::Count | Form::Nothing => Ok(()),
+        }
+    }
+
+    /// Appends a node's line.
+    #[inline(always)]
+    fn push_line(&self, text: &mut String, node: &LocatedNode<'_>) -> Result<(), AllocError>
+        ensures { OnOk result (Appends
+            (IsLine self.now.output.now self.now.head.now (located node.now))
+            (string_bytes text.old) (string_bytes text.new)) }
+    {
+        text.push_str(self.head)?;
+        self.push_text(text, node)?;
+        text.push_str(self.output.end.as_str())
+    }
+
+    /// Appends what is written of a node, which may be later than the first.
+    #[inline(always)]
+    pub(crate) fn push_node(
+        &self,
+        text: &mut String,
+        is_later: bool,
+        node: &LocatedNode<'_>,
+    ) -> Result<(), AllocError>
+        ensures { OnOk result (Appends
+            (IsPiece self.now.output.now self.now.head.now is_later (located node.now))
+            (string_bytes text.old) (string_bytes text.new)) }
+    {
+        match self.output.form {
+            Form::Json => {
+                push_comma(text, is_later)?;
+                push_item(self.alloc, text, node)
+            }
+            Form::Count | Form::Nothing => Ok(()),
+            _ => self.push_line(text, node),
+        }
+    }
+
+    /// The same JSON in the layout that is asked for, of JSON in one line.
+    fn laid_out(&self, json: String) -> Result<String, AllocError>
+        requires { ArePrintable (tokens (string_bytes json)) }
+        ensures { IfOk result (λ text.
+            IsLaidOut self.now.output.now.layout (string_bytes json) (string_bytes text)) }
+    {
+        match self.output.layout {
+            Layout::Compact => Ok(json),
+            Layout::Pretty => indented(self.alloc, json.as_str()),
+        }
+    }
+
+    /// The line of an array of which all but the end is written.
+    fn array_line(&self, mut array: String) -> Result<String, AllocError>
+        requires { ArePrintable (tokens (string_bytes array ++ codes "]")) }
+        ensures { IfOk result (λ shown. IsArrayLine self.now.output.now self.now.head.now
+            (string_bytes array) (string_bytes shown)) }
+    {
+        array.push(']')?;
+        let (head, end) = (self.head, self.output.end.as_str());
+        let json = self.laid_out(array)?;
+        format!(in self.alloc; "{head}{json}{end}")
+    }
+
+    /// The text of so many nodes, of what is written of them.
+    pub(crate) fn closed(&self, text: String, count: u64) -> Result<String, AllocError>
+        requires { self.now.output.now.form ≡ Form.Json
+            → ArePrintable (tokens (string_bytes text ++ codes "]")) }
+        ensures { IfOk result (λ shown. IsClosedIn self.now.output.now.form
+            self.now.output.now self.now.head.now count (string_bytes text) (string_bytes shown)) }
+    {
+        let (head, end) = (self.head, self.output.end.as_str());
+        match self.output.form {
+            Form::Json => self.array_line(text),
+            Form::Count => format!(in self.alloc; "{head}{count}{end}"),
+            _ => Ok(text),
+        }
+    }
+}
+
+/// Appends a node's line: the head, the node in the output's form, and the end of the line. It fails where memory is refused.
+///
+/// ```text
+/// push_line(alloc, &Output::compact_lines(Form::Location), "", &mut text, &node)?
+/// ```
+#[inline(always)]
+pub fn push_line(
+    alloc: Global,
+    output: &Output,
+    head: &str,
+    text: &mut String,
+    node: &LocatedNode<'_>,
+) -> Result<(), AllocError>
+    ensures { OnOk result (Appends (IsLine output.now head.now (located node.now))
+        (string_bytes text.old) (string_bytes text.new)) }
+{
+    let writer = LineWriter {
+        alloc,
+        output,
+        head,
+    };
+    writer.push_line(text, node)
+}

@@ -1,0 +1,2 @@
+-- Samples: the function set of the tests.
+pub mod Samples
