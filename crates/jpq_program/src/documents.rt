@@ -140,7 +140,9 @@ impl<F: Functions> Answering<'_, F> {
         streams: &mut Streams<'_, W, E>,
     ) -> Result<(), Stop> {
         let name = told_name(name);
-        streams.tell_refusal(format!(in self.alloc; "jpq: {name}: cannot be read: {e}\n")?.as_str());
+        streams.tell_refusal(format!(in self.alloc;
+            "jpq: {name}: cannot be read: {e}\n"
+        )?.as_str());
         Ok(())
     }
 

@@ -1,42 +1,110 @@
 //! Why a path may have selected nothing.
 
-/// What a path's canonical text names, and what that means where nothing is selected.
-const REASONS: &[(&str, &str)] = &[
+ghost use Rattle.std.specs.Prelude.{ℕ, ◌≤◌, length};
+ghost use Rattle.serde_json_path_syntax.specs.Words.{NamesBelow, nodes_in, parts_bound};
+
+use serde_json_path_syntax::{Argument, Basic, Checked, Comparable, Node, Part, Segment, Selector};
+use std::slice;
+
+/// A segment that is often meant otherwise.
+enum Slip {
+    /// This name after a dot.
+    Dotted(&'static str),
+    /// This name alone in brackets.
+    Quoted(&'static str),
+}
+
+/// What a path has, and what that means where nothing is selected.
+const REASONS: &[(Slip, &str)] = &[
     (
-        ".length",
+        Slip::Dotted("length"),
         "'length' is a member's name here; length(@.a) in a filter is how long a value is",
     ),
     (
-        ".size",
+        Slip::Dotted("size"),
         "'size' is a member's name here; length(@.a) in a filter is how long a value is",
     ),
     (
-        ".count",
+        Slip::Dotted("count"),
         "'count' is a member's name here; count(@.*) in a filter is how many nodes there are",
     ),
     (
-        "['*']",
+        Slip::Quoted("*"),
         "'*' in quotes is a member's name; without quotes it is every child",
     ),
 ];
 
-/// Whether a character may be in a member's name after a dot.
-fn is_in_name(c: char) -> bool {
-    c.is_ascii_alphanumeric() || c == '_' || !c.is_ascii()
+impl Slip {
+    /// Whether a node of a tree is this segment.
+    fn is_at(&self, tree: &Checked, node: &Node) -> bool
+        requires { NamesBelow (length (nodes_in tree.now)) node.now }
+    {
+        let Node::Segment { segment, .. } = node else {
+            return false;
+        };
+        match (self, segment) {
+            (Slip::Dotted(name), Segment::DotName(own)) => own.as_str() == *name,
+            (Slip::Quoted(name), Segment::LongHand(selectors)) => match selectors.as_slice() {
+                [selector] => match tree.node(*selector) {
+                    Node::Selector(Selector::Name(own)) => own.as_str() == *name,
+                    _ => false,
+                },
+                _ => false,
+            },
+            _ => false,
+        }
+    }
+
+    /// Whether this segment is one of some parts of a tree, or below them.
+    #[tactic(auto, using(serde_json_path_syntax::proofs::Tree::NamedParts::within_get))]
+    fn is_among(&self, tree: &Checked, parts: &[Part]) -> bool
+        requires { parts_bound parts.now ≤ length (nodes_in tree.now) }
+    {
+        for part in parts {
+            let node = tree.node(*part);
+            let (below, others) = parts_below(node);
+            if self.is_at(tree, node) || self.is_among(tree, below) || self.is_among(tree, others) {
+                return true;
+            }
+        }
+        false
+    }
 }
 
-/// Whether a path names a part, and the name does not go on after it.
-fn names(path: &str, part: &str) -> bool {
-    path.split(part)
-        .skip(1)
-        .any(|rest| !rest.starts_with(is_in_name))
+/// The parts that a node names, those of the right side of a comparison by themselves.
+fn parts_below(node: &Node) -> (&[Part], &[Part])
+    ensures first { (n : ℕ) → NamesBelow n node.now → parts_bound result.0.now ≤ n }
+    ensures second { (n : ℕ) → NamesBelow n node.now → parts_bound result.1.now ≤ n }
+{
+    match node {
+        Node::Query { segments, .. } => (segments.as_slice(), &[]),
+        Node::Segment {
+            segment: Segment::LongHand(selectors),
+            ..
+        } => (selectors.as_slice(), &[]),
+        Node::LogicalOr(parts) | Node::LogicalAnd(parts) => (parts.as_slice(), &[]),
+        Node::Call { arguments, .. } => (arguments.as_slice(), &[]),
+        Node::Basic(Basic::Relation { left, right, .. }) => {
+            (slice::from_ref(left), slice::from_ref(right))
+        }
+        Node::Selector(Selector::Filter(part))
+        | Node::Basic(Basic::Paren(part) | Basic::NotParen(part))
+        | Node::Basic(Basic::Exist(part) | Basic::NotExist(part))
+        | Node::Basic(Basic::Test(part) | Basic::NotTest(part))
+        | Node::Comparable(Comparable::Singular(part) | Comparable::Called(part))
+        | Node::Argument(Argument::Query(part) | Argument::Call(part) | Argument::Logical(part)) =>
+            { (slice::from_ref(part), &[]) }
+        Node::Segment { .. } | Node::Selector(_) | Node::Comparable(_) | Node::Argument(_) => {
+            (&[], &[])
+        }
+    }
 }
 
-/// A reason why a path selects nothing, if its canonical text shows one.
-pub(crate) fn reason_of(path: &str) -> Option<&'static str> {
-    for &(part, reason) in REASONS {
-        if names(path, part) {
-            return Some(reason);
+/// A reason why a path selects nothing, if its tree shows one.
+pub(crate) fn reason_of(tree: &Checked) -> Option<&'static str> {
+    for (slip, reason) in REASONS {
+        if slip.is_among(tree, tree.segments()) {
+            return Some(*reason);
         }
     }
     None

@@ -13,7 +13,7 @@ use crate::inputs::Inputs;
 use crate::nothing::reason_of;
 use crate::paths::{AskedPath, asked_paths};
 use crate::streams::{OUTPUT_FAILED, REFUSED, SELECTED, Stop, Streams, WRONG_USE};
-use jpq_options::options::{Request, Color, Options, read};
+use jpq_options::options::{Color, Options, Request, read};
 use jsonpath_lines::Output;
 use serde_json_path::functions::{CachedPatterns, Functions, Numbers, PatternStore, Ruled};
 use std::alloc::Global;
@@ -41,7 +41,7 @@ fn hint_at_nothing<W: Write, E: Write>(
     streams: &mut Streams<'_, W, E>,
 ) -> Result<(), Stop> {
     for path in paths {
-        if let Some(reason) = reason_of(path.path.to_string(alloc)?.as_str()) {
+        if let Some(reason) = reason_of(path.path.tree()) {
             streams.tell(format!(in alloc; "jpq: nothing was selected: {reason}\n")?.as_str());
             return Ok(());
         }

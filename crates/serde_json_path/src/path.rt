@@ -4,6 +4,7 @@ ghost use Rattle.std.specs.Prelude.{◌≡◌, [], IfOk, IfErr, IsTrue, ◌↔�
 ghost use Rattle.serde_json.specs.View.{view};
 ghost use Rattle.serde_json_path_nodes.specs.Views.{located_nodes, node_values};
 ghost use Rattle.serde_json_path_syntax.specs.Tree.{query, root, no_segments};
+ghost use Rattle.serde_json_path_syntax.specs.Parts.{tree_of, signatures_of};
 ghost use Rattle.serde_json_path_core.specs.Selects.{OnlyMemoryOrPattern, Selects, SelectsValues};
 ghost use Rattle.serde_json_path_core.specs.Walks.{rest, query_of, set_of, document_of};
 ghost use Rattle.serde_json_path_functions.specs.Functions.{Fits};
@@ -113,6 +114,14 @@ impl JsonPath {
             ↔ Fits (before_builtin (F.set functions.now)) (path_signatures self.now) }
     {
         self.checked.fits(&Both(functions, Builtin))
+    }
+
+    /// The syntax tree of the path, with the signatures that it keeps.
+    pub fn tree(&self) -> &Checked
+        ensures tree { tree_of result.now ≡ path_tree self.now }
+        ensures used { signatures_of result.now ≡ path_signatures self.now }
+    {
+        &self.checked
     }
 
     /// The nodes that the path selects from a document, with their locations, in order (RFC 9535, section 2.1.2). The path

@@ -3,6 +3,8 @@ use Rattle.std.specs.Prelude.{ℕ, ◌-◌, ◌==◌, ◌&&◌, ◌||◌, Bool, 
 use Rattle.std.specs.List.{list_any, starts_with, ends_with}
 use Rattle.std.specs.Str.{str_eq_ignore_ascii_case}
 use Rattle.std.specs.Char.{is_ascii_alphabetic, is_ascii_digit}
+use Rattle.serde_json_path_hints.specs.declared.condition.Condition.{Condition}
+use Rattle.serde_json_path_hints.specs.declared.condition.Condition.TheVariants.{Any, Empty, Starts, Ends, Holds, Word, Near, Name, Dashed, Digit, EndsInName, EndsInLetter, EndsInDigit}
 
 -- ---- bytes and words
 
@@ -41,20 +43,12 @@ is_one_letter_away [] [] = true
 
 -- ---- conditions
 
-pub data Condition : Type 0 where
-  Any : Condition
-  Empty : Condition
-  Starts : List (List ℕ) → Condition
-  Ends : List (List ℕ) → Condition
-  Holds : List (List ℕ) → Condition
-  Word : List (List ℕ) → Condition
-  Near : List ℕ → Condition
-  Name : Condition
-  Dashed : Condition
-  Digit : Condition
-  EndsInName : Condition
-  EndsInLetter : Condition
-  EndsInDigit : Condition
+-- texts as the tables of `src/slips/` have them
+abbrev pub Text : Type 0
+Text = record { now : List ℕ }
+
+abbrev pub Texts : Type 0
+Texts = record { now : List Text }
 
 -- there is a byte, and it passes the test
 abbrev pub passes : (ℕ → Bool) → Option ℕ → Bool
@@ -68,14 +62,14 @@ abbrev pub last_passes : (ℕ → Bool) → List ℕ → Bool
 last_passes test text = passes test (slice_get text (length text - 1))
 
 -- the text is as the condition says
-abbrev pub is_met : Condition → List ℕ → Bool
+abbrev pub is_met : Condition Texts → List ℕ → Bool
 is_met Any text = true
 is_met Empty text = length text == 0
-is_met (Starts starts) text = list_any (λ start. starts_with nat_eq text start) starts
-is_met (Ends ends) text = list_any (λ end. ends_with nat_eq text end) ends
-is_met (Holds parts) text = list_any (λ part. holds text part) parts
-is_met (Word words) text = list_any (λ word. str_eq_ignore_ascii_case (word_of text) word) words
-is_met (Near name) text = is_one_letter_away (word_of text) name
+is_met (Starts starts) text = list_any (λ start. starts_with nat_eq text start.now) starts.now
+is_met (Ends ends) text = list_any (λ end. ends_with nat_eq text end.now) ends.now
+is_met (Holds parts) text = list_any (λ part. holds text part.now) parts.now
+is_met (Word words) text = list_any (λ word. str_eq_ignore_ascii_case (word_of text) word.now) words.now
+is_met (Near names) text = list_any (λ name. is_one_letter_away (word_of text) name.now) names.now
 is_met Name text = first_passes is_name_start text
 is_met Dashed text = starts_with nat_eq text (codes "-") && first_passes is_name_start (drop 1 text)
 is_met Digit text = first_passes is_ascii_digit text

@@ -1,2 +1,2 @@
--- Declared: what the types of `src/` stand for.
-pub mod Declared
+-- Lent: the slips of which the code tells the first.
+pub mod Lent

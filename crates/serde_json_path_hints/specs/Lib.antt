@@ -1,5 +1,5 @@
 -- What contracts cite:
--- Hints: the table of slips, and which of them is told.
+-- Hints: which slip is told.
 -- Conditions: what is said of the text on one side of a place.
 -- Inside: what only private functions cite.
 pub mod Conditions

@@ -2,26 +2,28 @@
 
 ghost use Rattle.std.specs.Prelude.{◌≡◌};
 ghost use Rattle.serde_json_path_hints.specs.Conditions.{is_name_start, is_name_byte, holds, word_of, is_met};
-ghost use Rattle.serde_json_path_hints.specs.Inside.Declared.{condition_of};
+ghost use Rattle.serde_json_path_hints.specs.Inside.Lent.{condition_of};
 
 use crate::near::is_one_letter_away;
 
-/// What a text may be like. Its word is what it starts with of letters, digits, `_` and characters beyond ASCII.
-pub(crate) enum Condition {
+/// What a text may be like, beside texts with which it is compared. Its word is what it starts with of letters, digits, `_`
+/// and characters beyond ASCII.
+// The texts are a type parameter, since a contract can name no constant of a type whose fields are references.
+pub(crate) enum Condition<Texts> {
     /// Anything.
     Any,
     /// It is empty.
     Empty,
     /// It starts with one of these.
-    Starts(&'static [&'static str]),
+    Starts(Texts),
     /// It ends with one of these.
-    Ends(&'static [&'static str]),
+    Ends(Texts),
     /// One of these is somewhere in it.
-    Holds(&'static [&'static str]),
+    Holds(Texts),
     /// Its word is one of these, in small letters or capitals.
-    Word(&'static [&'static str]),
-    /// Its word is one letter away from this one.
-    Near(&'static str),
+    Word(Texts),
+    /// Its word is one letter away from one of these.
+    Near(Texts),
     /// It starts as a member name does.
     Name,
     /// It starts with a dash, and then as a member name does.
@@ -76,37 +78,43 @@ fn holds(text: &[u8], part: &[u8]) -> bool
     false
 }
 
-impl Condition {
-    /// Whether the text is like that.
-    pub(crate) fn is_met(&self, text: &[u8]) -> bool
-        ensures { result ≡ is_met (condition_of self.now) text.now }
-    {
-        match self {
-            Condition::Any => true,
-            Condition::Empty => text.is_empty(),
-            Condition::Starts(starts) => {
-                starts
-                    .iter()
-                    .any(|start| text.starts_with(start.as_bytes()))
-            }
-            Condition::Ends(ends) => ends.iter().any(|end| text.ends_with(end.as_bytes())),
-            Condition::Holds(parts) => parts.iter().any(|part| holds(text, part.as_bytes())),
-            Condition::Word(words) => {
-                let own = word(text);
-                words
-                    .iter()
-                    .any(|word| own.eq_ignore_ascii_case(word.as_bytes()))
-            }
-            Condition::Near(name) => is_one_letter_away(word(text), name.as_bytes()),
-            Condition::Name => text.first().is_some_and(|byte| is_name_start(*byte)),
-            Condition::Dashed => match text {
-                [b'-', byte, ..] => is_name_start(*byte),
-                _ => false,
-            },
-            Condition::Digit => text.first().is_some_and(u8::is_ascii_digit),
-            Condition::EndsInName => text.last().is_some_and(|byte| is_name_byte(*byte)),
-            Condition::EndsInLetter => text.last().is_some_and(|byte| is_name_start(*byte)),
-            Condition::EndsInDigit => text.last().is_some_and(u8::is_ascii_digit),
+/// What the text on one side of a place is like.
+pub(crate) type Side = Condition<&'static [&'static str]>;
+
+/// Whether the text is as the condition says.
+pub(crate) fn is_met(condition: &Side, text: &[u8]) -> bool
+    ensures { result ≡ is_met (condition_of condition.now) text.now }
+{
+    match condition {
+        Condition::Any => true,
+        Condition::Empty => text.is_empty(),
+        Condition::Starts(starts) => {
+            starts
+                .iter()
+                .any(|start| text.starts_with(start.as_bytes()))
         }
+        Condition::Ends(ends) => ends.iter().any(|end| text.ends_with(end.as_bytes())),
+        Condition::Holds(parts) => parts.iter().any(|part| holds(text, part.as_bytes())),
+        Condition::Word(words) => {
+            let own = word(text);
+            words
+                .iter()
+                .any(|word| own.eq_ignore_ascii_case(word.as_bytes()))
+        }
+        Condition::Near(names) => {
+            let own = word(text);
+            names
+                .iter()
+                .any(|name| is_one_letter_away(own, name.as_bytes()))
+        }
+        Condition::Name => text.first().is_some_and(|byte| is_name_start(*byte)),
+        Condition::Dashed => match text {
+            [b'-', byte, ..] => is_name_start(*byte),
+            _ => false,
+        },
+        Condition::Digit => text.first().is_some_and(u8::is_ascii_digit),
+        Condition::EndsInName => text.last().is_some_and(|byte| is_name_byte(*byte)),
+        Condition::EndsInLetter => text.last().is_some_and(|byte| is_name_start(*byte)),
+        Condition::EndsInDigit => text.last().is_some_and(u8::is_ascii_digit),
     }
 }

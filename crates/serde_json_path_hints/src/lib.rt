@@ -8,8 +8,8 @@
 //! assert_eq!(rt; hint(text, &e), Some("equality is written =="));
 //! ```
 //!
-//! Definitions are in `specs/`: `Hints` has the slips as a table and says which of them is told, `Conditions` what is said of
-//! the text on either side of a place.
+//! The slips are tables, by the kind of refusal at which they are told. Definitions are in `specs/`: `Hints` says which of the
+//! slips is told, `Conditions` what is said of the text on either side of a place.
 #![tactic(auto)]
 
 mod condition;

@@ -2,25 +2,19 @@
 
 ghost use Rattle.std.specs.Prelude.{◌≡◌, option_map, map};
 ghost use Rattle.serde_json_path_hints.specs.Hints.{is_there, first_hint, before_place, ahead_of_place};
-ghost use Rattle.serde_json_path_hints.specs.Inside.Declared.{slip_of};
+ghost use Rattle.serde_json_path_hints.specs.Inside.Lent.{slip_of};
 
-use crate::condition::Condition;
+use crate::condition::{Side, is_met};
 
 /// A slip: what the text before the place is like, what the text from the place on is like, and what was probably meant.
-pub(crate) struct Slip(
-    pub(crate) Condition,
-    pub(crate) Condition,
-    pub(crate) &'static str,
-);
+pub(crate) type Slip = (Side, Side, &'static str);
 
-impl Slip {
-    /// Whether this slip is there, between what is before the place and what is ahead.
-    fn is_there(&self, before: &[u8], ahead: &[u8]) -> bool
-        ensures { result ≡ is_there before.now ahead.now (slip_of self.now) }
-    {
-        let Slip(of_before, of_ahead, _) = self;
-        of_before.is_met(before) && of_ahead.is_met(ahead)
-    }
+/// Whether a slip is there, between what is before the place and what is ahead.
+fn is_there(slip: &Slip, before: &[u8], ahead: &[u8]) -> bool
+    ensures { result ≡ is_there before.now ahead.now (slip_of slip.now) }
+{
+    let (of_before, of_ahead, _) = slip;
+    is_met(of_before, before) && is_met(of_ahead, ahead)
 }
 
 /// The hint of the first slip that is there.
@@ -33,7 +27,7 @@ pub(crate) fn first_there(
         ≡ first_hint before.now ahead.now (map slip_of slips.now) }
 {
     for slip in slips {
-        if slip.is_there(before, ahead) {
+        if is_there(slip, before, ahead) {
             return Some(slip.2);
         }
     }

@@ -8,7 +8,7 @@ mod selectors;
 mod texts;
 
 ghost use Rattle.std.specs.Prelude.{◌≡◌, ◌++◌, map};
-ghost use Rattle.serde_json_path_hints.specs.Inside.Declared.{slip_of};
+ghost use Rattle.serde_json_path_hints.specs.Inside.Lent.{slip_of};
 ghost use Rattle.serde_json_path_hints.specs.Hints.{slips_of};
 
 use crate::slip::Slip;

@@ -5,30 +5,30 @@ use crate::slip::Slip;
 
 /// At a function that is not declared.
 pub(crate) const FUNCTION: &[Slip] = &[
-    Slip(Any, Near("length"), "`length`"),
-    Slip(Any, Near("count"), "`count`"),
-    Slip(Any, Near("match"), "`match`"),
-    Slip(Any, Near("search"), "`search`"),
-    Slip(Any, Near("value"), "`value`"),
-    Slip(
+    (Any, Near(&["length"]), "`length`"),
+    (Any, Near(&["count"]), "`count`"),
+    (Any, Near(&["match"]), "`match`"),
+    (Any, Near(&["search"]), "`search`"),
+    (Any, Near(&["value"]), "`value`"),
+    (
         Any,
         Word(&["size", "len", "strlen"]),
         "`length`, or `count` for the nodes of a query",
     ),
-    Slip(Any, Word(&["not"]), "`!`"),
-    Slip(Any, Word(&["contains", "includes"]), "`search(@.a, 'x')`"),
-    Slip(
+    (Any, Word(&["not"]), "`!`"),
+    (Any, Word(&["contains", "includes"]), "`search(@.a, 'x')`"),
+    (
         Any,
         Word(&["startswith", "starts_with"]),
         "`match(@.a, 'x.*')`",
     ),
-    Slip(Any, Word(&["endswith", "ends_with"]), "`match(@.a, '.*x')`"),
-    Slip(
+    (Any, Word(&["endswith", "ends_with"]), "`match(@.a, '.*x')`"),
+    (
         Any,
         Word(&["matches", "regex", "test", "like"]),
         "`match(@.a, 'b.*')`, or `search` for a part of the text",
     ),
-    Slip(
+    (
         Any,
         Word(&["exists", "has", "defined"]),
         "`[?@.a]`: a query alone tests that there is a node",
@@ -37,17 +37,17 @@ pub(crate) const FUNCTION: &[Slip] = &[
 
 /// At a call with too many or too few arguments.
 pub(crate) const NUMBER_OF_ARGUMENTS: &[Slip] = &[
-    Slip(
+    (
         Any,
         Starts(&["length("]),
         "one argument, as in `length(@.a)`",
     ),
-    Slip(
+    (
         Any,
         Starts(&["count(", "value("]),
         "one argument, as in `count(@.*)`",
     ),
-    Slip(
+    (
         Any,
         Starts(&["match(", "search("]),
         "two arguments, as in `match(@.a, 'b.*')`",
@@ -56,17 +56,17 @@ pub(crate) const NUMBER_OF_ARGUMENTS: &[Slip] = &[
 
 /// At an argument of the wrong type.
 pub(crate) const ARGUMENT: &[Slip] = &[
-    Slip(
+    (
         Ends(&["length("]),
         Starts(&["@", "$"]),
         "`count(@.*)`: `length` takes one value",
     ),
-    Slip(
+    (
         Ends(&["count(", "value("]),
         Any,
         "a query, as in `count(@.*)`",
     ),
-    Slip(
+    (
         Ends(&["match(", "search(", ","]),
         Starts(&["@", "$"]),
         "a query of one node, as in `match(@.a, 'b.*')`",
@@ -75,17 +75,17 @@ pub(crate) const ARGUMENT: &[Slip] = &[
 
 /// At a call whose result may not stand there.
 pub(crate) const RESULT: &[Slip] = &[
-    Slip(
+    (
         Any,
         Starts(&["match(", "search("]),
         "`match(@.a, 'b.*')` alone: it is a test already",
     ),
-    Slip(
+    (
         Any,
         Starts(&["count("]),
         "a comparison, as in `count(@.*) > 0`, or `@.*` alone",
     ),
-    Slip(
+    (
         Any,
         Starts(&["length(", "value("]),
         "a comparison, as in `length(@.a) > 0`",

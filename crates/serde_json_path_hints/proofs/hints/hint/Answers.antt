@@ -4,12 +4,12 @@ use Rattle.std.specs.Option.{option_or}
 use Rattle.std.proofs.lemmas.List.Folds.{find-append}
 use Rattle.serde_json_path_parser.specs.declared.error.ParseErrorKind.{ParseErrorKind}
 use Rattle.serde_json_path_hints.specs.Hints.{Slip, is_there, first_hint, slips_of, hint_of, before_place, ahead_of_place}
-use Rattle.serde_json_path_hints.specs.Inside.Declared.{slip_of}
+use Rattle.serde_json_path_hints.specs.Inside.Lent.{slip_of}
 use Rattle.serde_json_path_hints.proofs.hints.hint.Goals as goal
 
 mapped : (one other : Option Slip)
-    → option_map (λ s. s.hint) (option_or one other)
-    ≡ option_or (option_map (λ s. s.hint) one) (option_map (λ s. s.hint) other)
+    → option_map (λ s. s.2.now) (option_or one other)
+    ≡ option_or (option_map (λ s. s.2.now) one) (option_map (λ s. s.2.now) other)
 mapped None other = refl
 mapped (Some slip) other = refl
 
@@ -17,7 +17,7 @@ first_of_both : (before ahead : List ℕ) (own shared : List Slip)
     → first_hint before ahead (own ++ shared)
     ≡ option_or (first_hint before ahead own) (first_hint before ahead shared)
 first_of_both before ahead own shared =
-    ap (option_map (λ s. s.hint)) (find-append (is_there before ahead) own shared)
+    ap (option_map (λ s. s.2.now)) (find-append (is_there before ahead) own shared)
     ∙ mapped (find (is_there before ahead) own) (find (is_there before ahead) shared)
 
 -- what is read of the error and of the text is the error's and the text

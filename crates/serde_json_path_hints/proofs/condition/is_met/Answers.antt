@@ -4,12 +4,12 @@ use Rattle.std.specs.List.{list_any, starts_with, ends_with}
 use Rattle.std.specs.Str.{str_eq_ignore_ascii_case}
 use Rattle.std.proofs.lemmas.Iterator.{YieldsList-from_slice}
 use Rattle.std.proofs.lemmas.Iterator.Search.{any_from_yields_List}
-use Rattle.serde_json_path_hints.specs.Conditions.{holds, word_of, is_met}
-use Rattle.serde_json_path_hints.specs.Inside.Declared.{condition_of}
-use Rattle.serde_json_path_hints.proofs.condition.Condition.is_met.Goals as goal
+use Rattle.serde_json_path_hints.specs.Conditions.{holds, word_of, is_one_letter_away, is_met}
+use Rattle.serde_json_path_hints.specs.Inside.Lent.{text_of, condition_of}
+use Rattle.serde_json_path_hints.proofs.condition.is_met.Goals as goal
 
 any_now : (test : List ℕ → Bool) (texts : List (Bor (List ℕ)))
-    → list_any (λ text. test text.now) texts ≡ list_any test (map (λ text. text.now) texts)
+    → list_any (λ text. test text.now) texts ≡ list_any (λ text. test text.now) (map text_of texts)
 any_now test [] = refl
 any_now test (text ∷ texts) = ap (λ b. test text.now || b) (any_now test texts)
 
@@ -44,3 +44,11 @@ returns-in-Word c =
     (YieldsList-from_slice c.in-Word.words.now cc) (λ x b q k. search (rules, tests))
     ∙ any_now test c.in-Word.words.now
     ∙ sym (ap (λ s. is_met (condition_of s) c.args.text.now) c.in-Word.is)
+
+pub returns-in-Near : goal.returns-in-Near
+returns-in-Near c =
+    let test : List ℕ → Bool = λ name. is_one_letter_away (word_of c.args.text.now) name in
+    any_from_yields_List (λ name. test name.now) _ _ _ c.any-in-Near.ensures.ran
+    (YieldsList-from_slice c.in-Near.names.now cc) (λ x b q k. search (rules, tests))
+    ∙ any_now test c.in-Near.names.now
+    ∙ sym (ap (λ s. is_met (condition_of s) c.args.text.now) c.in-Near.is)
