@@ -212,13 +212,13 @@ const NO_OWN: &[&str] = &[
 ];
 
 /// A path, a document, and the locations and the values of what the path selects there.
-const ODD: &[&str] = &[
+const LENGTH: &[&str] = &[
     "$[?length(@.*) == 3] ~ [[1,2],[1]] -> $[0] ~ [1,2]",
     "$[?count(@.*) == 1] ~ [[1,2],[1]] -> $[1] ~ [1]",
 ];
 
 /// A text, and the kind and the position of its refusal.
-const NO_ODD: &[&str] = &["$[?length(1) == 3] -> WrongArgumentType 11"];
+const NO_LENGTH: &[&str] = &["$[?length(1) == 3] -> WrongArgumentType 11"];
 
 /// Holds a set to a table of what is selected and to one of what is refused.
 fn hold_set<R: Eprint + AllocGlobal, F: Functions>(
@@ -241,7 +241,11 @@ fn calls_functions_of_sets(rt: HostRuntime) -> Result<(), Fail> {
     let mut table = Table::new(&rt);
     let own = Own::refusing(0);
     hold_set(&mut table, &own, ("own functions", OWN, NO_OWN));
-    hold_set(&mut table, &Overriding, ("another length", ODD, NO_ODD));
+    hold_set(
+        &mut table,
+        &Overriding,
+        ("another length", LENGTH, NO_LENGTH),
+    );
     table.end()
 }
 
@@ -294,12 +298,12 @@ fn fits_the_sets_that_declare_its_calls(rt: HostRuntime) -> Result<(), Fail> {
     });
     let own = ("own functions", "$[?kids(@.*)]", "false, true, false");
     table.hold(own, fitting(alloc, &Own::refusing(0), own.1));
-    let odd = (
+    let other = (
         "another length",
         "$[?length(@.*) == 3]",
         "false, false, true",
     );
-    table.hold(odd, fitting(alloc, &Overriding, odd.1));
+    table.hold(other, fitting(alloc, &Overriding, other.1));
     table.end()
 }
 
