@@ -1,6 +1,6 @@
 //! Command lines, and what they ask for.
 
-use jpq_options::options::{Request, Color, Options, command, read};
+use jpq_options::options::{Color, Options, Request, command, read};
 use jsonpath_lines::{Form, Layout, LineEnd};
 use serde_json_path_core_tests::rows::{Table, hold_rows};
 use std::alloc::{AllocError, Global};

@@ -1,7 +1,0 @@
-//! Runs of `jpq` over inputs and writers in memory.
-
-mod failing;
-mod inputs;
-mod refusals;
-mod refused_memory;
-mod runs;
