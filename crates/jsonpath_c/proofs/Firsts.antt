@@ -30,7 +30,7 @@ within before after text position is at =
 
 -- a list without nodes
 pub none_within : (limits : Limits) (list : List KeptNode) → list ≡ [] → AreWithin limits limits [] list
-none_within limits list none = record { same = none; nodes = omega arith; bytes = omega arith; }
+none_within limits list none = record { same = none; nodes = omega arith; bytes = omega arith }
 
 -- one node more, for which there was room
 pub one_within : (limits left less : Limits) (shown : List Located) (next : Located) (list longer : List KeptNode) → AreWithin limits left shown list

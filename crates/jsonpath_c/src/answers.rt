@@ -4,12 +4,12 @@ ghost use Rattle.std.specs.Prelude.{◌≡◌, ◌≢◌, ◌⊎◌, ◌↔◌, 
 ghost use Rattle.serde_json_path_nodes.specs.Location.{Located};
 ghost use Rattle.jsonpath_c.specs.Handles.{AnswersLinesOf, BothHold, CallsByPatternFrom, SelectsFrom, form_of};
 
+use crate::borrowed::Borrowed;
 use crate::bounded::first_lines;
 use crate::compiled::Compiled;
 use crate::counted::count_of;
 use crate::handle::document::{Document, DocumentHandle};
 use crate::handle::path::PathHandle;
-use crate::borrowed::Borrowed;
 use crate::limits::Limits;
 use crate::output::put;
 use crate::status::{CUT_SHORT, DONE, EMPTY_HANDLE, NO_MEMORY, QUERY_REFUSED};

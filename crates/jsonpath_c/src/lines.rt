@@ -93,13 +93,5 @@ pub extern "C" fn jsonpath_locations(
     ensures { AnswersLines Form.Location path.now document.now out.old out.new size.old size.new
         refusal.old refusal.new result }
 {
-    lines(
-        alloc,
-        Form::Location,
-        path,
-        document,
-        out,
-        size,
-        refusal,
-    )
+    lines(alloc, Form::Location, path, document, out, size, refusal)
 }

@@ -7,11 +7,11 @@ ghost use Rattle.jsonpath_owned_nodes.specs.Kept.{known_of};
 ghost use Rattle.jsonpath_c.specs.Handles.{AreFirstNodes, BothHold, CallsByPatternFrom, HasNode, SelectsFrom, asked_of, told_of};
 
 use crate::answers::query_status;
+use crate::borrowed::Borrowed;
 use crate::compiled::Compiled;
 use crate::handle::document::{Document, DocumentHandle};
 use crate::handle::nodes::{Nodes, NodesHandle};
 use crate::handle::path::PathHandle;
-use crate::borrowed::Borrowed;
 use crate::limits::Limits;
 use crate::node::Node;
 use crate::output::put;

@@ -3,8 +3,8 @@
 //!
 //! A call that answers no memory is made again, and then answers as its row says.
 
-use jsonpath_program::report::{DocumentError, ReportError, report};
 use crate::tests::sample_set::Samples;
+use jsonpath_program::report::{DocumentError, ReportError, report};
 use serde_json::Value;
 use serde_json_path::functions::{Builtin, Functions};
 use serde_json_path::{JsonPath, ParseErrorKind, QueryError};
