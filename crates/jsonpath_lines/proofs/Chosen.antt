@@ -63,20 +63,20 @@ none_taken lines none below = record {
 
 -- another is taken
 pub one_taken : (before old : Lines) (nodes : List Located) (n : Located) (text : List ℕ) (count : ℕ) → TookLines before nodes old
-    → Appends (IsPiece old.writer.output.now old.writer.head.now (nat_lt 0 old.count) n) (string_bytes old.text) text → count ≡ old.count + 1
-    → Appends (ArePieces before.writer.output.now before.writer.head.now (nodes ++ n ∷ [])) (string_bytes before.text) text × (count ≡ length (nodes ++ n ∷ []))
+    → Appends (IsPiece old.writer.output old.writer.head.now (nat_lt 0 old.count) n) (string_bytes old.text) text → count ≡ old.count + 1
+    → Appends (ArePieces before.writer.output before.writer.head.now (nodes ++ n ∷ [])) (string_bytes before.text) text × (count ≡ length (nodes ++ n ∷ []))
 one_taken before old nodes n text count took piece further =
-    let own = subst (λ (w : LineWriter). Appends (IsPiece w.output.now w.head.now (nat_lt 0 old.count) n) (string_bytes old.text) text) took.writer piece in (
-      appended_pushed before.writer.output.now before.writer.head.now nodes n old.count _ _ _ took.count took.text own,
+    let own = subst (λ (w : LineWriter). Appends (IsPiece w.output w.head.now (nat_lt 0 old.count) n) (string_bytes old.text) text) took.writer piece in (
+      appended_pushed before.writer.output before.writer.head.now nodes n old.count _ _ _ took.count took.text own,
       further ∙ length_further nodes n old.count took.count,
     )
 
 -- with it the limit is reached
 pub filled_by_one : (before old : Lines) (nodes later : List Located) (n : Located) (text : List ℕ) (count : ℕ) → TookLines before nodes old
-    → Appends (IsPiece old.writer.output.now old.writer.head.now (nat_lt 0 old.count) n) (string_bytes old.text) text → count ≡ old.count + 1
+    → Appends (IsPiece old.writer.output old.writer.head.now (nat_lt 0 old.count) n) (string_bytes old.text) text → count ≡ old.count + 1
     → is_reached old.limit count ≡ true
     → let shown = up_to before.limit (nodes ++ (n ∷ later)) in
-    Appends (ArePieces before.writer.output.now before.writer.head.now shown) (string_bytes before.text) text × (count ≡ length shown)
+    Appends (ArePieces before.writer.output before.writer.head.now shown) (string_bytes before.text) text × (count ≡ length shown)
 filled_by_one before old nodes later n text count took piece further full =
     let one = one_taken before old nodes n text count took piece further in
     let done = nodes ++ n ∷ [] in
@@ -84,7 +84,7 @@ filled_by_one before old nodes later n text count took piece further full =
     let within : IsWithin before.limit count = subst (IsWithin before.limit) (sym further) (within_further before.limit old.count below) in
     let these : done ≡ up_to before.limit (nodes ++ (n ∷ later)) =
     reached before.limit done later (nodes ++ (n ∷ later)) count one.1 within (ap (λ l. is_reached l count) (sym took.limit) ∙ full) (sym (append_assoc nodes (n ∷ []) later)) in (
-      subst (λ ns. Appends (ArePieces before.writer.output.now before.writer.head.now ns) (string_bytes before.text) text) these one.0,
+      subst (λ ns. Appends (ArePieces before.writer.output before.writer.head.now ns) (string_bytes before.text) text) these one.0,
       one.1 ∙ ap (λ (ns : List Located). length ns) these,
     )
 

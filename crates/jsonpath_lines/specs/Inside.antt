@@ -106,7 +106,7 @@ Pushes output head nodes old new count =
 pub record TookLines (before : Lines) (nodes : List Located) (now : Lines) : Type 0 where
   pub writer : now.writer ≡ before.writer
   pub limit : now.limit ≡ before.limit
-  pub text : Appends (ArePieces before.writer.output.now before.writer.head.now nodes) (string_bytes before.text) (string_bytes now.text)
+  pub text : Appends (ArePieces before.writer.output before.writer.head.now nodes) (string_bytes before.text) (string_bytes now.text)
   pub count : now.count ≡ length nodes
   pub more : is_reached now.limit now.count ≡ false
 
@@ -114,7 +114,7 @@ pub record TookLines (before : Lines) (nodes : List Located) (now : Lines) : Typ
 abbrev pub FilledLines : Lines → List Located → Lines → Type 0
 FilledLines before nodes now =
     let shown = up_to before.limit nodes in
-    Appends (ArePieces before.writer.output.now before.writer.head.now shown) (string_bytes before.text) (string_bytes now.text) × (now.count ≡ length shown)
+    Appends (ArePieces before.writer.output before.writer.head.now shown) (string_bytes before.text) (string_bytes now.text) × (now.count ≡ length shown)
 
 -- the nodes that differ in their locations are those of these nodes, where there was none before
 pub record TookDistinct (before : DistinctNodes) (nodes : List Located) (now : DistinctNodes) : Type 0 where

@@ -17,7 +17,7 @@ use std::alloc::{AllocError, Global};
 #[derive(Clone, Copy, Drop)]
 pub(crate) struct LineWriter<'a> {
     pub(crate) alloc: Global,
-    pub(crate) output: &'a Output,
+    pub(crate) output: Output,
     pub(crate) head: &'a str,
 }
 
@@ -34,9 +34,10 @@ fn push_comma(text: &mut String, is_later: bool) -> Result<(), AllocError>
 
 impl LineWriter<'_> {
     /// Appends what is written before all nodes.
-    pub(crate) fn open(&self, text: &mut String) -> Result<(), AllocError>
+    #[inline(always)]
+    pub(crate) fn open(self, text: &mut String) -> Result<(), AllocError>
         ensures { OnOk result
-            (string_bytes text.new ≡ string_bytes text.old ++ opening self.now.output.now.form) }
+            (string_bytes text.new ≡ string_bytes text.old ++ opening self.entry.output.form) }
     {
         if self.output.form == Form::Json {
             return text.push('[');
@@ -47,9 +48,9 @@ impl LineWriter<'_> {
     /// Appends a node's text in its form.
     // Inlined, as what calls it and what it calls: each node passes here.
     #[inline(always)]
-    fn push_text(&self, text: &mut String, node: &LocatedNode<'_>) -> Result<(), AllocError>
+    fn push_text(self, text: &mut String, node: &LocatedNode<'_>) -> Result<(), AllocError>
         ensures { OnOk result (Appends
-            (IsText self.now.output.now.form self.now.output.now.layout (located node.now))
+            (IsText self.entry.output.form self.entry.output.layout (located node.now))
             (string_bytes text.old) (string_bytes text.new)) }
     {
         let (alloc, layout) = (self.alloc, self.output.layout);
@@ -71,9 +72,9 @@ impl LineWriter<'_> {
 
     /// Appends a node's line.
     #[inline(always)]
-    fn push_line(&self, text: &mut String, node: &LocatedNode<'_>) -> Result<(), AllocError>
+    fn push_line(self, text: &mut String, node: &LocatedNode<'_>) -> Result<(), AllocError>
         ensures { OnOk result (Appends
-            (IsLine self.now.output.now self.now.head.now (located node.now))
+            (IsLine self.entry.output self.entry.head.now (located node.now))
             (string_bytes text.old) (string_bytes text.new)) }
     {
         text.push_str(self.head)?;
@@ -84,13 +85,13 @@ impl LineWriter<'_> {
     /// Appends what is written of a node, which may be later than the first.
     #[inline(always)]
     pub(crate) fn push_node(
-        &self,
+        self,
         text: &mut String,
         is_later: bool,
         node: &LocatedNode<'_>,
     ) -> Result<(), AllocError>
         ensures { OnOk result (Appends
-            (IsPiece self.now.output.now self.now.head.now is_later (located node.now))
+            (IsPiece self.entry.output self.entry.head.now is_later (located node.now))
             (string_bytes text.old) (string_bytes text.new)) }
     {
         match self.output.form {
@@ -104,10 +105,10 @@ impl LineWriter<'_> {
     }
 
     /// The same JSON in the layout that is asked for, of JSON in one line.
-    fn laid_out(&self, json: String) -> Result<String, AllocError>
+    fn laid_out(self, json: String) -> Result<String, AllocError>
         requires { ArePrintable (tokens (string_bytes json)) }
         ensures { IfOk result (λ text.
-            IsLaidOut self.now.output.now.layout (string_bytes json) (string_bytes text)) }
+            IsLaidOut self.entry.output.layout (string_bytes json) (string_bytes text)) }
     {
         match self.output.layout {
             Layout::Compact => Ok(json),
@@ -116,9 +117,9 @@ impl LineWriter<'_> {
     }
 
     /// The line of an array of which all but the end is written.
-    fn array_line(&self, mut array: String) -> Result<String, AllocError>
+    fn array_line(self, mut array: String) -> Result<String, AllocError>
         requires { ArePrintable (tokens (string_bytes array ++ codes "]")) }
-        ensures { IfOk result (λ shown. IsArrayLine self.now.output.now self.now.head.now
+        ensures { IfOk result (λ shown. IsArrayLine self.entry.output self.entry.head.now
             (string_bytes array) (string_bytes shown)) }
     {
         array.push(']')?;
@@ -128,11 +129,11 @@ impl LineWriter<'_> {
     }
 
     /// The text of so many nodes, of what is written of them.
-    pub(crate) fn closed(&self, text: String, count: u64) -> Result<String, AllocError>
-        requires { self.now.output.now.form ≡ Form.Json
+    pub(crate) fn closed(self, text: String, count: u64) -> Result<String, AllocError>
+        requires { self.output.form ≡ Form.Json
             → ArePrintable (tokens (string_bytes text ++ codes "]")) }
-        ensures { IfOk result (λ shown. IsClosedIn self.now.output.now.form
-            self.now.output.now self.now.head.now count (string_bytes text) (string_bytes shown)) }
+        ensures { IfOk result (λ shown. IsClosedIn self.entry.output.form
+            self.entry.output self.entry.head.now count (string_bytes text) (string_bytes shown)) }
     {
         let (head, end) = (self.head, self.output.end.as_str());
         match self.output.form {
@@ -161,7 +162,7 @@ pub fn push_line(
 {
     let writer = LineWriter {
         alloc,
-        output,
+        output: *output,
         head,
     };
     writer.push_line(text, node)

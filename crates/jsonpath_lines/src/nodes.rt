@@ -14,6 +14,7 @@ use crate::line::LineWriter;
 use serde_json_path::functions::Functions;
 use serde_json_path::{LocatedNode, QueryError, Sink, Taken, Walk};
 use std::alloc::Global;
+use std::mem::replace;
 
 /// What is written of nodes.
 #[derive(Drop)]
@@ -25,6 +26,7 @@ pub struct Written {
 }
 
 /// Whether a limit, if there is one, is reached.
+#[inline(always)]
 fn is_reached(limit: Option<u64>, count: u64) -> bool
     ensures { result ≡ is_reached limit count }
 {
@@ -53,8 +55,10 @@ impl<'a, 'b> Sink<'b> for Lines<'a> {
     // Inlined, as what it calls: each node passes here.
     #[inline(always)]
     fn take(&mut self, node: LocatedNode<'b>) -> Result<Taken<'b>, QueryError> {
-        self.writer
-            .push_node(&mut self.text, self.count > 0, &node)?;
+        // Taken out, so that what is lent to a call is the text alone, and the form stays known.
+        let mut text = replace(&mut self.text, String::new(self.writer.alloc));
+        self.writer.push_node(&mut text, self.count > 0, &node)?;
+        self.text = text;
         // A walk that gave one node in each nanosecond would take 584 years to come to the error.
         self.count = self.count.checked_add(1).ok_or(QueryError::Memory)?;
         if is_reached(self.limit, self.count) {
@@ -64,14 +68,16 @@ impl<'a, 'b> Sink<'b> for Lines<'a> {
     }
 }
 
-/// Appends what is written of the nodes of a walk up to the limit, and returns how many these are.
+/// Appends what is written of the nodes of a walk up to the limit, and tells how many these are.
+// Inlined, as what calls it, so that a form that is known where it is asked for is known here.
+#[inline(always)]
 fn push_walk<F: Functions + Drop>(
     writer: LineWriter<'_>,
     text: String,
     walk: Walk<'_, '_, F>,
 ) -> Result<Written, QueryError>
     ensures pushed { IfOk result (λ written.
-        Pushes writer.entry.output.now writer.entry.head.now (rest walk.entry)
+        Pushes writer.entry.output writer.entry.head.now (rest walk.entry)
         (string_bytes text) (string_bytes written.text) written.count) }
     ensures refused { OnlyMemoryOrPattern (set_of walk.entry) (query_of walk.entry)
         (document_of walk.entry) result }
@@ -100,7 +106,7 @@ fn push_nodes(
     nodes: &[LocatedNode<'_>],
 ) -> Result<(), QueryError>
     ensures pushed { OnOk result (Appends
-        (ArePieces writer.entry.output.now writer.entry.head.now (map located nodes.now))
+        (ArePieces writer.entry.output writer.entry.head.now (map located nodes.now))
         (string_bytes text.old) (string_bytes text.new)) }
     ensures refused { IfErr result (λ e. e ≡ QueryError.Memory) }
 {
@@ -130,7 +136,7 @@ fn push_unique<F: Functions + Drop>(
     walk: Walk<'_, '_, F>,
 ) -> Result<Written, QueryError>
     ensures pushed { IfOk result (λ written.
-        Pushes writer.entry.output.now writer.entry.head.now (first_places (rest walk.entry))
+        Pushes writer.entry.output writer.entry.head.now (first_places (rest walk.entry))
         (string_bytes text) (string_bytes written.text) written.count) }
     ensures refused { OnlyMemoryOrPattern (set_of walk.entry) (query_of walk.entry)
         (document_of walk.entry) result }
@@ -146,13 +152,14 @@ fn push_unique<F: Functions + Drop>(
 }
 
 /// Appends what is written of the chosen nodes of a walk up to the limit, and tells how many these are.
+#[inline(always)]
 fn push_chosen<F: Functions + Drop>(
     writer: LineWriter<'_>,
     text: String,
     walk: Walk<'_, '_, F>,
 ) -> Result<Written, QueryError>
     ensures pushed { IfOk result (λ written.
-        Pushes writer.entry.output.now writer.entry.head.now (asked writer.entry.output.now (rest walk.entry))
+        Pushes writer.entry.output writer.entry.head.now (asked writer.entry.output (rest walk.entry))
         (string_bytes text) (string_bytes written.text) written.count) }
     ensures refused { OnlyMemoryOrPattern (set_of walk.entry) (query_of walk.entry)
         (document_of walk.entry) result }
@@ -175,6 +182,7 @@ fn push_chosen<F: Functions + Drop>(
 /// let output = Output { form: Form::Count, unique: true, ..Output::compact_lines(Form::Count) };
 /// write_nodes(alloc, &output, "a.json\t", String::new(alloc), walk)?.text.as_str() == "a.json\t2\n"
 /// ```
+#[inline(always)]
 pub fn write_nodes<F: Functions + Drop>(
     alloc: Global,
     output: &Output,
@@ -192,7 +200,7 @@ pub fn write_nodes<F: Functions + Drop>(
 {
     let writer = LineWriter {
         alloc,
-        output,
+        output: *output,
         head,
     };
     writer.open(&mut text)?;

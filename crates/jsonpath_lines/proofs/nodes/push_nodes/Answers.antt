@@ -15,5 +15,5 @@ loop-index-preserved c =
     let further : map located (take (index + 1) nodes) ≡ done ++ located node ∷ [] =
     ap (map located) (take_more nodes index node (omega arith) ∙ ap (λ node. take index nodes ++ node ∷ []) (sym c.index-nodes-index.is))
     ∙ map_push located (take index nodes) node in
-    subst (λ ns. Appends (ArePieces c.args.writer.output.now c.args.writer.head.now ns) (string_bytes c.args.text.now) (string_bytes c.push_node.new.text)) (sym further)
-    (appended_pushed c.args.writer.output.now c.args.writer.head.now done (located node) index _ _ _ many c.loop-index.invariant c.in_ok-push_node.ensures)
+    subst (λ ns. Appends (ArePieces c.args.writer.output c.args.writer.head.now ns) (string_bytes c.args.text.now) (string_bytes c.push_node.new.text)) (sym further)
+    (appended_pushed c.args.writer.output c.args.writer.head.now done (located node) index _ _ _ many c.loop-index.invariant c.in_ok-push_node.ensures)

@@ -17,4 +17,4 @@ returns-clause-pushed g c =
     c.first_nodes-nodes.ensures ∙ first_of_enough limit all (map located c.in_ok-nodes.nodes.items) c.in_ok-nodes.ensures.nodes in
     let appended = rw c.as_slice.ensures.value at c.in_ok-push_nodes.ensures.pushed in
     let held : c.len.result ≡ length nodes = search rules in
-    pushed_so_far c.args.writer.output.now c.args.writer.head.now limit all (map located nodes) _ _ c.len.result c.limit-limit.ensures these appended (held ∙ sym (length-map nodes located))
+    pushed_so_far c.args.writer.output c.args.writer.head.now limit all (map located nodes) _ _ c.len.result c.limit-limit.ensures these appended (held ∙ sym (length-map nodes located))
