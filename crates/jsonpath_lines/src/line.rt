@@ -8,7 +8,7 @@ ghost use Rattle.serde_json_path_nodes.specs.Views.{located};
 ghost use Rattle.jsonpath_lines.specs.Output.{IsLine, IsText};
 ghost use Rattle.jsonpath_lines.specs.Inside.{Appends, IsArrayLine, IsClosedIn, IsLaidOut, IsPiece, opening};
 
-use crate::forms::{Form, Layout, LineEnd, Output};
+use crate::forms::{Form, Layout, Output};
 use crate::values::{indented, push_item, push_json, push_raw};
 use serde_json_path::LocatedNode;
 use std::alloc::{AllocError, Global};
@@ -32,26 +32,7 @@ fn push_comma(text: &mut String, is_later: bool) -> Result<(), AllocError>
     Ok(())
 }
 
-impl<'a> LineWriter<'a> {
-    /// The same writer, whose form is compact lines of locations and values.
-    #[inline(always)]
-    pub(crate) fn in_compact_lines(self) -> LineWriter<'a>
-        requires form { self.output.form ≡ Form.LocationAndValue }
-        requires layout { self.output.layout ≡ Layout.Compact }
-        requires end { self.output.end ≡ LineEnd.LineFeed }
-        ensures { result ≡ self.entry }
-    {
-        LineWriter {
-            output: Output {
-                form: Form::LocationAndValue,
-                layout: Layout::Compact,
-                end: LineEnd::LineFeed,
-                ..self.output
-            },
-            ..self
-        }
-    }
-
+impl LineWriter<'_> {
     /// Appends what is written before all nodes.
     #[inline(always)]
     pub(crate) fn open(self, text: &mut String) -> Result<(), AllocError>
@@ -89,18 +70,6 @@ impl<'a> LineWriter<'a> {
         }
     }
 
-    /// Appends the head, where there is one.
-    #[inline(always)]
-    fn push_head(self, text: &mut String) -> Result<(), AllocError>
-        ensures { OnOk result
-            (string_bytes text.new ≡ string_bytes text.old ++ self.entry.head.now) }
-    {
-        if self.head.is_empty() {
-            return Ok(());
-        }
-        text.push_str(self.head)
-    }
-
     /// Appends a node's line.
     #[inline(always)]
     fn push_line(self, text: &mut String, node: &LocatedNode<'_>) -> Result<(), AllocError>
@@ -108,7 +77,7 @@ impl<'a> LineWriter<'a> {
             (IsLine self.entry.output self.entry.head.now (located node.now))
             (string_bytes text.old) (string_bytes text.new)) }
     {
-        self.push_head(text)?;
+        text.push_str(self.head)?;
         self.push_text(text, node)?;
         text.push_str(self.output.end.as_str())
     }

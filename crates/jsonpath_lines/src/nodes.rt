@@ -9,7 +9,7 @@ ghost use Rattle.jsonpath_lines.specs.Output.{AreLines, IsCount, up_to};
 ghost use Rattle.jsonpath_lines.specs.Inside.{Appends, ArePieces, Pushes, asked, is_reached};
 
 use crate::distinct::distinct_nodes;
-use crate::forms::{Form, Layout, LineEnd, Output};
+use crate::forms::Output;
 use crate::line::LineWriter;
 use serde_json_path::functions::Functions;
 use serde_json_path::{LocatedNode, QueryError, Sink, Taken, Walk};
@@ -69,9 +69,9 @@ impl<'a, 'b> Sink<'b> for Lines<'a> {
 }
 
 /// Appends what is written of the nodes of a walk up to the limit, and tells how many these are.
-// Inlined, so that a form that is known where it is called is known here.
+// Inlined, as what calls it, so that a form that is known where it is asked for is known here.
 #[inline(always)]
-fn push_each<F: Functions + Drop>(
+fn push_walk<F: Functions + Drop>(
     writer: LineWriter<'_>,
     text: String,
     walk: Walk<'_, '_, F>,
@@ -97,27 +97,6 @@ fn push_each<F: Functions + Drop>(
         text: lines.text,
         count: lines.count,
     })
-}
-
-/// The same. The form of most runs is told apart before the walk, so that it is compiled for itself.
-#[inline(always)]
-fn push_walk<F: Functions + Drop>(
-    writer: LineWriter<'_>,
-    text: String,
-    walk: Walk<'_, '_, F>,
-) -> Result<Written, QueryError>
-    ensures pushed { IfOk result (λ written.
-        Pushes writer.entry.output writer.entry.head.now (rest walk.entry)
-        (string_bytes text) (string_bytes written.text) written.count) }
-    ensures refused { OnlyMemoryOrPattern (set_of walk.entry) (query_of walk.entry)
-        (document_of walk.entry) result }
-{
-    match (writer.output.form, writer.output.layout, writer.output.end) {
-        (Form::LocationAndValue, Layout::Compact, LineEnd::LineFeed) => {
-            push_each(writer.in_compact_lines(), text, walk)
-        }
-        _ => push_each(writer, text, walk),
-    }
 }
 
 /// Appends what is written of each of some nodes.

@@ -22,7 +22,6 @@ pub struct Walk<'q, 'b, F: Functions> {
     ghost stack: { ∥ IsStack (view scope.root.now) (frames_view frames.items) ∥₁ },
 }
 
-// `next_into` and `feed` are inlined, so that each loop over a walk is compiled for its sink, also in programs with several.
 impl<'q, 'b, F: Functions> Walk<'q, 'b, F> {
     ghost use Rattle.std.specs.Prelude.{◌≡◌, ℕ, ◌+◌, ◌<◌, ◌≤◌, [], ◌∷◌, None, Ok, IfOk, IfErr, IfSome, IfNone, MatchOption};
     ghost use Rattle.serde_json_path_nodes.specs.Views.{located};
@@ -81,6 +80,7 @@ impl<'q, 'b, F: Functions> Walk<'q, 'b, F> {
     ///     steps = node.into_steps();
     /// }
     /// ```
+    // Inlined, since each loop over a walk calls it at one place, and programs with several kinds of loops would call it.
     #[inline(always)]
     pub fn next_into(
         &mut self,
@@ -127,7 +127,6 @@ impl<'b, F: Functions + Drop> Walk<'_, 'b, F> {
     /// let mut nodes = Vec::new(alloc);
     /// walk.feed(&mut nodes)? == true, and `nodes` has all nodes
     /// ```
-    #[inline(always)]
     pub fn feed<S: Sink<'b>>(mut self, sink: &mut S) -> Result<bool, QueryError>
         requires { S.took sink.old [] sink.old }
         ensures all { result ≡ Ok true → S.took sink.old (rest self.entry) sink.new }
