@@ -4,7 +4,7 @@ ghost use Rattle.std.specs.Prelude.{◌≡◌, ◌+◌, ◌-◌, ◌*◌, ◌≤
 ghost use Rattle.serde_json_path_functions.specs.Functions.{Fits};
 ghost use Rattle.serde_json_path_functions.specs.Patterns.{before_builtin};
 ghost use Rattle.serde_json_path_parser.specs.Source.{greatest_usize};
-ghost use Rattle.serde_json_path_parser.specs.Errors.{kind_of, position_of, is_told_at_next};
+ghost use Rattle.serde_json_path_parser.specs.Errors.{kind_of, position_of, is_seen_at_next};
 ghost use Rattle.serde_json_path_parser.specs.Parse.{IsParseOf};
 ghost use Rattle.serde_json_path_parser.specs.Reported.{ReportsFirst};
 ghost use Rattle.serde_json_path.specs.Paths.{path_signatures, path_view};
@@ -34,22 +34,23 @@ pub fn parse_source<S: PathSource, F: Functions>(
     functions: &F,
 ) -> Result<JsonPath, ParseError>
     ensures parse { IsParseOf path_view (before_builtin (F.set functions.now)).signature
-        (S.told source.old).text result }
+        (S.observed source.old).text result }
     ensures reported { ReportsFirst path_view (before_builtin (F.set functions.now)).signature
-        (S.told source.old).text result }
+        (S.observed source.old).text result }
     // The signatures that the path keeps are those of the set, before the built-in ones.
     ensures fits { IfOk result (λ path.
         Fits (before_builtin (F.set functions.now)) (path_signatures path)) }
     // The source's text is unchanged.
-    ensures same_text { (S.told source.new).text ≡ (S.told source.old).text }
+    ensures same_text { (S.observed source.new).text ≡ (S.observed source.old).text }
     // However the parse ends, it took at most 32(n + 1) looks at n bytes.
-    ensures looks { (S.told source.new).looks
-        ≤ (S.told source.old).looks + 32 * (length (S.told source.old).text + 1) }
+    ensures looks { (S.observed source.new).looks
+        ≤ (S.observed source.old).looks + 32 * (length (S.observed source.old).text + 1) }
     // For four kinds of refusal, nothing past the byte after the position was looked at.
-    ensures farthest { IfErr result (λ e. is_told_at_next (kind_of e) ≡ true
-        → (S.told source.new).farthest ≤ max (S.told source.old).farthest (position_of e + 1)) }
-    ensures unseen { length (S.told source.old).text ≡ greatest_usize
-        → S.told source.new ≡ S.told source.old }
+    ensures farthest { IfErr result (λ e. is_seen_at_next (kind_of e) ≡ true
+        → (S.observed source.new).farthest
+        ≤ max (S.observed source.old).farthest (position_of e + 1)) }
+    ensures unseen { length (S.observed source.old).text ≡ greatest_usize
+        → S.observed source.new ≡ S.observed source.old }
 {
     let checked = parse(alloc, source, &Both(functions, Builtin))?;
     Ok(JsonPath { checked })

@@ -1,5 +1,5 @@
 -- Bytes and the characters that they encode: the character at a place, by its first byte, and ASCII characters that are taken many at a time.
-use Rattle.serde_json_path_parser.proofs.Words.{slice_get, IsUtf8, encode_utf8_all, StartsWithChar, get_or-drop, slice_get_within, slice_get-get_or, same_Some, none-some, length-drop, cases_lt, ◌==◌, is_utf8, chars, eqb-true, drop-drop, drop_all, IsUtf8-from_is_utf8, is_utf8-from_IsUtf8, chars-nil, chars_past_char, byte_from_char, char_from_byte, is_ascii, IsAhead, begins, nat_le, nat_lt, ◌^◌, max, IsAscii, and_parts, cases_Bool, length-take-le, take_more_set, encodes-append, encodes-IsAscii, AllPass, is_name_char, front, past, Told, one_more, looked, LooksOn, is_ascii_name_char, Gathered, Stretched, IsSome, ◌≡◌, ℕ, ◌+◌, ◌*◌, ◌%◌, ◌<◌, ◌≤◌, inl, inr, true, List, [], ◌∷◌, length, get_or, drop, Some, refl, sym, ap, subst, ◌∙◌, arith, true≢false, Option, None, zero, suc, ◌-◌, Bool, ◌++◌, take, set, if◌then◌else◌, append_assoc, ◌&&◌, IsScalar, false, false_from_ne_true}
+use Rattle.serde_json_path_parser.proofs.Words.{slice_get, IsUtf8, encode_utf8_all, StartsWithChar, get_or-drop, slice_get_within, slice_get-get_or, same_Some, none-some, length-drop, cases_lt, ◌==◌, is_utf8, chars, eqb-true, drop-drop, drop_all, IsUtf8-from_is_utf8, is_utf8-from_IsUtf8, chars-nil, chars_past_char, byte_from_char, char_from_byte, is_ascii, IsAhead, begins, nat_le, nat_lt, ◌^◌, max, IsAscii, and_parts, cases_Bool, length-take-le, take_more_set, encodes-append, encodes-IsAscii, AllPass, is_name_char, front, past, Observed, one_more, looked, LooksOn, is_ascii_name_char, Gathered, Stretched, IsSome, ◌≡◌, ℕ, ◌+◌, ◌*◌, ◌%◌, ◌<◌, ◌≤◌, inl, inr, true, List, [], ◌∷◌, length, get_or, drop, Some, refl, sym, ap, subst, ◌∙◌, arith, true≢false, Option, None, zero, suc, ◌-◌, Bool, ◌++◌, take, set, if◌then◌else◌, append_assoc, ◌&&◌, IsScalar, false, false_from_ne_true}
 use Rattle.std.proofs.iter.FirstChar.{wide, in_one, in_two, in_three, in_four}
 use Rattle.serde_json_path_parser.proofs.Reading.{past_through, front_through}
 
@@ -130,7 +130,7 @@ name_begun first cs a low e =
     let in_it : is_name_char a.0 ≡ true = sym (ap (begins is_name_char) a.1) ∙ e in
     ap (begins is_ascii_name_char) a.1 ∙ rw (small, in_it) refl
 
--- whether what is next passes a test for ASCII characters is told by the byte ahead
+-- whether what is next passes a test for ASCII characters is seen from the byte ahead
 pub begins_ahead : (p : ℕ → Bool) → ((c : ℕ) → p c ≡ true → c < 128) → (b : ℕ) (cs : List ℕ) → IsAhead (Some b) cs → begins p cs ≡ p b
 begins_ahead p ascii b cs a = ap (begins p) a.1 ∙ elim (cases_lt b 128) [
   | inl low ↦ ap p (a.2 low)
@@ -150,13 +150,13 @@ at_most : (n : ℕ) → one_more n ≤ n + 1
 at_most n = elim (cases_Bool (nat_lt n (2 ^ 128 - 1))) [ inl e ↦ rw e (omega arith) | inr e ↦ rw e (omega arith) ]
 
 -- one look more, at the next byte
-pub looked_on : (old mid now : Told) (count number at : ℕ) → LooksOn old mid count number → now ≡ looked mid at → number ≤ at + 1 → LooksOn old now (count + 1) (at + 1)
+pub looked_on : (old mid now : Observed) (count number at : ℕ) → LooksOn old mid count number → now ≡ looked mid at → number ≤ at + 1 → LooksOn old now (count + 1) (at + 1)
 looked_on old mid now count number at h e le =
     let more : one_more mid.looks ≤ mid.looks + 1 = at_most mid.looks in
     record {
-      same_text = ap (λ (t : Told). t.text) e ∙ h.same_text;
-      looks = let k = h.looks in let is : now.looks ≡ one_more mid.looks = ap (λ (t : Told). t.looks) e in omega (arith, k, is, more);
-      farthest = let k = h.farthest in let is : now.farthest ≡ max mid.farthest (at + 1) = ap (λ (t : Told). t.farthest) e in omega (arith, k, is, le);
+      same_text = ap (λ (t : Observed). t.text) e ∙ h.same_text;
+      looks = let k = h.looks in let is : now.looks ≡ one_more mid.looks = ap (λ (t : Observed). t.looks) e in omega (arith, k, is, more);
+      farthest = let k = h.farthest in let is : now.farthest ≡ max mid.farthest (at + 1) = ap (λ (t : Observed). t.farthest) e in omega (arith, k, is, le);
     }
 
 -- ---- a part of a name

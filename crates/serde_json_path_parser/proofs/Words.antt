@@ -13,7 +13,7 @@ pub use Rattle.serde_json_path_parser.specs.Grammar.{InParentheses, IsBound, IsL
 pub use Rattle.serde_json_path_parser.specs.Operands.{a_query}
 pub use Rattle.serde_json_path_parser.specs.Parse.{IsParse, NeedsNoMemory, ParsedQuery, checked_view, is_dollar}
 pub use Rattle.serde_json_path_parser.specs.Reported.{IsUndeclared, Reports, reported}
-pub use Rattle.serde_json_path_parser.specs.Source.{Told, greatest_usize, looked, one_more}
+pub use Rattle.serde_json_path_parser.specs.Source.{Observed, greatest_usize, looked, one_more}
 pub use Rattle.serde_json_path_parser.specs.declared.error.Context.{Context}
 pub use Rattle.serde_json_path_parser.specs.declared.error.Context.TheVariants.{LongHand}
 pub use Rattle.serde_json_path_parser.specs.declared.error.Failure.{Failure}

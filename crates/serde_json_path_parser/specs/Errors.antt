@@ -57,9 +57,9 @@ abbrev pub no_memory : ParseError
 no_memory = record { kind = NoMemory; context = context.Path; position = 1 }
 
 -- the kinds for which at most one byte beyond the position is looked at
-abbrev pub is_told_at_next : ParseErrorKind → Bool
-is_told_at_next ExpectedRoot = true
-is_told_at_next BadMemberName = true
-is_told_at_next ExpectedClosingBracket = true
-is_told_at_next ExpectedSelector = true
-is_told_at_next _ = false
+abbrev pub is_seen_at_next : ParseErrorKind → Bool
+is_seen_at_next ExpectedRoot = true
+is_seen_at_next BadMemberName = true
+is_seen_at_next ExpectedClosingBracket = true
+is_seen_at_next ExpectedSelector = true
+is_seen_at_next _ = false

@@ -20,14 +20,14 @@ begins p [] = false
 begins p (c ∷ cs) = p c
 
 -- the character is one of these, as in `c ∈ ".["`
-abbrev pub is_among : ℕ → List ℕ → Bool
-is_among c [] = false
-is_among c (d ∷ []) = c == d
-is_among c (d ∷ e ∷ rest) = c == d || is_among c (e ∷ rest)
+abbrev pub is_one_of : ℕ → List ℕ → Bool
+is_one_of c [] = false
+is_one_of c (d ∷ []) = c == d
+is_one_of c (d ∷ e ∷ rest) = c == d || is_one_of c (e ∷ rest)
 
 infix 60 ◌∈◌
 abbrev pub ◌∈◌ : ℕ → String → Bool
-c ∈ signs = is_among c (codes signs)
+c ∈ signs = is_one_of c (codes signs)
 
 -- the character is one of those from the first to the last, as in `between "0" "9" c`
 abbrev pub between : String → String → ℕ → Bool

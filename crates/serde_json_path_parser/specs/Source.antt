@@ -1,4 +1,4 @@
--- What a source tells: one text, how often it was looked at, and the farthest byte looked at.
+-- What is observed of a source: its text, how often it was looked at, and the farthest byte.
 use Rattle.std.specs.Prelude.{ℕ, ◌+◌, ◌-◌, ◌^◌, List, if◌then◌else◌, nat_lt, max}
 
 -- the greatest number of a place: a text of so many bytes has no number for its end
@@ -7,7 +7,7 @@ greatest_usize = 2 ^ 64 - 1
 
 -- the text's bytes, the number of looks, and the number of the farthest byte looked at, from 1,
 -- or 0
-pub record Told : Type 0 where
+pub record Observed : Type 0 where
   pub text : List ℕ
   pub looks : ℕ
   pub farthest : ℕ
@@ -17,9 +17,9 @@ abbrev pub one_more : ℕ → ℕ
 one_more looks = if nat_lt looks (2 ^ 128 - 1) then looks + 1 else looks
 
 -- the source after a look at the byte at that index, from 0
-abbrev pub looked : Told → ℕ → Told
-looked told index = record {
-  text = told.text;
-  looks = one_more told.looks;
-  farthest = max told.farthest (index + 1);
+abbrev pub looked : Observed → ℕ → Observed
+looked observed index = record {
+  text = observed.text;
+  looks = one_more observed.looks;
+  farthest = max observed.farthest (index + 1);
 }

@@ -16,7 +16,7 @@ ghost use Rattle.std.specs.Prelude.{◌≡◌, ◌+◌, ◌-◌, ◌*◌, ◌^�
 ghost use Rattle.serde_json_path_syntax.specs.Parts.{signatures_of};
 ghost use Rattle.serde_json_path_functions.specs.Functions.{Fits};
 ghost use Rattle.serde_json_path_parser.specs.Source.{greatest_usize};
-ghost use Rattle.serde_json_path_parser.specs.Errors.{kind_of, position_of, is_told_at_next};
+ghost use Rattle.serde_json_path_parser.specs.Errors.{kind_of, position_of, is_seen_at_next};
 ghost use Rattle.serde_json_path_parser.specs.Parse.{IsParseOf, checked_view};
 ghost use Rattle.serde_json_path_parser.specs.Reported.{ReportsFirst};
 
@@ -48,21 +48,22 @@ pub fn parse<S: PathSource, F: Functions>(
     functions: &F,
 ) -> Result<Checked, ParseError>
     ensures parse { IsParseOf checked_view (F.set functions.now).signature
-        (S.told source.old).text result }
+        (S.observed source.old).text result }
     ensures reported { ReportsFirst checked_view (F.set functions.now).signature
-        (S.told source.old).text result }
+        (S.observed source.old).text result }
     // The signatures that the query keeps are those of the set.
     ensures fits { IfOk result (λ checked. Fits (F.set functions.now) (signatures_of checked)) }
     // The source's text is unchanged.
-    ensures same_text { (S.told source.new).text ≡ (S.told source.old).text }
+    ensures same_text { (S.observed source.new).text ≡ (S.observed source.old).text }
     // However the parse ends, there are at most 32(n + 1) further looks at n bytes.
-    ensures looks { (S.told source.new).looks
-        ≤ (S.told source.old).looks + 32 * (length (S.told source.old).text + 1) }
+    ensures looks { (S.observed source.new).looks
+        ≤ (S.observed source.old).looks + 32 * (length (S.observed source.old).text + 1) }
     // For four kinds of refusal, nothing past the byte after the position was looked at.
-    ensures farthest { IfErr result (λ e. is_told_at_next (kind_of e) ≡ true
-        → (S.told source.new).farthest ≤ max (S.told source.old).farthest (position_of e + 1)) }
-    ensures unseen { length (S.told source.old).text ≡ greatest_usize
-        → S.told source.new ≡ S.told source.old }
+    ensures farthest { IfErr result (λ e. is_seen_at_next (kind_of e) ≡ true
+        → (S.observed source.new).farthest
+        ≤ max (S.observed source.old).farthest (position_of e + 1)) }
+    ensures unseen { length (S.observed source.old).text ≡ greatest_usize
+        → S.observed source.new ≡ S.observed source.old }
 {
     if source.len() == usize::MAX {
         return Err(Failure::Memory.in_text(0));

@@ -2,23 +2,23 @@
 
 ghost use Rattle.std.specs.Prelude.{◌≡◌, ◌<◌, length, slice_index};
 ghost use Rattle.std.specs.Str.{IsUtf8};
-ghost use Rattle.serde_json_path_parser.specs.Source.{Told, looked, greatest_usize};
+ghost use Rattle.serde_json_path_parser.specs.Source.{Observed, looked, greatest_usize};
 
 /// One text that does not change, as the bytes of its UTF-8. Each call of `byte` is one look.
 pub trait PathSource {
     /// The text, the number of looks so far, and the farthest byte looked at.
-    ghost told: { Self → Told };
+    ghost observed: { Self → Observed };
 
     /// The length of the text in bytes. This does not count as a look.
     fn len(&self) -> usize
-        ensures bytes { result ≡ length (told self.now).text }
-        ensures utf8 { IsUtf8 (told self.now).text };
+        ensures bytes { result ≡ length (observed self.now).text }
+        ensures utf8 { IsUtf8 (observed self.now).text };
 
     /// The byte at that index, from 0.
     fn byte(&mut self, index: usize) -> u8
-        requires { index < length (told self.old).text }
-        ensures value { result ≡ slice_index (told self.old).text index }
-        ensures look { told self.new ≡ looked (told self.old) index };
+        requires { index < length (observed self.old).text }
+        ensures value { result ≡ slice_index (observed self.old).text index }
+        ensures look { observed self.new ≡ looked (observed self.old) index };
 }
 
 /// The source of a text in memory. It counts looks.
@@ -33,11 +33,11 @@ pub struct TextSource<'t> {
 }
 
 impl<'t> TextSource<'t> {
-    ghost use Rattle.serde_json_path_parser.specs.TextSources.{told_by};
+    ghost use Rattle.serde_json_path_parser.specs.TextSources.{observed_by};
 
     /// A source that has not been looked at yet.
     pub fn new(text: &'t str) -> TextSource<'t>
-        ensures { told_by result ≡ record { text = text.now; looks = 0; farthest = 0 } }
+        ensures { observed_by result ≡ record { text = text.now; looks = 0; farthest = 0 } }
     {
         TextSource {
             text,
@@ -49,7 +49,7 @@ impl<'t> TextSource<'t> {
 
     /// How often the text was looked at; at 2^128 - 1 the count stays.
     pub fn looks(&self) -> u128
-        ensures { result ≡ (told_by self.now).looks }
+        ensures { result ≡ (observed_by self.now).looks }
     {
         self.other_looks.saturating_add(self.in_order as u128)
     }
@@ -59,7 +59,7 @@ impl<'t> TextSource<'t> {
     #[inline(never)]
     fn look_elsewhere(&mut self, index: usize)
         requires { index < greatest_usize }
-        ensures { told_by self.new ≡ looked (told_by self.old) index }
+        ensures { observed_by self.new ≡ looked (observed_by self.old) index }
     {
         self.other_looks = self.other_looks.saturating_add(1);
         self.other_farthest = self.other_farthest.max(index + 1);
@@ -67,9 +67,9 @@ impl<'t> TextSource<'t> {
 }
 
 impl PathSource for TextSource<'_> {
-    ghost use Rattle.serde_json_path_parser.specs.TextSources.{told_by};
+    ghost use Rattle.serde_json_path_parser.specs.TextSources.{observed_by};
 
-    ghost told = { told_by };
+    ghost observed = { observed_by };
 
     fn len(&self) -> usize {
         self.text.as_bytes().len()

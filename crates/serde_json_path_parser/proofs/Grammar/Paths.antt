@@ -145,9 +145,9 @@ text_from text before rest left u split is =
     ap (λ (n : ℕ). drop n text) b.3 ∙ ap (drop (length (encode_utf8_all before))) b.2 ∙ drop-append_seam (encode_utf8_all before) (encode_utf8_all rest) in
     ap chars after ∙ chars-encodes rest (scalars_of (chars text) before rest (scalars-chars text u) split).1
 
--- ---- what a refusal tells
+-- ---- what holds of a refusal
 
-record Told (signature : List ℕ → Option Signature) (text : List ℕ) (r : Refusal) : Type 0 where
+record IsRight (signature : List ℕ → Option Signature) (text : List ℕ) (r : Refusal) : Type 0 where
   no_memory : r.kind ≢ NoMemory
   root_missing : (r.kind ≡ ExpectedRoot) ↔ (begins is_dollar (chars text) ≡ false)
   after : r.kind ≡ TextAfterPath → (q : Query) × IsAccepted signature (chars (take (length text - r.left) text)) q
@@ -155,8 +155,8 @@ record Told (signature : List ℕ → Option Signature) (text : List ℕ) (r : R
   placed : (r.left ≤ length text) × IsCharBoundary text (length text - r.left)
 
 module _ (signature : List ℕ → Option Signature) (text : List ℕ) (u : IsUtf8 text) where
-  told : (r : Refusal) → read_path signature (chars text) ≡ Err r → Told signature text r
-  told r e =
+  right : (r : Refusal) → read_path signature (chars text) ≡ Err r → IsRight signature text r
+  right r e =
       let s = (path_outcome signature (chars text)).stands r e in
       let b = boundary text s.before s.rest r.left u s.split s.left in
       record {
@@ -174,7 +174,7 @@ module _ (signature : List ℕ → Option Signature) (text : List ℕ) (u : IsUt
   -- where the refusal stands
   pub within : (s : Failure) (total : ℕ) → total ≡ length text → Fails s (read_path signature (chars text)) → IsWithin s total
   within Memory total t h = tt
-  within (Refused r) total t h = let k = (told r h).placed.0 in omega (arith, t, k)
+  within (Refused r) total t h = let k = (right r h).placed.0 in omega (arith, t, k)
 
   -- ---- the three ends of a parse
 
@@ -214,8 +214,8 @@ module _ (signature : List ℕ → Option Signature) (text : List ℕ) (u : IsUt
     kept = tt;
     only = tt;
     refused = λ other q a. let f = accepted_read signature (chars text) q a in let e : Ok f.0 ≡ Err r = sym f.2 ∙ h in cc;
-    memory = λ e. absurd ((told r h).no_memory e);
-    spares_memory = λ less none. (told r h).no_memory;
+    memory = λ e. absurd ((right r h).no_memory e);
+    spares_memory = λ less none. (right r h).no_memory;
     too_long = λ long. absurd (omega (arith, long));
   }
 
@@ -248,7 +248,7 @@ module _ (signature : List ℕ → Option Signature) (text : List ℕ) (u : IsUt
       → Reports signature text (Err (error_of s total))
   refused_reported short Memory total t h spares = unstored_reported (λ less none. spares (needs_none (chars text) none))
   refused_reported short (Refused r) total t h spares =
-      let k = told r h in
+      let k = right r h in
       let cut : (total - r.left + 1) - 1 ≡ length text - r.left = omega (arith, t) in
       record {
         first = λ other. ap (reported (length text)) h ∙ ap (λ (n : ℕ). Some (record { kind = r.kind; context = r.context; position = n - r.left + 1 })) (sym t);

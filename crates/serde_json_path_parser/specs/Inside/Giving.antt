@@ -2,7 +2,7 @@
 -- that what a function of the parser returned is what reading gives.
 use Rattle.std.specs.Prelude.{ℕ, true, false, List, codes, bytes_eq, Option, Some, None, if◌then◌else◌, ◌≡◌, ◌+◌, ◌≤◌, max, drop, length, ◌-◌, ◌++◌, Result, Ok, Err}
 use Rattle.serde_json_path_parser.specs.Imports.{Literal, truth, null, Selector, Query, LogicalOr, query, root, SegmentKind, Segments, Segment, Call, Arguments, Argument, logical_argument, chars, Signature, FunctionSet, Fits, names_of, calls_in_segments, calls_in_selectors, calls_from, calls_in_arguments, calls_in_argument, parts_in, literal_view, Piece, a_segment, calls_in_piece, IsPart, ArePartsOf, AreSelectorsOf, AreArgumentsOf, KeepsTrees, calls_in, signatures_of, tree_of, result_kind, AreCalled, AreDeclared, names_in, kind_view, FunctionArgType, Part, Parts, SyntaxBuilder, Checked}
-use Rattle.serde_json_path_parser.specs.Source.{Told}
+use Rattle.serde_json_path_parser.specs.Source.{Observed}
 use Rattle.serde_json_path_parser.specs.Inside.Looking.{up_to_second}
 use Rattle.serde_json_path_parser.specs.declared.source.PathSource.{Ghosts}
 use Rattle.serde_json_path_parser.specs.declared.parser.reader.Reader.{Reader}
@@ -14,7 +14,7 @@ use Rattle.serde_json_path_syntax.specs.Piece as piece
 use Rattle.serde_json_path_parser.specs.declared.error.Refusal.{Refusal}
 use Rattle.serde_json_path_parser.specs.declared.error.Failure.{Failure}
 use Rattle.serde_json_path_parser.specs.declared.error.Failure.TheVariants as failures
-use Rattle.serde_json_path_parser.specs.Errors.{is_told_at_next, no_memory}
+use Rattle.serde_json_path_parser.specs.Errors.{is_seen_at_next, no_memory}
 use Rattle.serde_json_path_parser.specs.declared.error.ParseError.{ParseError}
 use Rattle.serde_json_path_parser.specs.Parsing.{selector_list, segment_list}
 use Rattle.serde_json_path_parser.specs.Operands.{Operand, a_literal, a_query, a_call, calls_in_operand}
@@ -37,12 +37,12 @@ literal_word text =
 
 module _ {S : Type 0} {g : Ghosts S} where
   -- what the reader's source tells
-  abbrev pub told : Reader S g → Told
-  told r = g.told r.source.now
+  abbrev pub observed : Reader S g → Observed
+  observed r = g.observed r.source.now
 
   -- the characters that are left
   abbrev pub left : Reader S g → List ℕ
-  left r = chars (drop r.index (told r).text)
+  left r = chars (drop r.index (observed r).text)
 
   -- how many bytes were seen: up to the next one, or up to the second one where it was looked at
   abbrev pub seen : Reader S g → ℕ
@@ -52,9 +52,9 @@ module _ {S : Type 0} {g : Ghosts S} where
   -- and none beyond them.
   pub record Moves (old new : Reader S g) : Type 0 where
     pub same_source : new.source.ghost_name ≡ old.source.ghost_name
-    pub same_text : (told new).text ≡ (told old).text
-    pub looks : (told new).looks + seen old ≤ (told old).looks + seen new
-    pub farthest : (told new).farthest ≤ max (told old).farthest (seen new)
+    pub same_text : (observed new).text ≡ (observed old).text
+    pub looks : (observed new).looks + seen old ≤ (observed old).looks + seen new
+    pub farthest : (observed new).farthest ≤ max (observed old).farthest (seen new)
     pub on : seen old ≤ seen new
 
 -- ---- what is read at a level
@@ -213,7 +213,7 @@ IsRefused (failures.Refused r) = Unit {0}
 abbrev pub StopsNear : {S : Type 0} {g : Ghosts S} → Failure → Reader S g → Type 0
 StopsNear failures.Memory reader = Unit {0}
 StopsNear (failures.Refused r) reader =
-    is_told_at_next r.kind ≡ true → seen reader + r.left ≤ length (told reader).text + 2
+    is_seen_at_next r.kind ≡ true → seen reader + r.left ≤ length (observed reader).text + 2
 
 abbrev pub IsNear : {X S : Type 0} {g : Ghosts S} → Result X Failure → Reader S g → Type 0
 IsNear (Ok x) reader = Unit {0}

@@ -1,7 +1,7 @@
 -- What the bytes ahead tell, what was looked at, and stretches of characters.
 use Rattle.std.specs.Prelude.{◌≡◌, ℕ, ◌<◌, ◌≤◌, nat_le, Bool, true, false, List, [], ◌∷◌, Option, Some, None, drop, ◌+◌, max, ◌-◌, ◌&&◌, ◌++◌, length, take}
 use Rattle.serde_json_path_parser.specs.Imports.{ForSome, is_utf8, chars}
-use Rattle.serde_json_path_parser.specs.Source.{Told}
+use Rattle.serde_json_path_parser.specs.Source.{Observed}
 use Rattle.serde_json_path_parser.specs.Lexical.{◌∈◌, AllPass, is_name_char, is_plain}
 
 -- ---- what the bytes ahead tell of the characters
@@ -46,7 +46,7 @@ up_to_second index next (Some second) = up_to (index + 1) second
 
 -- The text is the same, there are at most so many looks more, and none at a byte of a greater
 -- number.
-pub record LooksOn (old new : Told) (count number : ℕ) : Type 0 where
+pub record LooksOn (old new : Observed) (count number : ℕ) : Type 0 where
   pub same_text : new.text ≡ old.text
   pub looks : new.looks ≤ old.looks + count
   pub farthest : new.farthest ≤ max old.farthest number

@@ -7,11 +7,11 @@ use crate::source::PathSource;
 
 /// The byte at that index, if it is below a limit.
 pub(crate) fn byte_below<S: PathSource>(source: &mut S, index: usize, limit: usize) -> Option<u8>
-    requires { limit ≤ length (S.told source.old).text }
+    requires { limit ≤ length (S.observed source.old).text }
     ensures some { ForSome result (λ b.
-        (index < limit) × (slice_get (S.told source.old).text index ≡ Some b)) }
+        (index < limit) × (slice_get (S.observed source.old).text index ≡ Some b)) }
     ensures none { result ≡ None → limit ≤ index }
-    ensures looks { LooksOn (S.told source.old) (S.told source.new)
+    ensures looks { LooksOn (S.observed source.old) (S.observed source.new)
         (up_to index result - index) (up_to index result) }
 {
     if index < limit {
@@ -23,8 +23,8 @@ pub(crate) fn byte_below<S: PathSource>(source: &mut S, index: usize, limit: usi
 
 /// The byte at that index, unless the text ends there.
 pub(crate) fn byte_at<S: PathSource>(source: &mut S, index: usize) -> Option<u8>
-    ensures value { result ≡ slice_get (S.told source.old).text index }
-    ensures looks { LooksOn (S.told source.old) (S.told source.new)
+    ensures value { result ≡ slice_get (S.observed source.old).text index }
+    ensures looks { LooksOn (S.observed source.old) (S.observed source.new)
         (up_to index result - index) (up_to index result) }
 {
     let end = source.len();
@@ -33,9 +33,9 @@ pub(crate) fn byte_at<S: PathSource>(source: &mut S, index: usize) -> Option<u8>
 
 /// The six low bits of a byte.
 fn low_bits<S: PathSource>(source: &mut S, index: usize) -> u32
-    requires { index < length (S.told source.old).text }
-    ensures value { result ≡ slice_index (S.told source.old).text index % 64 }
-    ensures looks { LooksOn (S.told source.old) (S.told source.new) 1 (index + 1) }
+    requires { index < length (S.observed source.old).text }
+    ensures value { result ≡ slice_index (S.observed source.old).text index % 64 }
+    ensures looks { LooksOn (S.observed source.old) (S.observed source.new) 1 (index + 1) }
 {
     source.byte(index) as u32 % 64
 }
@@ -55,13 +55,13 @@ pub(crate) fn wide_character_at<S: PathSource>(
     index: usize,
     lead: u8,
 ) -> (char, usize)
-    requires utf8 { IsUtf8 (drop index (S.told source.old).text) }
-    requires lead { slice_get (S.told source.old).text index ≡ Some lead }
-    requires short { length (S.told source.old).text < 2 ^ 64 }
+    requires utf8 { IsUtf8 (drop index (S.observed source.old).text) }
+    requires lead { slice_get (S.observed source.old).text index ≡ Some lead }
+    requires short { length (S.observed source.old).text < 2 ^ 64 }
     requires wide { 128 ≤ lead }
-    ensures decodes { StartsWithChar (drop index (S.told source.old).text) result.0 result.1 }
+    ensures decodes { StartsWithChar (drop index (S.observed source.old).text) result.0 result.1 }
     ensures scalar { IsScalar result.0 }
-    ensures looks { LooksOn (S.told source.old) (S.told source.new)
+    ensures looks { LooksOn (S.observed source.old) (S.observed source.new)
         (result.1 - 1) (index + result.1) }
 {
     let first = lead as u32;

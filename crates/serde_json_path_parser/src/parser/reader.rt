@@ -21,26 +21,27 @@ pub(crate) struct Reader<'s, S: PathSource> {
     second: Option<Option<u8>>,
     /// Below this index a byte may be looked at: the text's length, or 0 while `second` is known.
     limit: usize,
-    ghost short: { length (S.told source.now).text < greatest_usize },
-    ghost within: { index ≤ length (S.told source.now).text },
-    ghost utf8: { is_utf8 (drop index (S.told source.now).text) ≡ true },
-    ghost next_is: { next ≡ slice_get (S.told source.now).text index },
-    ghost second_is: { IsSecond second next (slice_get (S.told source.now).text (index + 1)) },
-    ghost limit_is: { limit ≡ limit_of second (length (S.told source.now).text) },
+    ghost short: { length (S.observed source.now).text < greatest_usize },
+    ghost within: { index ≤ length (S.observed source.now).text },
+    ghost utf8: { is_utf8 (drop index (S.observed source.now).text) ≡ true },
+    ghost next_is: { next ≡ slice_get (S.observed source.now).text index },
+    ghost second_is: { IsSecond second next (slice_get (S.observed source.now).text (index + 1)) },
+    ghost limit_is: { limit ≡ limit_of second (length (S.observed source.now).text) },
 }
 
 impl<'s, S: PathSource> Reader<'s, S> {
     ghost use Rattle.std.specs.Prelude.{◌==◌, ◌-◌, ◌^◌, ◌∷◌, ℕ, max, None, Some, IfOk, IsTrue, is_ok, string_bytes, ◌++◌};
-    ghost use Rattle.serde_json_path_parser.specs.Inside.Words.{chars, IsScalar, Stretched, begins_operator, is_ascii, IsAhead, begins, begins_both, is_blank, is_digit, is_name_first, is_name_char, is_small_letter, is_function_char, front, past, is_exponent, is_hexadecimal, is_letter_escape, is_control, is_inside, encode_utf8_all, byte_count, refusal, past_blanks, is_first_digit, begins_int, opens, ◌∈◌, told, left, seen, Moves, StopsNear, ends_argument};
+    ghost use Rattle.serde_json_path_parser.specs.Inside.Words.{chars, IsScalar, Stretched, begins_operator, is_ascii, IsAhead, begins, begins_both, is_blank, is_digit, is_name_first, is_name_char, is_small_letter, is_function_char, front, past, is_exponent, is_hexadecimal, is_letter_escape, is_control, is_inside, encode_utf8_all, byte_count, refusal, past_blanks, is_first_digit, begins_int, opens, ◌∈◌, observed, left, seen, Moves, StopsNear, ends_argument};
 
     /// A reader at the start of a text.
     pub(crate) fn new(source: &'s mut S) -> Reader<'s, S>
-        requires { length (S.told source.old).text < greatest_usize }
+        requires { length (S.observed source.old).text < greatest_usize }
         ensures same_source { result.source.ghost_name ≡ source.entry.ghost_name }
-        ensures same_text { (told result).text ≡ (S.told source.old).text }
-        ensures left { left result ≡ chars (S.told source.old).text }
-        ensures looks { (told result).looks ≤ (S.told source.old).looks + seen result }
-        ensures farthest { (told result).farthest ≤ max (S.told source.old).farthest (seen result) }
+        ensures same_text { (observed result).text ≡ (S.observed source.old).text }
+        ensures left { left result ≡ chars (S.observed source.old).text }
+        ensures looks { (observed result).looks ≤ (S.observed source.old).looks + seen result }
+        ensures farthest { (observed result).farthest
+            ≤ max (S.observed source.old).farthest (seen result) }
     {
         let limit = source.len();
         let next = byte_at(source, 0);
@@ -122,7 +123,7 @@ impl<'s, S: PathSource> Reader<'s, S> {
     /// How many bytes are left.
     pub(crate) fn bytes_left(&self) -> usize
         ensures value { result ≡ byte_count (left self.now) }
-        ensures sum { result + self.now.index ≡ length (told self.now).text }
+        ensures sum { result + self.now.index ≡ length (observed self.now).text }
     {
         self.source.len() - self.index
     }
@@ -373,7 +374,7 @@ impl<'s, S: PathSource> Reader<'s, S> {
 
     /// The length of the text in bytes.
     pub(crate) fn len(&self) -> usize
-        ensures { result ≡ length (told self.now).text }
+        ensures { result ≡ length (observed self.now).text }
     {
         self.source.len()
     }

@@ -64,18 +64,18 @@ fn gather<S: PathSource, C: Class>(
     part: &mut [u8],
 ) -> (usize, Option<u8>)
     requires ascii { (c : ℕ) → C.holds class.now c ≡ true → c < 128 }
-    requires first { Gathered (C.holds class.now) (S.told source.old).text index
+    requires first { Gathered (C.holds class.now) (S.observed source.old).text index
         (index + 1) part.old }
     requires some { index < end }
     requires most { end ≤ index + length part.old }
-    requires within { end ≤ length (S.told source.old).text }
+    requires within { end ≤ length (S.observed source.old).text }
     ensures some { index < result.0 }
     ensures most { result.0 ≤ end }
     ensures long { length part.new ≡ length part.old }
-    ensures gathered { Gathered (C.holds class.now) (S.told source.old).text
+    ensures gathered { Gathered (C.holds class.now) (S.observed source.old).text
         index result.0 part.new }
-    ensures next_is { result.1 ≡ slice_get (S.told source.old).text result.0 }
-    ensures looks { LooksOn (S.told source.old) (S.told source.new)
+    ensures next_is { result.1 ≡ slice_get (S.observed source.old).text result.0 }
+    ensures looks { LooksOn (S.observed source.old) (S.observed source.new)
         (up_to result.0 result.1 - (index + 1)) (up_to result.0 result.1) }
 {
     let mut at = index + 1;
@@ -112,20 +112,21 @@ pub(crate) fn push_stretch<S: PathSource, C: Class>(
     text: &mut String,
 ) -> (usize, Option<u8>, Result<(), AllocError>)
     requires ascii { (c : ℕ) → C.holds class.now c ≡ true → c < 128 }
-    requires utf8 { is_utf8 (drop index (S.told source.old).text) ≡ true }
-    requires first_is { slice_get (S.told source.old).text index ≡ Some first }
+    requires utf8 { is_utf8 (drop index (S.observed source.old).text) ≡ true }
+    requires first_is { slice_get (S.observed source.old).text index ≡ Some first }
     requires fits { C.holds class.now first ≡ true }
     ensures some { index < result.0 }
-    ensures within { result.0 ≤ length (S.told source.old).text }
-    ensures utf8 { is_utf8 (drop result.0 (S.told source.old).text) ≡ true }
-    ensures next_is { result.1 ≡ slice_get (S.told source.old).text result.0 }
-    ensures looks { LooksOn (S.told source.old) (S.told source.new)
+    ensures within { result.0 ≤ length (S.observed source.old).text }
+    ensures utf8 { is_utf8 (drop result.0 (S.observed source.old).text) ≡ true }
+    ensures next_is { result.1 ≡ slice_get (S.observed source.old).text result.0 }
+    ensures looks { LooksOn (S.observed source.old) (S.observed source.new)
         (up_to result.0 result.1 - (index + 1)) (up_to result.0 result.1) }
     ensures taken { Stretched (C.holds class.now)
-        (chars (drop index (S.told source.old).text)) (chars (drop result.0 (S.told source.old).text))
+        (chars (drop index (S.observed source.old).text))
+        (chars (drop result.0 (S.observed source.old).text))
         (string_bytes text.old) (string_bytes text.new) (is_ok result.2) }
-    ensures less { length (chars (drop result.0 (S.told source.old).text))
-        < length (chars (drop index (S.told source.old).text)) }
+    ensures less { length (chars (drop result.0 (S.observed source.old).text))
+        < length (chars (drop index (S.observed source.old).text)) }
 {
     // 128 at a time: many for one append, few for the stack.
     let most = index + (source.len() - index).min(128);

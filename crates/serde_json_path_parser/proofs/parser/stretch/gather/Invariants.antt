@@ -6,8 +6,8 @@ invariant-loop-at g l = record {
   some : l.index < l.at;
   most : l.at ≤ l.end;
   long : length l.part ≡ length l.initial.part;
-  gathered : Gathered (g.C.Class.holds l.class) (g.S.PathSource.told l.source).text l.index l.at l.part;
-  looks : LooksOn (g.S.PathSource.told l.initial.source) (g.S.PathSource.told l.source) (l.at - (l.index + 1)) l.at;
+  gathered : Gathered (g.C.Class.holds l.class) (g.S.PathSource.observed l.source).text l.index l.at l.part;
+  looks : LooksOn (g.S.PathSource.observed l.initial.source) (g.S.PathSource.observed l.source) (l.at - (l.index + 1)) l.at;
 }
 
 abbrev pub decreases-loop-at : goal.decreases-loop-at

@@ -6,7 +6,7 @@ use Rattle.serde_json_path_parser.proofs.parser.reader.Reader.take_char.Goals.{i
 pub unwrap-lead-requires : goal.unwrap-lead-requires
 unwrap-lead-requires g c =
     let r = c.args.self.now in
-    some_next (g.S.PathSource.told r.source.now).text r.index r.next r.next_is c.requires
+    some_next (g.S.PathSource.observed r.source.now).text r.index r.next r.next_is c.requires
 
 pub invariant_of-self-clause-utf8 : goal.invariant_of-self-clause-utf8
 invariant_of-self-clause-utf8 g c =
@@ -32,7 +32,7 @@ invariant_of-self-in-None-second-clause-utf8 g c =
 pub invariant_of-self-in-None-second-clause-next_is : goal.invariant_of-self-in-None-second-clause-next_is
 invariant_of-self-in-None-second-clause-next_is g c =
     let r = c.args.self.now in
-    let text = (g.S.PathSource.told r.source.now).text in
+    let text = (g.S.PathSource.observed r.source.now).text in
     let whole : r.limit ≡ length text = r.limit_is ∙ ap (λ o. limit_of o (length text)) c.in-None-second.is in
     rw c.byte_below.ensures.looks.same_text (sym (slice_get_past text (r.index + 1) (omega (arith, whole, c.byte_below.ensures.none c.in-None.is))))
 
