@@ -1,12 +1,15 @@
 -- The nodes that a walk is asked for.
-use Rattle.std.proofs.Common.{◌≡◌, ◌↔◌, ℕ, zero, suc, ◌+◌, ◌≤◌, Bool, true, false, List, [], ◌∷◌, ◌++◌, length, take, codes, Option, Some, None, nat_lt, string_bytes, refl, sym, ap, subst, ◌∙◌, append-nil, append_assoc, arith}
+use Rattle.std.proofs.Common.{◌≡◌, ◌↔◌, ◌⊎◌, inl, inr, ℕ, zero, suc, ◌+◌, ◌≤◌, Bool, true, false, List, [], ◌∷◌, ◌++◌, length, take, codes, Option, Some, None, nat_lt, string_bytes, refl, sym, ap, subst, ◌∙◌, append-nil, append_assoc, arith}
 use Rattle.std.proofs.lemmas.List.{length-take, take_all, take-append-le}
 use Rattle.json.specs.Lex.{tokens}
 use Rattle.json.specs.Print.{ArePrintable}
 use Rattle.serde_json_path_nodes.specs.Location.{Located}
+use Rattle.serde_json_path_core.specs.Sinks.{MatchTaken}
+use Rattle.serde_json_path_core.specs.declared.evaluation.sink.Taken.{Taken}
+use Rattle.serde_json_path_core.specs.declared.evaluation.sink.Taken.TheVariants.{More, Enough}
 use Rattle.serde_json_path_nodes.specs.Lists.{first_places_after}
 use Rattle.jsonpath_lines.specs.Output.{AreLines, AreLinesIn, IsCount, IsCountIn, up_to}
-use Rattle.jsonpath_lines.specs.Inside.{Appends, ArePieces, ArePiecesIn, IsClosedIn, IsPiece, Pushes, TookLines, asked, is_reached, leaves_out_in, limit_in, once, opening}
+use Rattle.jsonpath_lines.specs.Inside.{Appends, ArePieces, ArePiecesIn, IsClosedIn, IsPiece, FilledLines, Pushes, TookLines, asked, is_reached, leaves_out_in, limit_in, once, opening}
 use Rattle.jsonpath_lines.specs.declared.forms.Form.{Form}
 use Rattle.jsonpath_lines.specs.declared.forms.Form.TheVariants.{LocationAndValue, Value, Raw, Location, Pointer, Json, Count, Nothing}
 use Rattle.jsonpath_lines.specs.declared.forms.Output.{Output}
@@ -63,17 +66,17 @@ none_taken lines none below = record {
 
 -- another is taken
 pub one_taken : (before old : Lines) (nodes : List Located) (n : Located) (text : List ℕ) (count : ℕ) → TookLines before nodes old
-    → Appends (IsPiece old.writer.output old.writer.head.now (nat_lt 0 old.count) n) (string_bytes old.text) text → count ≡ old.count + 1
+    → Appends (IsPiece before.writer.output old.writer.head.now (nat_lt 0 old.count) n) (string_bytes old.text) text → count ≡ old.count + 1
     → Appends (ArePieces before.writer.output before.writer.head.now (nodes ++ n ∷ [])) (string_bytes before.text) text × (count ≡ length (nodes ++ n ∷ []))
 one_taken before old nodes n text count took piece further =
-    let own = subst (λ (w : LineWriter). Appends (IsPiece w.output w.head.now (nat_lt 0 old.count) n) (string_bytes old.text) text) took.writer piece in (
+    let own = subst (λ (w : LineWriter). Appends (IsPiece before.writer.output w.head.now (nat_lt 0 old.count) n) (string_bytes old.text) text) took.writer piece in (
       appended_pushed before.writer.output before.writer.head.now nodes n old.count _ _ _ took.count took.text own,
       further ∙ length_further nodes n old.count took.count,
     )
 
 -- with it the limit is reached
 pub filled_by_one : (before old : Lines) (nodes later : List Located) (n : Located) (text : List ℕ) (count : ℕ) → TookLines before nodes old
-    → Appends (IsPiece old.writer.output old.writer.head.now (nat_lt 0 old.count) n) (string_bytes old.text) text → count ≡ old.count + 1
+    → Appends (IsPiece before.writer.output old.writer.head.now (nat_lt 0 old.count) n) (string_bytes old.text) text → count ≡ old.count + 1
     → is_reached old.limit count ≡ true
     → let shown = up_to before.limit (nodes ++ (n ∷ later)) in
     Appends (ArePieces before.writer.output before.writer.head.now shown) (string_bytes before.text) text × (count ≡ length shown)
@@ -87,6 +90,20 @@ filled_by_one before old nodes later n text count took piece further full =
       subst (λ ns. Appends (ArePieces before.writer.output before.writer.head.now ns) (string_bytes before.text) text) these one.0,
       one.1 ∙ ap (λ (ns : List Located). length ns) these,
     )
+
+-- what was taken of a node says less of a sink that knows more
+pub taken_by : {A B C D : Type 0} (taken : Taken) → (A → C) → (B → D) → MatchTaken taken A B → MatchTaken taken C D
+taken_by (More steps) further enough h = further h
+taken_by Enough further enough h = enough h
+
+-- what was written of all nodes, or up to the limit
+pub pushed_either : (before now : Lines) (all : List Located) → before.limit ≡ limit_in before.writer.output.form before.writer.output.most → TookLines before all now ⊎ FilledLines before all now
+    → Pushes before.writer.output before.writer.head.now all (string_bytes before.text) (string_bytes now.text) now.count
+pushed_either before now all is (inl took) =
+    let below : is_reached before.limit now.count ≡ false = ap (λ l. is_reached l now.count) (sym took.limit) ∙ took.more in
+    pushed_so_far before.writer.output before.writer.head.now before.limit all all _ _ _ is (all_below before.limit all now.count took.count below) took.text took.count
+pushed_either before now all is (inr filled) =
+    pushed_so_far before.writer.output before.writer.head.now before.limit all (up_to before.limit all) _ _ _ is refl filled.0 filled.1
 
 -- ---- what is shown of the chosen nodes, by what a walk is asked for
 

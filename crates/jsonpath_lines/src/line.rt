@@ -32,6 +32,17 @@ fn push_comma(text: &mut String, is_later: bool) -> Result<(), AllocError>
     Ok(())
 }
 
+/// Appends what a line begins with. Most lines begin with nothing, which costs nothing.
+#[inline(always)]
+fn push_head(text: &mut String, head: &str) -> Result<(), AllocError>
+    ensures { OnOk result (string_bytes text.new ≡ string_bytes text.old ++ head.now) }
+{
+    if head.is_empty() {
+        return Ok(());
+    }
+    text.push_str(head)
+}
+
 impl LineWriter<'_> {
     /// Appends what is written before all nodes.
     #[inline(always)]
@@ -77,7 +88,7 @@ impl LineWriter<'_> {
             (IsLine self.entry.output self.entry.head.now (located node.now))
             (string_bytes text.old) (string_bytes text.new)) }
     {
-        text.push_str(self.head)?;
+        push_head(text, self.head)?;
         self.push_text(text, node)?;
         text.push_str(self.output.end.as_str())
     }

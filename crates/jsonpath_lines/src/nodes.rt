@@ -1,12 +1,12 @@
 //! The text of the nodes of a walk.
 
-ghost use Rattle.std.specs.Prelude.{◌≡◌, [], map, IfOk, IfErr, OnOk, string_bytes};
+ghost use Rattle.std.specs.Prelude.{◌≡◌, ◌⊎◌, [], map, IfOk, IfErr, OnOk, string_bytes};
 ghost use Rattle.serde_json_path_nodes.specs.Views.{located};
 ghost use Rattle.serde_json_path_nodes.specs.Lists.{first_places};
 ghost use Rattle.serde_json_path_core.specs.Selects.{OnlyMemoryOrPattern};
 ghost use Rattle.serde_json_path_core.specs.Walks.{rest, query_of, set_of, document_of};
 ghost use Rattle.jsonpath_lines.specs.Output.{AreLines, IsCount, up_to};
-ghost use Rattle.jsonpath_lines.specs.Inside.{Appends, ArePieces, Pushes, asked, is_reached};
+ghost use Rattle.jsonpath_lines.specs.Inside.{Appends, ArePieces, FilledLines, Pushes, TookLines, asked, is_reached};
 
 use crate::distinct::distinct_nodes;
 use crate::forms::Output;
@@ -14,7 +14,6 @@ use crate::line::LineWriter;
 use serde_json_path::functions::Functions;
 use serde_json_path::{LocatedNode, QueryError, Sink, Taken, Walk};
 use std::alloc::Global;
-use std::mem::replace;
 
 /// What is written of nodes.
 #[derive(Drop)]
@@ -45,20 +44,35 @@ struct Lines<'a> {
     count: u64,
 }
 
-impl<'a, 'b> Sink<'b> for Lines<'a> {
+impl Lines<'_> {
+    ghost use Rattle.std.specs.Prelude.{◌++◌, [], ◌∷◌, List};
+    ghost use Rattle.serde_json_path_nodes.specs.Location.{Located};
+    ghost use Rattle.serde_json_path_functions.specs.declared.error.QueryError.TheVariants.{Memory};
+    ghost use Rattle.serde_json_path_core.specs.Sinks.{MatchTaken};
     ghost use Rattle.jsonpath_lines.specs.Inside.{FilledLines, TookLines};
 
-    ghost took = { TookLines };
-
-    ghost filled = { FilledLines };
-
+    /// Takes a node, whose line is as the output says, which is the writer's.
     // Inlined, as what it calls: each node passes here.
     #[inline(always)]
-    fn take(&mut self, node: LocatedNode<'b>) -> Result<Taken<'b>, QueryError> {
-        // Taken out, so that what is lent to a call is the text alone, and the form stays known.
-        let mut text = replace(&mut self.text, String::new(self.writer.alloc));
-        self.writer.push_node(&mut text, self.count > 0, &node)?;
-        self.text = text;
+    fn take_as<'b>(
+        &mut self,
+        output: Output,
+        node: LocatedNode<'b>,
+    ) -> Result<Taken<'b>, QueryError>
+        ensures taken { IfOk result (λ taken. MatchTaken taken
+            ((before : Lines) → (nodes : List Located) → before.writer.output ≡ output
+            → TookLines before nodes self.old
+            → TookLines before (nodes ++ located node.entry ∷ []) self.new)
+            ((before : Lines) → (nodes later : List Located) → before.writer.output ≡ output
+            → TookLines before nodes self.old
+            → FilledLines before (nodes ++ located node.entry ∷ later) self.new)) }
+        ensures refused { IfErr result (λ e. e ≡ Memory) }
+    {
+        let writer = LineWriter {
+            output,
+            ..self.writer
+        };
+        writer.push_node(&mut self.text, self.count > 0, &node)?;
         // A walk that gave one node in each nanosecond would take 584 years to come to the error.
         self.count = self.count.checked_add(1).ok_or(QueryError::Memory)?;
         if is_reached(self.limit, self.count) {
@@ -66,6 +80,58 @@ impl<'a, 'b> Sink<'b> for Lines<'a> {
         }
         Ok(Taken::More(node.into_steps()))
     }
+}
+
+impl<'a, 'b> Sink<'b> for Lines<'a> {
+    ghost use Rattle.jsonpath_lines.specs.Inside.{FilledLines, TookLines};
+
+    ghost took = { TookLines };
+
+    ghost filled = { FilledLines };
+
+    #[inline(always)]
+    fn take(&mut self, node: LocatedNode<'b>) -> Result<Taken<'b>, QueryError> {
+        self.take_as(self.writer.output, node)
+    }
+}
+
+/// Such lines, each with its location and its value in compact JSON: the form that most runs ask for is compiled for itself.
+#[derive(Drop)]
+struct LocatedLines<'a>(Lines<'a>);
+
+impl<'a, 'b> Sink<'b> for LocatedLines<'a> {
+    ghost use Rattle.jsonpath_lines.specs.Inside.{FilledLines, TookLocatedLines};
+
+    ghost took = { TookLocatedLines };
+
+    ghost filled = { λ before nodes now. FilledLines before.0 nodes now.0 };
+
+    #[inline(always)]
+    fn take(&mut self, node: LocatedNode<'b>) -> Result<Taken<'b>, QueryError> {
+        let output = self.0.writer.output.in_located_lines();
+        self.0.take_as(output, node)
+    }
+}
+
+/// The lines with what is written of the nodes of a walk up to the limit.
+#[inline(always)]
+fn filled<'a, F: Functions + Drop>(
+    mut lines: Lines<'a>,
+    walk: Walk<'_, '_, F>,
+) -> Result<Lines<'a>, QueryError>
+    requires { TookLines lines [] lines }
+    ensures filled { IfOk result (λ now. TookLines lines.entry (rest walk.entry) now
+        ⊎ FilledLines lines.entry (rest walk.entry) now) }
+    ensures refused { OnlyMemoryOrPattern (set_of walk.entry) (query_of walk.entry)
+        (document_of walk.entry) result }
+{
+    if lines.writer.output == lines.writer.output.in_located_lines() {
+        let mut located = LocatedLines(lines);
+        walk.feed(&mut located)?;
+        return Ok(located.0);
+    }
+    walk.feed(&mut lines)?;
+    Ok(lines)
 }
 
 /// Appends what is written of the nodes of a walk up to the limit, and tells how many these are.
@@ -86,13 +152,13 @@ fn push_walk<F: Functions + Drop>(
     if is_reached(limit, 0) {
         return Ok(Written { text, count: 0 });
     }
-    let mut lines = Lines {
+    let lines = Lines {
         writer,
         limit,
         text,
         count: 0,
     };
-    walk.feed(&mut lines)?;
+    let lines = filled(lines, walk)?;
     Ok(Written {
         text: lines.text,
         count: lines.count,
