@@ -10,12 +10,13 @@ use Rattle.serde_json_path_core.specs.Inside.SingleChildren.{values_from}
 use Rattle.serde_json_path_core.specs.Inside.Scopes.{nodes_of, query_of, set_of, top_of, IsSound, MayRefuse}
 use Rattle.serde_json_path_core.specs.declared.evaluation.scope.Scope.{Scope}
 
--- ---- the part is of its kind and well-typed under the set, and its calls are among the query's
+-- ---- what is sound
 
--- the last two of its tree
+-- the tree is well-typed under the set, and its calls are among the query's
 abbrev pub Sound : {F : Type 0} {g : _} {A : Type 0} → Scope F g → ((List ℕ → Option Signature) → A → Type 0) → (A → List Call) → A → Type 0
-Sound scope typed calls part = IsSound (set_of scope) (query_of scope) typed calls part
+Sound scope typed calls tree = IsSound (set_of scope) (query_of scope) typed calls tree
 
+-- the part is of its kind, and its tree is sound
 abbrev pub SoundQuery : {F : Type 0} {g : _} → Scope F g → Part → Type 0
 SoundQuery scope part = IsOfKind is_query (nodes_of scope) part × Sound scope IsTyped calls_of (part_query (nodes_of scope) part)
 
