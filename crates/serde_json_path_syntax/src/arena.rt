@@ -87,7 +87,7 @@ impl Arena {
         ensures tree { segments_at self.now.nodes.items result.now
             ≡ segments_of (part_query self.now.nodes.items query) }
         ensures below { parts_bound result.now ≤ query.number }
-        ensures segments { AreOfKind is_segment self.now.nodes.items result.now }
+        ensures are { AreOfKind is_segment self.now.nodes.items result.now }
     {
         match self.node(query) {
             Node::Query { segments, .. } => segments.as_slice(),

@@ -130,7 +130,7 @@ impl Checked {
     pub fn segments(&self) -> &[Part]
         ensures tree { segments_at (nodes_in self.now) result.now ≡ segments_of (tree_of self.now) }
         ensures within { parts_bound result.now ≤ length (nodes_in self.now) }
-        ensures segments { AreOfKind is_segment (nodes_in self.now) result.now }
+        ensures are { AreOfKind is_segment (nodes_in self.now) result.now }
     {
         match self.query {
             None => &[],
@@ -160,7 +160,7 @@ impl Checked {
         ensures tree { segments_at (nodes_in self.now) result.now
             ≡ segments_of (part_query (nodes_in self.now) query) }
         ensures below { parts_bound result.now ≤ number_of query }
-        ensures segments { AreOfKind is_segment (nodes_in self.now) result.now }
+        ensures are { AreOfKind is_segment (nodes_in self.now) result.now }
     {
         self.arena.segments(query)
     }

@@ -24,7 +24,7 @@ pub returns-clause-sound : goal.returns-clause-sound
 returns-clause-sound g c =
     let scope = c.args.scope.now in
     sound-ends (set_of scope) (query_of scope) (pieces (nodes_of scope)) c.part_segments.result.now c.go_down.result.segments.now c.go_down.ensures.ends
-    (c.part_segments.ensures.segments, sound-segments (set_of scope) (query_of scope) _ _ c.part_segments.ensures.tree c.requires.sound.1)
+    (c.part_segments.ensures.are, sound-segments (set_of scope) (query_of scope) _ _ c.part_segments.ensures.tree c.requires.sound.1)
 
 pub returns-clause-inside : goal.returns-clause-inside
 returns-clause-inside g c =
