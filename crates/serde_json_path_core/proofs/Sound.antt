@@ -1,6 +1,6 @@
 -- The parts of a sound query are sound.
-use Rattle.std.proofs.Common.{◌≡◌, ℕ, zero, suc, ◌<◌, ◌≤◌, List, [], ◌∷◌, ◌++◌, length, get_or, slice_get, Some, refl, sym, subst, arith, ap, ◌∙◌}
-use Rattle.serde_json_path_core.proofs.Words.{none-some, same_Some, Query, query, Segments, segments_of, Segment, dot_name, dot_wildcard, long_hand, Selectors, no_selectors, selector, Selector, name, wildcard, Operator, LogicalOr, no_or, or, no_and, and, Basic, relation, Comparable, Call, call, FunctionSet, Signature, Kind, Fits, IsTyped, AreTypedSegments, IsTypedSegment, AreTypedSelectors, IsTypedSelector, IsTypedOr, IsTypedAnd, IsTypedBasic, IsTypedComparable, IsTypedCall, AreTypedArguments, arguments_of, calls_of, calls_in_segments, calls_in_segment, calls_in_selectors, calls_in_selector, calls_in_or, calls_in_and, calls_in_basic, calls_in_comparable, calls_from, calls_in_arguments, calls_in_argument, name_of, IsIn, parts_bound, EndsIn, Piece, argument_in, arguments_in, piece_in, pieces_named, segment_in, segments_in, and_in, ors_in, basic_in, ands_in, selectors_list, selectors_of, params_of, ∥∥₁_elim, AreCallsOf, IsSound, Part, ∥∥₁_map₂}
+use Rattle.std.proofs.Common.{◌≡◌, ℕ, zero, suc, ◌<◌, ◌≤◌, ◌&&◌, List, [], ◌∷◌, ◌++◌, Bool, true, length, get_or, slice_get, Option, Some, refl, sym, subst, arith, ap, ◌∙◌}
+use Rattle.serde_json_path_core.proofs.Words.{none-some, same_Some, Query, query, Segments, segments_of, Segment, dot_name, dot_wildcard, long_hand, Selectors, no_selectors, selector, Selector, name, wildcard, Operator, LogicalOr, no_or, or, no_and, and, Basic, relation, Comparable, Call, call, FunctionSet, Signature, Kind, Fits, IsTyped, AreTypedSegments, IsTypedSegment, AreTypedSelectors, IsTypedSelector, IsTypedOr, IsTypedAnd, IsTypedBasic, IsTypedComparable, IsTypedCall, AreTypedArguments, arguments_of, calls_of, calls_in_segments, calls_in_segment, calls_in_selectors, calls_in_selector, calls_in_or, calls_in_and, calls_in_basic, calls_in_comparable, calls_from, calls_in_arguments, calls_in_argument, name_of, IsIn, parts_bound, EndsIn, Piece, argument_in, arguments_in, piece_in, pieces_named, segment_in, segments_in, and_in, ors_in, basic_in, ands_in, selectors_list, selectors_of, params_of, each_is, is_segment, is_and, is_basic, is_argument, one_of, and_parts, ∥∥₁_elim, AreCallsOf, IsSound, Part, ∥∥₁_map₂}
 use Rattle.serde_json_path_syntax.proofs.Names.Once.{fits_each, found_in, in_from, of_both}
 use mathlib.Core.List.{is_set}
 use mathlib.Core.Sum.{⊎_set}
@@ -27,12 +27,18 @@ own-call q c each = each c (in_from c)
 pub argument-calls : (q : Query) (c : Call) → AreCallsOf q (calls_from c) → AreCallsOf q (calls_in_arguments (arguments_of c))
 argument-calls q (call f args) each = (both-calls q (calls_in_arguments args) (call f args ∷ []) each).0
 
+-- the kind and the calls of arguments
+abbrev pub AreArgumentsIn : Query → List Piece → Type 0
+AreArgumentsIn q args = (each_is is_argument args ≡ true) × AreCallsOf q (calls_in_arguments (arguments_in args))
+
 -- those of the first argument, and of the others
-pub next-calls : (q : Query) (ps : List Piece) (parts : List Part) (part : Part) (more : List Part) → parts ≡ part ∷ more → AreCallsOf q (calls_in_arguments (arguments_in (pieces_named ps parts)))
-    → AreCallsOf q (calls_in_argument (argument_in (piece_in ps part.number))) × AreCallsOf q (calls_in_arguments (arguments_in (pieces_named ps more)))
-next-calls q ps parts part more e each =
-    both-calls q (calls_in_argument (argument_in (piece_in ps part.number))) (calls_in_arguments (arguments_in (pieces_named ps more)))
-    (subst (λ list. AreCallsOf q (calls_in_arguments (arguments_in (pieces_named ps list)))) e each)
+pub next-argument : (q : Query) (ps : List Piece) (parts : List Part) (part : Part) (more : List Part) → parts ≡ part ∷ more → AreArgumentsIn q (pieces_named ps parts)
+    → ((is_argument (piece_in ps part.number) ≡ true) × AreCallsOf q (calls_in_argument (argument_in (piece_in ps part.number)))) × AreArgumentsIn q (pieces_named ps more)
+next-argument q ps parts part more e each =
+    let s = subst (λ list. AreArgumentsIn q (pieces_named ps list)) e each in
+    let kinds = and_parts (is_argument (piece_in ps part.number)) (each_is is_argument (pieces_named ps more)) s.0 in
+    let calls = both-calls q _ _ s.1 in
+    ((kinds.0, calls.0), (kinds.1, calls.1))
 
 -- ---- parts
 
@@ -49,36 +55,47 @@ module _ (F : FunctionSet) (q : Query) where
   pub sound-segments : (p : Query) (segs : Segments) → segs ≡ segments_of p → IsSound F q IsTyped calls_of p → IsSound F q AreTypedSegments calls_in_segments segs
   sound-segments (query kind below) segs e h = subst (IsSound F q AreTypedSegments calls_in_segments) (sym e) h
 
-  -- one of the parts
-  pub sound-segment : (ps : List Piece) (parts : List Part) (i : ℕ) (part : Part) → i < length parts → part ≡ get_or parts i part
-      → IsSound F q AreTypedSegments calls_in_segments (segments_in (pieces_named ps parts)) → IsSound F q IsTypedSegment calls_in_segment (segment_in (piece_in ps part.number))
-  sound-segment ps [] i part h e s = absurd (omega (arith, h))
-  sound-segment ps (p ∷ parts) zero part h e s =
-      subst (λ (x : Part). IsSound F q IsTypedSegment calls_in_segment (segment_in (piece_in ps x.number))) (sym e)
-      (s.0.0, (both-calls q _ _ s.1).0)
-  sound-segment ps (p ∷ parts) (suc i) part h e s = sound-segment ps parts i part (omega (arith, h)) e (s.0.1, (both-calls q _ _ s.1).1)
+  -- a piece, or several, of that kind, whose tree is sound
+  abbrev Is : {P A : Type 0} → (P → Bool) → (P → A) → ((List ℕ → Option Signature) → A → Type 0) → (A → List Call) → P → Type 0
+  Is is tree typed calls p = (is p ≡ true) × IsSound F q typed calls (tree p)
+
+  abbrev IsSegment : Piece → Type 0
+  IsSegment p = Is is_segment segment_in IsTypedSegment calls_in_segment p
+
+  abbrev AreSegments : List Piece → Type 0
+  AreSegments ps = Is (each_is is_segment) segments_in AreTypedSegments calls_in_segments ps
+
+  -- what is so of the first of several pieces and of the others
+  first_of : {T U : Type 0} (is : Piece → Bool) (p : Piece) (more : List Piece) (xs ys : List Call) → (is p && each_is is more ≡ true) × ((T × U) × AreCallsOf q (xs ++ ys))
+      → ((is p ≡ true) × (T × AreCallsOf q xs)) × ((each_is is more ≡ true) × (U × AreCallsOf q ys))
+  first_of is p more xs ys s =
+      let kinds = and_parts (is p) (each_is is more) s.0 in
+      let calls = both-calls q xs ys s.1.1 in
+      ((kinds.0, (s.1.0.0, calls.0)), (kinds.1, (s.1.0.1, calls.1)))
+
+  first_segment : (p : Piece) (more : List Piece) → AreSegments (p ∷ more) → IsSegment p × AreSegments more
+  first_segment p more s = first_of is_segment p more _ _ s
+
+  -- one of the segments
+  pub sound-segment : (ps : List Piece) (parts : List Part) (i : ℕ) (part : Part) → i < length parts → part ≡ get_or parts i part → AreSegments (pieces_named ps parts) → IsSegment (piece_in ps part.number)
+  sound-segment ps parts i part h e s = subst (λ (x : Part). IsSegment (piece_in ps x.number)) (sym e) (one_of AreSegments IsSegment first_segment ps parts i part h s)
 
   -- the last of so many
-  pub sound-ends : (ps : List Piece) (parts more : List Part) → EndsIn parts more → IsSound F q AreTypedSegments calls_in_segments (segments_in (pieces_named ps parts))
-      → IsSound F q AreTypedSegments calls_in_segments (segments_in (pieces_named ps more))
-  sound-ends ps parts more ends s = past ends.0 (subst (λ xs. IsSound F q AreTypedSegments calls_in_segments (segments_in (pieces_named ps xs))) ends.1 s)
+  pub sound-ends : (ps : List Piece) (parts more : List Part) → EndsIn parts more → AreSegments (pieces_named ps parts) → AreSegments (pieces_named ps more)
+  sound-ends ps parts more ends s = past ends.0 (subst (λ xs. AreSegments (pieces_named ps xs)) ends.1 s)
     where
-      past : (front : List Part) → IsSound F q AreTypedSegments calls_in_segments (segments_in (pieces_named ps (front ++ more)))
-          → IsSound F q AreTypedSegments calls_in_segments (segments_in (pieces_named ps more))
+      past : (front : List Part) → AreSegments (pieces_named ps (front ++ more)) → AreSegments (pieces_named ps more)
       past [] h = h
-      past (p ∷ front) h = past front (h.0.1, (both-calls q _ _ h.1).1)
+      past (p ∷ front) h = past front (first_segment (piece_in ps p.number) (pieces_named ps (front ++ more)) h).1
 
+  -- one of the operands of `||`, and of `&&`
   pub sound-and : (ps : List Piece) (parts : List Part) (i : ℕ) (d : Part) → i < length parts
-      → IsSound F q IsTypedOr calls_in_or (ors_in (pieces_named ps parts)) → IsSound F q IsTypedAnd calls_in_and (and_in (piece_in ps (get_or parts i d).number))
-  sound-and ps [] i d h s = absurd (omega (arith, h))
-  sound-and ps (p ∷ parts) zero d h s = (s.0.0, (both-calls q _ _ s.1).0)
-  sound-and ps (p ∷ parts) (suc i) d h s = sound-and ps parts i d (omega (arith, h)) (s.0.1, (both-calls q _ _ s.1).1)
+      → Is (each_is is_and) ors_in IsTypedOr calls_in_or (pieces_named ps parts) → Is is_and and_in IsTypedAnd calls_in_and (piece_in ps (get_or parts i d).number)
+  sound-and = one_of (Is (each_is is_and) ors_in IsTypedOr calls_in_or) (Is is_and and_in IsTypedAnd calls_in_and) (λ p more s. first_of is_and p more _ _ s)
 
   pub sound-basic : (ps : List Piece) (parts : List Part) (i : ℕ) (d : Part) → i < length parts
-      → IsSound F q IsTypedAnd calls_in_and (ands_in (pieces_named ps parts)) → IsSound F q IsTypedBasic calls_in_basic (basic_in (piece_in ps (get_or parts i d).number))
-  sound-basic ps [] i d h s = absurd (omega (arith, h))
-  sound-basic ps (p ∷ parts) zero d h s = (s.0.0, (both-calls q _ _ s.1).0)
-  sound-basic ps (p ∷ parts) (suc i) d h s = sound-basic ps parts i d (omega (arith, h)) (s.0.1, (both-calls q _ _ s.1).1)
+      → Is (each_is is_basic) ands_in IsTypedAnd calls_in_and (pieces_named ps parts) → Is is_basic basic_in IsTypedBasic calls_in_basic (piece_in ps (get_or parts i d).number)
+  sound-basic = one_of (Is (each_is is_basic) ands_in IsTypedAnd calls_in_and) (Is is_basic basic_in IsTypedBasic calls_in_basic) (λ p more s. first_of is_basic p more _ _ s)
 
   -- both sides of a comparison
   pub sound-relation : (x : Comparable) (op : Operator) (y : Comparable) (b : Basic) → b ≡ relation x op y
@@ -120,11 +137,11 @@ typed-arguments F (call f args) h = subst (AreTypedArguments F.signature args) (
 
 -- the types of its parameters, where the set fits
 pub parameters-known : (F : FunctionSet) (used : List (List ℕ × Signature)) (c : Call) (kinds : List Kind) → ∥ Fits F used ∥₁ → IsTypedCall F.signature c
-    → ((G : FunctionSet) (s : Signature) → Fits G used → IsTypedCall G.signature c → G.signature (name_of c) ≡ Some s → kinds ≡ s.params)
+    → ((G : FunctionSet) (s : Signature) → Fits G used → G.signature (name_of c) ≡ Some s → kinds ≡ s.params)
     → kinds ≡ params_of (F.signature (name_of c))
 parameters-known F used (call f args) kinds fits typed known =
     let P : Type 0 = kinds ≡ typed.0.params in
-    let same : P = ∥∥₁_elim fits (hlevel (is_set, ⊎_set)) (λ h. known F typed.0 h typed typed.1) in
+    let same : P = ∥∥₁_elim fits (hlevel (is_set, ⊎_set)) (λ h. known F typed.0 h typed.1) in
     same ∙ sym (ap params_of typed.1)
 
 -- ---- a query that fits a set is sound as a whole: what is well-typed under some signatures is so under each that have these

@@ -1,6 +1,6 @@
 -- The trees of a vector of nodes, each of which names earlier ones.
-use Rattle.std.specs.Prelude.{ℕ, pos, ◌<◌, ◌≤◌, List, [], ◌∷◌, ◌++◌, length, map, flat_map, slice_index_or, string_bytes, Option, Some, None}
-use Rattle.serde_json.specs.Data.{Data, null as null_data, boolean, string}
+use Rattle.std.specs.Prelude.{ℕ, ◌<◌, ◌≤◌, List, [], ◌∷◌, ◌++◌, length, map, flat_map, slice_index_or, string_bytes, Option, Some, None}
+use Rattle.serde_json.specs.Data.{Data, boolean, string}
 use Rattle.serde_json.specs.View.{view}
 use Rattle.serde_json_path_syntax.specs.Tree.{QueryKind, root, current, SegmentKind, child, descendant, Query, query, Segments, no_segments, segment, Segment, dot_name, dot_wildcard, long_hand, Selectors, no_selectors, selector, Selector, name, wildcard, index, slice, filter, LogicalOr, no_or, or, LogicalAnd, no_and, and, Basic, paren, not_paren, relation, exist, not_exist, test, not_test, Comparable, literal, singular, called, Call, call, Arguments, no_arguments, argument, Argument, literal_argument, query_argument, call_argument, logical_argument, Literal, text, truth, null}
 use Rattle.serde_json_path_syntax.specs.Tree as tree
@@ -41,22 +41,7 @@ abbrev pub segment_kind_view : reach.SegmentKind → SegmentKind
 segment_kind_view Child = child
 segment_kind_view Descendant = descendant
 
--- ---- trees that are ill-typed under every signature; they stand in for a piece of the wrong kind, so a well-typed tree has no such piece
-
--- a number that is not whole: no parameter takes it
-abbrev pub untyped_argument : Argument
-untyped_argument = literal_argument (tree.number (pos 1))
-
-abbrev pub untyped_call : Call
-untyped_call = call [] (argument untyped_argument no_arguments)
-
-abbrev pub untyped_or : LogicalOr
-untyped_or = or (and (test untyped_call) no_and) no_or
-
-abbrev pub untyped_segment : Segment
-untyped_segment = long_hand (selector (filter untyped_or) no_selectors)
-
--- ---- out of pieces
+-- ---- out of pieces; what a piece of another kind gives is never used, since each place has a piece of its kind (`Kinds`)
 
 -- beyond the last piece
 abbrev pub no_piece : Piece
@@ -65,7 +50,7 @@ no_piece = a_query (query root no_segments)
 -- the query of a piece
 abbrev pub query_in : Piece → Query
 query_in (a_query q) = q
-query_in _ = query root (segment child untyped_segment no_segments)
+query_in _ = query root no_segments
 
 -- the kind and the segment of a piece
 abbrev pub segment_kind_in : Piece → SegmentKind
@@ -74,35 +59,35 @@ segment_kind_in _ = child
 
 abbrev pub segment_in : Piece → Segment
 segment_in (a_segment kind seg) = seg
-segment_in _ = untyped_segment
+segment_in _ = dot_wildcard
 
 abbrev pub selector_in : Piece → Selector
 selector_in (a_selector sel) = sel
-selector_in _ = filter untyped_or
+selector_in _ = wildcard
 
 abbrev pub or_in : Piece → LogicalOr
 or_in (an_or e) = e
-or_in _ = untyped_or
+or_in _ = no_or
 
 abbrev pub and_in : Piece → LogicalAnd
 and_in (an_and e) = e
-and_in _ = and (test untyped_call) no_and
+and_in _ = no_and
 
 abbrev pub basic_in : Piece → Basic
 basic_in (a_basic b) = b
-basic_in _ = test untyped_call
+basic_in _ = paren no_or
 
 abbrev pub comparable_in : Piece → Comparable
 comparable_in (a_comparable c) = c
-comparable_in _ = called untyped_call
+comparable_in _ = literal null
 
 abbrev pub call_in : Piece → Call
 call_in (a_call c) = c
-call_in _ = untyped_call
+call_in _ = call [] no_arguments
 
 abbrev pub argument_in : Piece → Argument
 argument_in (an_argument a) = a
-argument_in _ = untyped_argument
+argument_in _ = literal_argument null
 
 abbrev pub segments_in : List Piece → Segments
 segments_in [] = no_segments
@@ -164,12 +149,11 @@ basic_of earlier (NotExist part) = not_exist (query_in (piece_in earlier part.nu
 basic_of earlier (Test part) = test (call_in (piece_in earlier part.number))
 basic_of earlier (NotTest part) = not_test (call_in (piece_in earlier part.number))
 
--- the literal that writes a text, a truth value or null; any other value, which no builder makes, stands in as a number that is not whole
+-- the literal that writes a text, a truth value or null; no builder makes one of any other value
 abbrev pub literal_of : Data → Literal
 literal_of (string t) = text t
 literal_of (boolean b) = truth b
-literal_of null_data = null
-literal_of _ = tree.number (pos 1)
+literal_of _ = null
 
 -- a literal as a tree holds it
 abbrev pub held_view : held.LiteralValue → Literal

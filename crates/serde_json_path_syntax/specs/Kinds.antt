@@ -2,7 +2,7 @@
 use Rattle.std.specs.Prelude.{◌≡◌, ◌<◌, ◌&&◌, ℕ, Bool, true, false, List, [], ◌∷◌, length, slice_index_or}
 use Rattle.serde_json.specs.Data.{Data, null as null_data, boolean, string}
 use Rattle.serde_json.specs.View.{view}
-use Rattle.serde_json_path_syntax.specs.Flat.{parts_in, piece_in, pieces, pieces_named, segment_parts}
+use Rattle.serde_json_path_syntax.specs.Flat.{parts_in, piece_at, piece_in, pieces, pieces_named, segment_parts}
 use Rattle.serde_json_path_syntax.specs.Tree.{Query, query, Segments, no_segments, segment, child, descendant, Segment, dot_name, long_hand, selector, no_selectors, name, index}
 use Rattle.serde_json_path_syntax.specs.Piece.{Piece, a_query, a_segment, a_selector, an_or, an_and, a_basic, a_comparable, a_call, an_argument}
 use Rattle.serde_json_path_syntax.specs.declared.node.Node.{Node}
@@ -16,6 +16,9 @@ use Rattle.serde_json_path_syntax.specs.declared.node.Comparable as comparables
 use Rattle.serde_json_path_syntax.specs.declared.node.Comparable.TheVariants as side
 use Rattle.serde_json_path_syntax.specs.declared.literal.LiteralValue.{LiteralValue}
 use Rattle.serde_json_path_syntax.specs.declared.literal.LiteralValue.TheVariants.{Value, Number}
+use Rattle.serde_json_path_syntax.specs.declared.node.Part.{Part}
+use Rattle.serde_json_path_syntax.specs.declared.selector_ref.SelectorRef.{SelectorRef}
+use Rattle.serde_json_path_syntax.specs.declared.selector_ref.SelectorRef.TheVariants as selector_ref
 use Rattle.serde_json_path_syntax.specs.declared.node.Argument as given
 use Rattle.serde_json_path_syntax.specs.declared.node.Argument.TheVariants as given_as
 
@@ -79,6 +82,13 @@ abbrev pub each_is : (Piece → Bool) → List Piece → Bool
 each_is is [] = true
 each_is is (p ∷ ps) = is p && each_is is ps
 
+-- the part is of the kind, and each of the parts
+abbrev pub IsOfKind : (Piece → Bool) → List Node → Part → Type 0
+IsOfKind is nodes part = is (piece_at nodes part.number) ≡ true
+
+abbrev pub AreOfKind : (Piece → Bool) → List Node → List Part → Type 0
+AreOfKind is nodes parts = each_is is (pieces_named (pieces nodes) parts) ≡ true
+
 -- ---- the pieces that a node names are of the kinds that their places want
 
 abbrev pub segment_fits : List Piece → segments.Segment → Bool
@@ -87,6 +97,10 @@ segment_fits earlier seg = each_is is_selector (pieces_named earlier (segment_pa
 abbrev pub selector_fits : List Piece → selectors.Selector → Bool
 selector_fits earlier (one.Filter part) = is_or (piece_in earlier part.number)
 selector_fits earlier _ = true
+
+abbrev pub selector_ref_fits : List Piece → SelectorRef → Bool
+selector_ref_fits earlier (selector_ref.Filter part) = is_or (piece_in earlier part.number)
+selector_ref_fits earlier _ = true
 
 abbrev pub basic_fits : List Piece → basics.Basic → Bool
 basic_fits earlier (Paren part) = is_or (piece_in earlier part.number)

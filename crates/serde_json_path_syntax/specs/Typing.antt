@@ -91,7 +91,3 @@ module _ (signature : List ℕ → Option Signature) where
     IsTypedArgument (call_argument c) kind = IsTypedCall c × TakesResult kind (result_kind c)
     IsTypedArgument (logical_argument e) of_logical = IsTypedOr e
     IsTypedArgument (logical_argument e) _ = ⊥
-
--- the part is well-typed under some signatures, which is enough to know that it has no piece of the wrong kind
-abbrev pub UnderSome : {A : Type 0} → ((List ℕ → Option Signature) → A → Type 0) → A → Type 0
-UnderSome typed part = (signature : List ℕ → Option Signature) × typed signature part

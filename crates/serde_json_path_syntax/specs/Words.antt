@@ -11,7 +11,7 @@ pub use Rattle.serde_json_path_syntax.specs.Flat.{IsGrown, NamesBelow, and_at, a
 pub use Rattle.serde_json_path_syntax.specs.Inside.Copies.{AreCopies, IsCopy}
 pub use Rattle.serde_json_path_syntax.specs.Inside.Openings.{opening_text}
 pub use Rattle.serde_json_path_syntax.specs.Inside.SameLaws.{same_trees-equiv}
-pub use Rattle.serde_json_path_syntax.specs.Kinds.{AreFitting, are_singular, argument_fits, basic_fits, comparable_fits, each_is, fits, is_and, is_argument, is_basic, is_call, is_comparable, is_or, is_query, is_segment, is_selector, is_singular, is_singular_query, is_singular_segment, literal_fits, segment_fits, selector_fits}
+pub use Rattle.serde_json_path_syntax.specs.Kinds.{AreFitting, AreOfKind, IsOfKind, are_singular, argument_fits, basic_fits, comparable_fits, each_is, fits, is_and, is_argument, is_basic, is_call, is_comparable, is_or, is_query, is_segment, is_selector, is_singular, is_singular_query, is_singular_segment, literal_fits, segment_fits, selector_fits, selector_ref_fits}
 pub use Rattle.serde_json_path_syntax.specs.Lists.{IsIn, IsInOrder}
 pub use Rattle.serde_json_path_syntax.specs.Literals.{literal_view, number_amount, operator_view}
 pub use Rattle.serde_json_path_syntax.specs.PartBounds.{parts_bound, selector_bound}
@@ -21,7 +21,7 @@ pub use Rattle.serde_json_path_syntax.specs.SliceView.{slice_view}
 pub use Rattle.serde_json_path_syntax.specs.Stages.{selectors_list}
 pub use Rattle.serde_json_path_syntax.specs.Text.{amount_text, and_text, and_texts, argument_text, argument_texts, basic_text, basic_texts, bracket_dots_of, call_text, comparable_text, dots_of, fraction_digits, fraction_text, integer_text, joined, literal_text, number_text, operator_text, or_text, piece_text, query_kind_text, query_text, segment_text, segments_text, selector_text, selector_texts, sign_text, slice_text}
 pub use Rattle.serde_json_path_syntax.specs.Tree.{AreSingular, Argument, Arguments, Basic, Call, Comparable, IsSingular, IsSingularSegment, Literal, LogicalAnd, LogicalOr, Query, Segment, Segments, Selector, Selectors, and, argument, call, call_argument, called, child, exist, filter, index, kind_of, literal, literal_argument, logical_argument, long_hand, name, no_and, no_arguments, no_or, no_segments, no_selectors, not_exist, not_paren, not_test, or, paren, query, query_argument, relation, root, segment, segments_of, selector, singular, slice, test, wildcard}
-pub use Rattle.serde_json_path_syntax.specs.Typing.{AreTypedArguments, AreTypedSegments, AreTypedSelectors, IsTestKind, IsTyped, IsTypedAnd, IsTypedArgument, IsTypedBasic, IsTypedCall, IsTypedComparable, IsTypedOr, IsTypedSegment, IsTypedSelector, IsValueLiteral, TakesResult, UnderSome, result_kind}
+pub use Rattle.serde_json_path_syntax.specs.Typing.{AreTypedArguments, AreTypedSegments, AreTypedSelectors, IsTestKind, IsTyped, IsTypedAnd, IsTypedArgument, IsTypedBasic, IsTypedCall, IsTypedComparable, IsTypedOr, IsTypedSegment, IsTypedSelector, IsValueLiteral, TakesResult, result_kind}
 pub use Rattle.serde_json_path_syntax.specs.Used.{AreCalled, AreDeclared, AreNamesOf, MayFinish, deepest, each_once, names_in, signature_in}
 pub use Rattle.serde_json_path_syntax.specs.WellFormed.{IsOptionalInteger}
 pub use Rattle.std.specs.Cmp.{partial_equiv_from_equiv}

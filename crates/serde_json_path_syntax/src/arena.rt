@@ -17,7 +17,7 @@ pub(crate) struct Arena {
 
 impl Arena {
     ghost use Rattle.std.specs.Prelude.{ℕ, List, true, ◌≡◌, ◌<◌, ◌≤◌, ◌++◌, ◌∷◌, [], IfOk, OnErr, OnOk, length};
-    ghost use Rattle.serde_json_path_syntax.specs.Words.{NamesBelow, called_by, calls_among, part_query, piece_at, piece_of, pieces, pieces_named, segments_at, Signature, each_is, fits, is_segment, IsIn, parts_bound, Query, segments_of, a_query};
+    ghost use Rattle.serde_json_path_syntax.specs.Words.{NamesBelow, called_by, calls_among, part_query, piece_at, piece_of, pieces, segments_at, Signature, AreOfKind, IsOfKind, fits, is_query, is_segment, IsIn, parts_bound, segments_of};
 
     /// No nodes. Takes no memory.
     pub(crate) fn new(alloc: Global) -> Arena
@@ -83,12 +83,11 @@ impl Arena {
     #[inline]
     pub(crate) fn segments(&self, query: Part) -> &[Part]
         requires within { query.number < length self.now.nodes.items }
-        requires is { (q : Query) × (piece_at self.now.nodes.items query.number ≡ a_query q) }
+        requires is { IsOfKind is_query self.now.nodes.items query }
         ensures tree { segments_at self.now.nodes.items result.now
             ≡ segments_of (part_query self.now.nodes.items query) }
         ensures below { parts_bound result.now ≤ query.number }
-        ensures segments { each_is is_segment
-            (pieces_named (pieces self.now.nodes.items) result.now) ≡ true }
+        ensures are { AreOfKind is_segment self.now.nodes.items result.now }
     {
         match self.node(query) {
             Node::Query { segments, .. } => segments.as_slice(),

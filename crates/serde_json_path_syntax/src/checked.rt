@@ -7,6 +7,7 @@ ghost use Rattle.serde_json_path_syntax.specs.Typing.{IsTyped};
 ghost use Rattle.serde_json_path_syntax.specs.Depth.{depth};
 ghost use Rattle.serde_json_path_syntax.specs.Used.{AreCalled, AreDeclared, deepest, each_once, signature_in};
 ghost use Rattle.serde_json_path_syntax.specs.Flat.{called_by, calls_among, query_at};
+ghost use Rattle.serde_json_path_syntax.specs.Kinds.{IsOfKind, is_query};
 ghost use Rattle.serde_json_path_functions.specs.Functions.{Fits};
 ghost use Rattle.serde_json_path_syntax.specs.Stages.{selector_view, stage_at};
 
@@ -25,6 +26,7 @@ pub struct Checked {
     arena: Arena,
     query: Option<Part>,
     ghost within: { ForSome query (λ part. part.number < length arena.nodes.items) },
+    ghost is: { ForSome query (λ part. IsOfKind is_query arena.nodes.items part) },
     pub ghost rooted: { kind_of (query_at arena.nodes.items query) ≡ root },
     pub ghost typed: { ∥ IsTyped (signature_in (each_once (calls_among arena.nodes.items))) (query_at arena.nodes.items query) ∥₁ },
     ghost shallow: { depth (query_at arena.nodes.items query) ≤ deepest },
@@ -35,7 +37,7 @@ pub struct Checked {
 
 impl Checked {
     ghost use Rattle.std.specs.Prelude.{ℕ, List, true, map, Some, IfOk, string_bytes};
-    ghost use Rattle.serde_json_path_syntax.specs.Words.{each_is, fits, is_segment, is_selector, IsIn, child, query, no_segments, segments_of, FunctionSet, Signature, arguments_of, name_of, AreTypedSelectors, IsTyped, IsTypedAnd, IsTypedCall, IsTypedOr, IsTypedSegment, IsTypedSelector, UnderSome, MayFinish, or_at, ors_in, and_at, ands_in, call_at, arguments_in, part_query, segment_kind_view, piece_at, piece_of, pieces, pieces_named, segment_at, segments_at, selector_at, selectors_at, NamesBelow, selectors_list, query_text, nodes_in, number_of, tree_of, signatures_of, parts_bound, selector_bound};
+    ghost use Rattle.serde_json_path_syntax.specs.Words.{AreOfKind, IsOfKind, fits, is_and, is_argument, is_basic, is_call, is_or, is_query, is_segment, is_selector, selector_ref_fits, IsIn, child, query, no_segments, segments_of, FunctionSet, Signature, arguments_of, name_of, MayFinish, or_at, ors_in, and_at, ands_in, call_at, arguments_in, part_query, segment_kind_view, piece_at, piece_of, pieces, pieces_named, segments_at, selector_at, selectors_at, NamesBelow, selectors_list, query_text, nodes_in, number_of, tree_of, signatures_of, parts_bound, selector_bound};
     ghost use Rattle.serde_json_path_syntax.specs.Tree as tree;
     ghost use Rattle.serde_json_path_functions.specs.Terms.{kind_view};
     ghost use Rattle.serde_json_path_syntax.specs.Flat.{kind_view as query_kind_view};
@@ -54,6 +56,7 @@ impl Checked {
     /// The tree of a part.
     pub(crate) fn of(arena: Arena, part: Part) -> Checked
         requires within { part.number < length arena.nodes.items }
+        requires is { IsOfKind is_query arena.nodes.items part }
         requires complete { MayFinish (calls_among arena.nodes.items)
             (part_query arena.nodes.items part) }
         ensures tree { tree_of result ≡ part_query arena.nodes.items part }
@@ -127,8 +130,7 @@ impl Checked {
     pub fn segments(&self) -> &[Part]
         ensures tree { segments_at (nodes_in self.now) result.now ≡ segments_of (tree_of self.now) }
         ensures within { parts_bound result.now ≤ length (nodes_in self.now) }
-        ensures segments { each_is is_segment
-            (pieces_named (pieces (nodes_in self.now)) result.now) ≡ true }
+        ensures are { AreOfKind is_segment (nodes_in self.now) result.now }
     {
         match self.query {
             None => &[],
@@ -136,12 +138,12 @@ impl Checked {
         }
     }
 
-    // Here and below: a node of the wrong kind stands for an ill-typed tree, so the other branch is never reached.
+    // Here and below the part is of the kind that is read, so the other branch is never reached.
     /// Where a query begins.
     #[inline]
     pub fn part_kind(&self, query: Part) -> QueryKind
         requires within { number_of query < length (nodes_in self.now) }
-        requires typed { UnderSome IsTyped (part_query (nodes_in self.now) query) }
+        requires is { IsOfKind is_query (nodes_in self.now) query }
         ensures { query_kind_view result ≡ kind_of (part_query (nodes_in self.now) query) }
     {
         match self.node(query) {
@@ -154,12 +156,11 @@ impl Checked {
     #[inline]
     pub fn part_segments(&self, query: Part) -> &[Part]
         requires within { number_of query < length (nodes_in self.now) }
-        requires typed { UnderSome IsTyped (part_query (nodes_in self.now) query) }
+        requires is { IsOfKind is_query (nodes_in self.now) query }
         ensures tree { segments_at (nodes_in self.now) result.now
             ≡ segments_of (part_query (nodes_in self.now) query) }
         ensures below { parts_bound result.now ≤ number_of query }
-        ensures segments { each_is is_segment
-            (pieces_named (pieces (nodes_in self.now)) result.now) ≡ true }
+        ensures are { AreOfKind is_segment (nodes_in self.now) result.now }
     {
         self.arena.segments(query)
     }
@@ -168,10 +169,11 @@ impl Checked {
     #[inline]
     pub fn or_parts(&self, expression: Part) -> &[Part]
         requires within { number_of expression < length (nodes_in self.now) }
-        requires typed { UnderSome IsTypedOr (or_at (nodes_in self.now) expression) }
+        requires is { IsOfKind is_or (nodes_in self.now) expression }
         ensures tree { or_at (nodes_in self.now) expression
             ≡ ors_in (pieces_named (pieces (nodes_in self.now)) result.now) }
         ensures below { parts_bound result.now ≤ number_of expression }
+        ensures are { AreOfKind is_and (nodes_in self.now) result.now }
     {
         match self.node(expression) {
             Node::LogicalOr(parts) => parts.as_slice(),
@@ -183,10 +185,11 @@ impl Checked {
     #[inline]
     pub fn and_parts(&self, expression: Part) -> &[Part]
         requires within { number_of expression < length (nodes_in self.now) }
-        requires typed { UnderSome IsTypedAnd (and_at (nodes_in self.now) expression) }
+        requires is { IsOfKind is_and (nodes_in self.now) expression }
         ensures tree { and_at (nodes_in self.now) expression
             ≡ ands_in (pieces_named (pieces (nodes_in self.now)) result.now) }
         ensures below { parts_bound result.now ≤ number_of expression }
+        ensures are { AreOfKind is_basic (nodes_in self.now) result.now }
     {
         match self.node(expression) {
             Node::LogicalAnd(parts) => parts.as_slice(),
@@ -197,7 +200,7 @@ impl Checked {
     /// The name of the function that a call calls.
     pub fn called_name(&self, call: Part) -> &str
         requires within { number_of call < length (nodes_in self.now) }
-        requires typed { UnderSome IsTypedCall (call_at (nodes_in self.now) call) }
+        requires is { IsOfKind is_call (nodes_in self.now) call }
         ensures { result.now ≡ name_of (call_at (nodes_in self.now) call) }
     {
         match self.node(call) {
@@ -209,9 +212,8 @@ impl Checked {
     /// The types of the parameters of the function that a call calls.
     pub fn parameters(&self, call: Part) -> &[FunctionArgType]
         requires within { number_of call < length (nodes_in self.now) }
-        requires typed { UnderSome IsTypedCall (call_at (nodes_in self.now) call) }
+        requires is { IsOfKind is_call (nodes_in self.now) call }
         ensures { (F : FunctionSet) (s : Signature) → Fits F (signatures_of self.now)
-            → IsTypedCall F.signature (call_at (nodes_in self.now) call)
             → F.signature (name_of (call_at (nodes_in self.now) call)) ≡ Some s
             → map kind_view result.now ≡ s.params }
     {
@@ -224,10 +226,11 @@ impl Checked {
     /// The arguments of a call, in order.
     pub fn arguments(&self, call: Part) -> &[Part]
         requires within { number_of call < length (nodes_in self.now) }
-        requires typed { UnderSome IsTypedCall (call_at (nodes_in self.now) call) }
+        requires is { IsOfKind is_call (nodes_in self.now) call }
         ensures tree { arguments_of (call_at (nodes_in self.now) call)
             ≡ arguments_in (pieces_named (pieces (nodes_in self.now)) result.now) }
         ensures below { parts_bound result.now ≤ number_of call }
+        ensures are { AreOfKind is_argument (nodes_in self.now) result.now }
     {
         match self.node(call) {
             Node::Call { arguments, .. } => arguments.as_slice(),
@@ -239,7 +242,7 @@ impl Checked {
     #[inline]
     pub fn segment_kind(&self, segment: Part) -> SegmentKind
         requires within { number_of segment < length (nodes_in self.now) }
-        requires typed { UnderSome IsTypedSegment (segment_at (nodes_in self.now) segment) }
+        requires is { IsOfKind is_segment (nodes_in self.now) segment }
         ensures { segment_kind_view result ≡ (stage_at (nodes_in self.now) segment).kind }
     {
         match self.node(segment) {
@@ -252,10 +255,11 @@ impl Checked {
     #[inline]
     pub(crate) fn selector(&self, part: Part) -> SelectorRef<'_>
         requires within { part.number < length (nodes_in self.now) }
-        requires is { is_selector (piece_at (nodes_in self.now) part.number) ≡ true }
+        requires is { IsOfKind is_selector (nodes_in self.now) part }
         ensures selector_ref { selector_view (nodes_in self.now) result
             ≡ selector_at (nodes_in self.now) part }
         ensures below { selector_bound result ≤ part.number }
+        ensures fits { selector_ref_fits (pieces (nodes_in self.now)) result ≡ true }
     {
         match self.node(part) {
             Node::Selector(selector) => match selector {
@@ -274,11 +278,12 @@ impl Checked {
     #[tactic(auto, using(crate::proofs::Tree::NamedParts::of_one_selector))]
     fn bracketed(&self, selectors: &[Part], number: usize) -> Option<SelectorRef<'_>>
         requires within { parts_bound selectors.now ≤ length (nodes_in self.now) }
-        requires are { each_is is_selector
-            (pieces_named (pieces (nodes_in self.now)) selectors.now) ≡ true }
+        requires are { AreOfKind is_selector (nodes_in self.now) selectors.now }
         ensures more { IsSome result → number + 1 < 2 ^ 64 }
         ensures below { IfSome result (λ selector_ref.
             selector_bound selector_ref ≤ parts_bound selectors.now) }
+        ensures fits { IfSome result (λ selector_ref.
+            selector_ref_fits (pieces (nodes_in self.now)) selector_ref ≡ true) }
         ensures selector_ref { option_map (selector_view (nodes_in self.now)) result
             ≡ slice_get (selectors_list (selectors_at (nodes_in self.now) selectors.now)) number }
     {
@@ -292,10 +297,12 @@ impl Checked {
     #[inline]
     pub fn selector_ref(&self, segment: Part, number: usize) -> Option<SelectorRef<'_>>
         requires within { number_of segment < length (nodes_in self.now) }
-        requires typed { UnderSome IsTypedSegment (segment_at (nodes_in self.now) segment) }
+        requires is { IsOfKind is_segment (nodes_in self.now) segment }
         ensures more { IsSome result → number + 1 < 2 ^ 64 }
         ensures below { IfSome result (λ selector_ref.
             selector_bound selector_ref ≤ number_of segment) }
+        ensures fits { IfSome result (λ selector_ref.
+            selector_ref_fits (pieces (nodes_in self.now)) selector_ref ≡ true) }
         ensures selector_ref { option_map (selector_view (nodes_in self.now)) result
             ≡ slice_get (stage_at (nodes_in self.now) segment).selectors number }
     {
@@ -312,7 +319,7 @@ impl Checked {
     #[inline]
     pub fn only_selector(&self, segment: Part) -> Option<SelectorRef<'_>>
         requires within { number_of segment < length (nodes_in self.now) }
-        requires typed { UnderSome IsTypedSegment (segment_at (nodes_in self.now) segment) }
+        requires is { IsOfKind is_segment (nodes_in self.now) segment }
         ensures is { IfSome result (λ only. stage_at (nodes_in self.now) segment
             ≡ record { kind = child; selectors = selector_view (nodes_in self.now) only ∷ [] }) }
         ensures each { (only : tree.Selector) → stage_at (nodes_in self.now) segment
@@ -338,8 +345,7 @@ impl Checked {
     #[tactic(auto, using(crate::proofs::Tree::NamedParts::of_one_selector, crate::proofs::Tree::NamedParts::one_named))]
     fn only_bracketed(&self, selectors: &[Part]) -> Option<SelectorRef<'_>>
         requires within { parts_bound selectors.now ≤ length (nodes_in self.now) }
-        requires are { each_is is_selector
-            (pieces_named (pieces (nodes_in self.now)) selectors.now) ≡ true }
+        requires are { AreOfKind is_selector (nodes_in self.now) selectors.now }
         ensures is { IfSome result (λ only.
             selectors_list (selectors_at (nodes_in self.now) selectors.now)
             ≡ selector_view (nodes_in self.now) only ∷ []) }

@@ -1,7 +1,7 @@
 //! Printed paths: a query as the text that is read back as it.
 
 ghost use Rattle.std.specs.Prelude.{◌≡◌, ◌<◌, ◌≤◌, ◌++◌, Some, codes, length, map, option_map, true};
-ghost use Rattle.serde_json_path_syntax.specs.Words.{WritesOnOk, argument_of, argument_parts, basic_of, basic_parts, comparable_of, comparable_parts, piece_at, pieces, pieces_named, segments_at, argument_fits, basic_fits, comparable_fits, each_is, is_segment, is_selector, parts_bound, nodes_in, number_of, tree_of, argument_text, basic_text, comparable_text, joined, piece_text, query_kind_text, query_text, segments_text, sign_text, opening_text};
+ghost use Rattle.serde_json_path_syntax.specs.Words.{WritesOnOk, AreOfKind, IsOfKind, argument_of, argument_parts, basic_of, basic_parts, comparable_of, comparable_parts, piece_at, pieces, pieces_named, segments_at, argument_fits, basic_fits, comparable_fits, is_segment, is_selector, parts_bound, nodes_in, number_of, tree_of, argument_text, basic_text, comparable_text, joined, piece_text, query_kind_text, query_text, segments_text, sign_text, opening_text};
 ghost use Rattle.serde_json_path_syntax.specs.Flat.{kind_view as query_kind_view};
 
 mod literals;
@@ -36,8 +36,7 @@ fn write_path<W: Write>(
     segments: &[Part],
 ) -> fmt::Result
     requires within { parts_bound segments.now ≤ length (nodes_in tree.now) }
-    requires are { each_is is_segment
-        (pieces_named (pieces (nodes_in tree.now)) segments.now) ≡ true }
+    requires are { AreOfKind is_segment (nodes_in tree.now) segments.now }
     ensures { WritesOnOk W.write_str_gives f.old result
         (query_kind_text (query_kind_view kind)
         ++ segments_text (segments_at (nodes_in tree.now) segments.now)) f.new }
@@ -63,7 +62,7 @@ fn write_segment<W: Write>(
     start: Option<QueryKind>,
 ) -> fmt::Result
     requires within { number_of segment < length (nodes_in tree.now) }
-    requires is { is_segment (piece_at (nodes_in tree.now) (number_of segment)) ≡ true }
+    requires is { IsOfKind is_segment (nodes_in tree.now) segment }
     ensures { WritesOnOk W.write_str_gives f.old result
         (sign_text (option_map query_kind_view start)
         ++ piece_text (piece_at (nodes_in tree.now) (number_of segment))) f.new }
@@ -99,8 +98,7 @@ fn write_selectors<W: Write>(
     selectors: &[Part],
 ) -> fmt::Result
     requires within { parts_bound selectors.now ≤ length (nodes_in tree.now) }
-    requires are { each_is is_selector
-        (pieces_named (pieces (nodes_in tree.now)) selectors.now) ≡ true }
+    requires are { AreOfKind is_selector (nodes_in tree.now) selectors.now }
     ensures { WritesOnOk W.write_str_gives f.old result
         (opening_text opening ++ joined (codes ", ")
         (map piece_text (pieces_named (pieces (nodes_in tree.now)) selectors.now))) f.new }
@@ -126,7 +124,7 @@ fn write_selector<W: Write>(
     opening: Opening,
 ) -> fmt::Result
     requires within { number_of selector < length (nodes_in tree.now) }
-    requires is { is_selector (piece_at (nodes_in tree.now) (number_of selector)) ≡ true }
+    requires is { IsOfKind is_selector (nodes_in tree.now) selector }
     ensures { WritesOnOk W.write_str_gives f.old result
         (opening_text opening
         ++ piece_text (piece_at (nodes_in tree.now) (number_of selector))) f.new }

@@ -1,7 +1,7 @@
 //! Singular queries (RFC 9535, section 2.3.5.1).
 
-ghost use Rattle.std.specs.Prelude.{◌≡◌, ◌<◌, ◌≤◌, ◌↔◌, IsTrue, [], ◌∷◌, length};
-ghost use Rattle.serde_json_path_syntax.specs.Words.{part_query, piece_at, pieces, segment_parts, segment_of, segments_at, selector_at, parts_bound, a_query};
+ghost use Rattle.std.specs.Prelude.{◌<◌, ◌≤◌, ◌↔◌, IsTrue, [], ◌∷◌, length};
+ghost use Rattle.serde_json_path_syntax.specs.Words.{IsOfKind, is_query, part_query, pieces, segment_parts, segment_of, segments_at, selector_at, parts_bound};
 ghost use Rattle.serde_json_path_syntax.specs.Tree as tree;
 
 use crate::arena::Arena;
@@ -11,7 +11,7 @@ use crate::node::{Node, Part, Segment, SegmentKind, Selector};
 #[tactic(auto, using(crate::proofs::Tree::NamedParts::within_get))]
 pub(crate) fn is_singular(arena: &Arena, query: Part) -> bool
     requires within { query.number < length arena.now.nodes.items }
-    requires is { (q : tree.Query) × (piece_at arena.now.nodes.items query.number ≡ a_query q) }
+    requires is { IsOfKind is_query arena.now.nodes.items query }
     ensures { IsTrue result ↔ tree.IsSingular (part_query arena.now.nodes.items query) }
 {
     for segment in arena.segments(query) {

@@ -9,7 +9,7 @@ use Rattle.serde_json_path_core.proofs.Steps.Lookups.{found-none, found-some}
 use Rattle.serde_json_path_core.proofs.Walks.Frames.{at_selector, ends-trans, passes-over, passes-skipped, at-onward, at-downward, done}
 use Rattle.serde_json_path_core.proofs.Walks.Stacks.{rest-started}
 use Rattle.serde_json_path_core.proofs.Walks.Chains.{left_stands, entered-inside, stack-inside, ends-stand}
-use Rattle.serde_json_path_core.proofs.Sound.{argument-calls, next-calls, sound-relation, sound-segment, sound-selector, sound-and, sound-basic, typed-arguments, parameters-known}
+use Rattle.serde_json_path_core.proofs.Sound.{argument-calls, next-argument, sound-relation, sound-segment, sound-selector, sound-and, sound-basic, typed-arguments, parameters-known}
 use Rattle.serde_json_path_core.proofs.Walks.Turns.{sees_replaced, Came, came-dropped, came-entered, came-kept, came-node, came-start, came-turned, drop-some, drop-none, missing}
 use Rattle.serde_json_path_core.proofs.Walks.SingleChildren.{first-of-values}
 use Rattle.serde_json_path_core.proofs.+evaluation.Goals.{evaluation::frame::Frame::next_task-In-Some, evaluation::frame::Frame::next_task-In_default, evaluation::frame::Frame::next_task-After-next_admitted, evaluation::stack::find_next-After-next_task}
@@ -45,7 +45,7 @@ evaluation::frame::Frame::next_task-next_admitted-requires g t c =
     let scope = c.args.scope.now in
     let same = c.loop-selector_ref.invariant.1.0 in
     let here = at_work g t (goal.at.evaluation::frame::Frame::next_task-next_admitted-requires g t c).In-Some in
-    let sound = sound-selector (set_of scope) (query_of scope) (segment_in (piece_at (nodes_of scope) c.args.segment.number)) c.loop-selector_ref.self.selector _ here c.requires.sound in
+    let sound = sound-selector (set_of scope) (query_of scope) (segment_in (piece_at (nodes_of scope) c.args.segment.number)) c.loop-selector_ref.self.selector _ here c.requires.sound.1 in
     let inside = left_stands (top_of scope) (frame_view c.loop-selector_ref.self) (∥∥₁_map c.requires.inside (λ h. (subst (StandsIn (top_of scope)) (sym same.1) h.0, same.3 h.1))) in
     search rules
 
@@ -272,14 +272,6 @@ evaluation::stack::find_next-loop-last-preserved g t c =
 
 -- ---- queries in expressions
 
-pub filter::query::first_from-first_frames-requires-clause-typed : goal.filter::query::first_from-first_frames-requires-clause-typed
-filter::query::first_from-first_frames-requires-clause-typed g t c =
-    ((set_of c.args.scope.now).signature, c.requires.sound.0)
-
-pub filter::query::all_from-first_frames-requires-clause-typed : goal.filter::query::all_from-first_frames-requires-clause-typed
-filter::query::all_from-first_frames-requires-clause-typed g t c =
-    ((set_of c.args.scope.now).signature, c.requires.sound.0)
-
 pub filter::query::first_from-find_next-requires : goal.filter::query::first_from-find_next-requires
 filter::query::first_from-find_next-requires g t c =
     let scope = c.args.scope.now in
@@ -374,7 +366,7 @@ filter::logic::and_holds-basic_holds-requires g t c =
     let below = within_get parts i (record { number = 0 }) c.loop-part-test.true in
     let sound =
     sound-basic (set_of scope) (query_of scope) (pieces (nodes_of scope)) parts i (record { number = 0 }) c.loop-part-test.true
-    (subst (Sound scope IsTypedAnd calls_in_and) c.and_parts-part-items.ensures.tree c.requires.sound) in
+    (c.and_parts-part-items.ensures.are, subst (Sound scope IsTypedAnd calls_in_and) c.and_parts-part-items.ensures.tree c.requires.sound.1) in
     search rules
 
 pub filter::logic::basic_holds-relation_holds-requires : goal.filter::logic::basic_holds-relation_holds-requires
@@ -382,7 +374,7 @@ filter::logic::basic_holds-relation_holds-requires g t c =
     let scope = c.args.scope.now in
     let sides =
     sound-relation (set_of scope) (query_of scope) (comparable_at (nodes_of scope) c.in-Relation.left) (operator_view c.in-Relation.operator) (comparable_at (nodes_of scope) c.in-Relation.right) (basic_at (nodes_of scope) c.args.expression)
-    (search rules) c.requires.sound in
+    (search rules) c.requires.sound.1 in
     search rules
 
 pub filter::call::answer-loop-argument-init : goal.filter::call::answer-loop-argument-init
@@ -391,11 +383,12 @@ filter::call::answer-loop-argument-init g t c =
     let F = set_of scope in
     let asked = call_at (nodes_of scope) c.args.call in
     let kinds = map kind_view c.parameters-parameters.result.now in
-    let known : kinds ≡ params_of (F.signature (name_of asked)) = parameters-known F (signatures_of scope.query.now) asked kinds scope.fits c.requires.sound.0 c.parameters-parameters.ensures in
-    let calls = argument-calls (query_of scope) asked c.requires.sound.1 in
-    let typed : AreTypedArguments F.signature (arguments_of asked) kinds = subst (AreTypedArguments F.signature (arguments_of asked)) (sym known) (typed-arguments F asked c.requires.sound.0) in
+    let known : kinds ≡ params_of (F.signature (name_of asked)) = parameters-known F (signatures_of scope.query.now) asked kinds scope.fits c.requires.sound.1.0 c.parameters-parameters.ensures in
+    let calls = argument-calls (query_of scope) asked c.requires.sound.1.1 in
+    let typed : AreTypedArguments F.signature (arguments_of asked) kinds = subst (AreTypedArguments F.signature (arguments_of asked)) (sym known) (typed-arguments F asked c.requires.sound.1.0) in
     record {
       below = grind (arith, common_steps);
+      are = search rules;
       sound = search rules;
       typed = grind (arith, common_steps);
       means = search rules;
@@ -404,16 +397,17 @@ filter::call::answer-loop-argument-init g t c =
 pub filter::call::answer-argument_as-requires : goal.filter::call::answer-argument_as-requires
 filter::call::answer-argument_as-requires g t c =
     let scope = c.args.scope.now in
-    let calls = next-calls (query_of scope) (pieces (nodes_of scope)) (iter_rest c.loop-argument.argument-iterator.a) c.in-Some.argument.now (iter_rest c.next.new.self.a) (search rules) c.loop-argument.invariant.sound.1 in
+    let next = next-argument (query_of scope) (pieces (nodes_of scope)) (iter_rest c.loop-argument.argument-iterator.a) c.in-Some.argument.now (iter_rest c.next.new.self.a) (search rules) (c.loop-argument.invariant.are, c.loop-argument.invariant.sound.1) in
     search rules
 
 pub filter::call::answer-loop-argument-preserved : goal.filter::call::answer-loop-argument-preserved
 filter::call::answer-loop-argument-preserved g t c =
     let scope = c.args.scope.now in
-    let calls = next-calls (query_of scope) (pieces (nodes_of scope)) (iter_rest c.loop-argument.argument-iterator.a) c.in-Some.argument.now (iter_rest c.next.new.self.a) (search rules) c.loop-argument.invariant.sound.1 in
+    let next = next-argument (query_of scope) (pieces (nodes_of scope)) (iter_rest c.loop-argument.argument-iterator.a) c.in-Some.argument.now (iter_rest c.next.new.self.a) (search rules) (c.loop-argument.invariant.are, c.loop-argument.invariant.sound.1) in
     record {
       below = grind (arith, common_steps);
-      sound = (grind (arith, common_steps), calls.1);
+      are = next.1.0;
+      sound = (grind (arith, common_steps), next.1.1);
       typed = grind (arith, common_steps);
       means = grind (arith, common_steps);
     }
@@ -431,7 +425,7 @@ filter::call::answer-returns-clause-computes g t c =
     let over : (length parts ≡ 0) ⊎ (length kinds ≡ 0) = elim c.in-None.ensures.steps [ inl h ↦ inl h.1.0 | inr h ↦ inr h.1.0 ] in
     let all = given-all F (top_of scope) (pieces (nodes_of scope)) parts kinds v given _ over c.loop-argument.invariant.means in
     record {
-      means = answered F (top_of scope) asked name v given c.call.result c.requires.sound.0 c.called_name-name.ensures all c.call.ensures.means;
+      means = answered F (top_of scope) asked name v given c.call.result c.requires.sound.1.0 c.called_name-name.ensures all c.call.ensures.means;
       refused =
-          if_refused c.call.result (λ may. by_pattern F (top_of scope) (query_of scope) asked name v given c.called_name-name.ensures c.requires.sound c.requires.inside all may) c.call.ensures.pattern;
+          if_refused c.call.result (λ may. by_pattern F (top_of scope) (query_of scope) asked name v given c.called_name-name.ensures c.requires.sound.1 c.requires.inside all may) c.call.ensures.pattern;
     }

@@ -1,6 +1,6 @@
 -- The words of the functions that evaluate: what is asked of a part, and what it computes to where `@` is a value.
-use Rattle.std.specs.Prelude.{◌≡◌, ℕ, ◌<◌, List, length, map, Bool, Option, Result, IfOk, IfErr}
-use Rattle.serde_json_path_core.specs.Imports.{Data, QueryError, Pattern, Step, Located, Kind, Signature, Term, Call, calls_of, calls_in_segments, calls_in_segment, calls_in_selector, calls_in_or, calls_in_and, calls_in_basic, calls_in_comparable, calls_from, calls_in_argument, IsTyped, AreTypedSegments, IsTypedSegment, IsTypedSelector, IsTypedOr, IsTypedAnd, IsTypedBasic, IsTypedComparable, IsTypedCall, IsTypedArgument, Part, SelectorRef, or_at, and_at, basic_at, comparable_at, call_at, argument_at, part_query, segment_at, segments_at, ors_in, pieces, pieces_named, selector_view, stage_at, stages_at}
+use Rattle.std.specs.Prelude.{◌≡◌, ℕ, ◌<◌, List, length, map, Bool, true, Option, Result, IfOk, IfErr}
+use Rattle.serde_json_path_core.specs.Imports.{Data, QueryError, Pattern, Step, Located, Kind, Signature, Term, Call, calls_of, calls_in_segments, calls_in_segment, calls_in_selector, calls_in_or, calls_in_and, calls_in_basic, calls_in_comparable, calls_from, calls_in_argument, IsTyped, AreTypedSegments, IsTypedSegment, IsTypedSelector, IsTypedOr, IsTypedAnd, IsTypedBasic, IsTypedComparable, IsTypedCall, IsTypedArgument, AreOfKind, IsOfKind, is_query, is_segment, is_or, is_and, is_basic, is_comparable, is_call, is_argument, selector_ref_fits, Part, SelectorRef, or_at, and_at, basic_at, comparable_at, call_at, argument_at, part_query, segment_at, segments_at, ors_in, pieces, pieces_named, selector_view, stage_at, stages_at}
 use Rattle.serde_json_path_core.specs.Inside.Rest as advances
 use Rattle.serde_json_path_core.specs.Compared.{Compared}
 use Rattle.serde_json_path_core.specs.PatternCalls.{StandsIn}
@@ -10,45 +10,47 @@ use Rattle.serde_json_path_core.specs.Inside.SingleChildren.{values_from}
 use Rattle.serde_json_path_core.specs.Inside.Scopes.{nodes_of, query_of, set_of, top_of, IsSound, MayRefuse}
 use Rattle.serde_json_path_core.specs.declared.evaluation.scope.Scope.{Scope}
 
--- ---- the part is well-typed under the set, and its calls are among the query's
+-- ---- what is sound
 
+-- the tree is well-typed under the set, and its calls are among the query's
 abbrev pub Sound : {F : Type 0} {g : _} {A : Type 0} → Scope F g → ((List ℕ → Option Signature) → A → Type 0) → (A → List Call) → A → Type 0
-Sound scope typed calls part = IsSound (set_of scope) (query_of scope) typed calls part
+Sound scope typed calls tree = IsSound (set_of scope) (query_of scope) typed calls tree
 
+-- the part is of its kind, and its tree is sound
 abbrev pub SoundQuery : {F : Type 0} {g : _} → Scope F g → Part → Type 0
-SoundQuery scope part = Sound scope IsTyped calls_of (part_query (nodes_of scope) part)
+SoundQuery scope part = IsOfKind is_query (nodes_of scope) part × Sound scope IsTyped calls_of (part_query (nodes_of scope) part)
 
 abbrev pub SoundSegments : {F : Type 0} {g : _} → Scope F g → List Part → Type 0
-SoundSegments scope parts = Sound scope AreTypedSegments calls_in_segments (segments_at (nodes_of scope) parts)
+SoundSegments scope parts = AreOfKind is_segment (nodes_of scope) parts × Sound scope AreTypedSegments calls_in_segments (segments_at (nodes_of scope) parts)
 
 abbrev pub SoundSegment : {F : Type 0} {g : _} → Scope F g → Part → Type 0
-SoundSegment scope part = Sound scope IsTypedSegment calls_in_segment (segment_at (nodes_of scope) part)
+SoundSegment scope part = IsOfKind is_segment (nodes_of scope) part × Sound scope IsTypedSegment calls_in_segment (segment_at (nodes_of scope) part)
 
 abbrev pub SoundSelector : {F : Type 0} {g : _} → Scope F g → SelectorRef → Type 0
-SoundSelector scope selector = Sound scope IsTypedSelector calls_in_selector (selector_view (nodes_of scope) selector)
+SoundSelector scope selector = (selector_ref_fits (pieces (nodes_of scope)) selector ≡ true) × Sound scope IsTypedSelector calls_in_selector (selector_view (nodes_of scope) selector)
 
 abbrev pub SoundOr : {F : Type 0} {g : _} → Scope F g → Part → Type 0
-SoundOr scope part = Sound scope IsTypedOr calls_in_or (or_at (nodes_of scope) part)
+SoundOr scope part = IsOfKind is_or (nodes_of scope) part × Sound scope IsTypedOr calls_in_or (or_at (nodes_of scope) part)
 
 -- the same of the operands of `||`
 abbrev pub SoundOperands : {F : Type 0} {g : _} → Scope F g → List Part → Type 0
-SoundOperands scope parts = Sound scope IsTypedOr calls_in_or (ors_in (pieces_named (pieces (nodes_of scope)) parts))
+SoundOperands scope parts = AreOfKind is_and (nodes_of scope) parts × Sound scope IsTypedOr calls_in_or (ors_in (pieces_named (pieces (nodes_of scope)) parts))
 
 abbrev pub SoundAnd : {F : Type 0} {g : _} → Scope F g → Part → Type 0
-SoundAnd scope part = Sound scope IsTypedAnd calls_in_and (and_at (nodes_of scope) part)
+SoundAnd scope part = IsOfKind is_and (nodes_of scope) part × Sound scope IsTypedAnd calls_in_and (and_at (nodes_of scope) part)
 
 abbrev pub SoundBasic : {F : Type 0} {g : _} → Scope F g → Part → Type 0
-SoundBasic scope part = Sound scope IsTypedBasic calls_in_basic (basic_at (nodes_of scope) part)
+SoundBasic scope part = IsOfKind is_basic (nodes_of scope) part × Sound scope IsTypedBasic calls_in_basic (basic_at (nodes_of scope) part)
 
 abbrev pub SoundComparable : {F : Type 0} {g : _} → Scope F g → Part → Type 0
-SoundComparable scope part = Sound scope IsTypedComparable calls_in_comparable (comparable_at (nodes_of scope) part)
+SoundComparable scope part = IsOfKind is_comparable (nodes_of scope) part × Sound scope IsTypedComparable calls_in_comparable (comparable_at (nodes_of scope) part)
 
 abbrev pub SoundCall : {F : Type 0} {g : _} → Scope F g → Part → Type 0
-SoundCall scope part = Sound scope IsTypedCall calls_from (call_at (nodes_of scope) part)
+SoundCall scope part = IsOfKind is_call (nodes_of scope) part × Sound scope IsTypedCall calls_from (call_at (nodes_of scope) part)
 
 -- the same of an argument, as a parameter of that type takes it
 abbrev pub SoundArgument : {F : Type 0} {g : _} → Scope F g → Kind → Part → Type 0
-SoundArgument scope kind part = Sound scope (λ signature a. IsTypedArgument signature a kind) calls_in_argument (argument_at (nodes_of scope) part)
+SoundArgument scope kind part = IsOfKind is_argument (nodes_of scope) part × Sound scope (λ signature a. IsTypedArgument signature a kind) calls_in_argument (argument_at (nodes_of scope) part)
 
 -- ---- what an evaluation asks, and what it gives
 

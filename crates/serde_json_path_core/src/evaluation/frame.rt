@@ -1,7 +1,7 @@
 //! Frames of a walk: a frame is a value at which one segment is being applied.
 
 ghost use Rattle.std.specs.Prelude.{◌≡◌, ◌+◌, ◌<◌, ◌≤◌, ◌^◌, [], ◌∷◌, None, Some, IfOk, IfErr, drop, length, option_map};
-ghost use Rattle.serde_json_path_core.specs.Inside.Words.{view, step_view, segment_at, segments_at, nodes_in, parts_bound, selector_bound, AreTypedSegments, IsTypedSegment, UnderSome, IsAtAdmitted, IsAtTask, Passes, Skips, SoundOr, SoundSegment, SoundSelector, MayRefuse, nodes_of, top_of, child_view, cursor_left, frame_view, frames_view, task_view, candidates, entered, opened, begun, passed, IsInside, AllStandIn, selector_view, stage_at, stages_at, Pattern};
+ghost use Rattle.serde_json_path_core.specs.Inside.Words.{view, step_view, nodes_in, parts_bound, selector_bound, AreOfKind, IsOfKind, is_segment, IsAtAdmitted, IsAtTask, Passes, Skips, SoundOr, SoundSegment, SoundSelector, MayRefuse, nodes_of, top_of, child_view, cursor_left, frame_view, frames_view, task_view, candidates, entered, opened, begun, passed, IsInside, AllStandIn, selector_view, stage_at, stages_at, Pattern};
 
 use crate::child::{Child, item, member};
 use crate::evaluation::cursor::Cursor;
@@ -51,7 +51,7 @@ fn choose<'b>(query: &Checked, selector_ref: SelectorRef<'_>, value: &'b Value) 
 /// The children for one selector of a segment; after the last selector, those to go down to.
 fn open<'b>(query: &Checked, segment: Part, selector: usize, value: &'b Value) -> Cursor<'b>
     requires within { segment.number < length (nodes_in query.now) }
-    requires typed { UnderSome IsTypedSegment (segment_at (nodes_in query.now) segment) }
+    requires is { IsOfKind is_segment (nodes_in query.now) segment }
     ensures { cursor_left result
         ≡ opened (stage_at (nodes_in query.now) segment).kind
         (drop selector (stage_at (nodes_in query.now) segment).selectors) (view value.now) }
@@ -68,7 +68,7 @@ fn open<'b>(query: &Checked, segment: Part, selector: usize, value: &'b Value) -
 /// The children with which a segment begins.
 fn begin<'b>(query: &Checked, segments: &[Part], number: usize, value: &'b Value) -> Cursor<'b>
     requires within { parts_bound segments.now ≤ length (nodes_in query.now) }
-    requires typed { UnderSome AreTypedSegments (segments_at (nodes_in query.now) segments.now) }
+    requires are { AreOfKind is_segment (nodes_in query.now) segments.now }
     ensures { cursor_left result
         ≡ begun (drop number (stages_at (nodes_in query.now) segments.now)) (view value.now) }
 {
@@ -88,8 +88,7 @@ impl<'b> Frame<'b> {
         value: &'b Value,
     ) -> Frame<'b>
         requires within { parts_bound segments.now ≤ length (nodes_in query.now) }
-        requires typed { UnderSome AreTypedSegments
-            (segments_at (nodes_in query.now) segments.now) }
+        requires are { AreOfKind is_segment (nodes_in query.now) segments.now }
         ensures { frame_view result ≡ entered (option_map step_view step.entry) number
             (drop number (stages_at (nodes_in query.now) segments.now)) (view value.now) }
     {
@@ -162,7 +161,7 @@ pub(crate) fn first_frames<'b>(
     value: &'b Value,
 ) -> Result<Vec<Frame<'b>>, AllocError>
     requires within { parts_bound segments.now ≤ length (nodes_in query.now) }
-    requires typed { UnderSome AreTypedSegments (segments_at (nodes_in query.now) segments.now) }
+    requires are { AreOfKind is_segment (nodes_in query.now) segments.now }
     ensures { IfOk result (λ frames. frames_view frames.items
         ≡ entered None 0 (stages_at (nodes_in query.now) segments.now) (view value.now) ∷ []) }
 {

@@ -1,7 +1,7 @@
 //! Going down by segments that select one child at most, without a frame.
 
 ghost use Rattle.std.specs.Prelude.{◌≡◌, ◌∷◌, [], ◌≤◌, ◌<◌, List, IfSome, IsSome, IsTrue, true, length, option_map, option_to_list};
-ghost use Rattle.serde_json_path_core.specs.Inside.Words.{Data, view, FunctionSet, node_value, segment_at, segments_at, nodes_in, parts_bound, selector_view, stage_at, Node, are_singular, Selector, child, wildcard, AreTypedSegments, IsTypedSegment, UnderSome, StandsIn, EndsIn, SelectOnly, candidate_values, is_single, single_view, values_from, values_reached};
+ghost use Rattle.serde_json_path_core.specs.Inside.Words.{Data, view, FunctionSet, node_value, segments_at, nodes_in, parts_bound, selector_view, stage_at, Node, are_singular, Selector, child, wildcard, AreOfKind, IsOfKind, is_segment, StandsIn, EndsIn, SelectOnly, candidate_values, is_single, single_view, values_from, values_reached};
 
 use crate::child::item;
 use serde_json::Value;
@@ -44,7 +44,7 @@ fn name_or_index(selector_ref: SelectorRef<'_>) -> Option<SingleSelector<'_>>
 #[inline(always)]
 fn single_selector(query: &Checked, segment: Part) -> Option<SingleSelector<'_>>
     requires within { segment.number < length (nodes_in query.now) }
-    requires typed { UnderSome IsTypedSegment (segment_at (nodes_in query.now) segment) }
+    requires is { IsOfKind is_segment (nodes_in query.now) segment }
     ensures is { IfSome result (λ single. stage_at (nodes_in query.now) segment
         ≡ record { kind = child; selectors = single_view single ∷ [] }) }
     ensures each { (only : Selector) → stage_at (nodes_in query.now) segment
@@ -60,7 +60,7 @@ fn single_selector(query: &Checked, segment: Part) -> Option<SingleSelector<'_>>
 #[inline(always)]
 pub(crate) fn only_child<'q>(query: &'q Checked, segments: &[Part]) -> Option<SingleSelector<'q>>
     requires within { parts_bound segments.now ≤ length (nodes_in query.now) }
-    requires typed { UnderSome AreTypedSegments (segments_at (nodes_in query.now) segments.now) }
+    requires are { AreOfKind is_segment (nodes_in query.now) segments.now }
     ensures { IfSome result (λ single.
         SelectOnly (nodes_in query.now) segments.now (single_view single)) }
 {
@@ -73,7 +73,7 @@ pub(crate) fn only_child<'q>(query: &'q Checked, segments: &[Part]) -> Option<Si
 /// Whether segments consist of one child wildcard.
 pub(crate) fn is_wildcard(query: &Checked, segments: &[Part]) -> bool
     requires within { parts_bound segments.now ≤ length (nodes_in query.now) }
-    requires typed { UnderSome AreTypedSegments (segments_at (nodes_in query.now) segments.now) }
+    requires are { AreOfKind is_segment (nodes_in query.now) segments.now }
     ensures { IsTrue result → SelectOnly (nodes_in query.now) segments.now wildcard }
 {
     let [segment] = segments else {
@@ -102,7 +102,7 @@ pub(crate) fn go_down<'q, 'b>(
     value: &'b Value,
 ) -> Reached<'q, 'b>
     requires within { parts_bound segments.now ≤ length (nodes_in query.now) }
-    requires typed { UnderSome AreTypedSegments (segments_at (nodes_in query.now) segments.now) }
+    requires are { AreOfKind is_segment (nodes_in query.now) segments.now }
     ensures selects { (F : FunctionSet) (top : Data)
         → values_from F top (segments_at (nodes_in query.now) segments.now) (view value.now)
         ≡ values_reached F top (nodes_in query.now) result }

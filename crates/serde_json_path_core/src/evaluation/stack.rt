@@ -1,7 +1,7 @@
 //! The stack of a walk's frames, and how it reaches the next node.
 
 ghost use Rattle.std.specs.Prelude.{◌≡◌, ◌<◌, ◌≤◌, [], ◌++◌, None, Ok, IfOk, IfErr, OnOk, OnErr, MatchOption, length, option_map, option_to_list};
-ghost use Rattle.serde_json_path_core.specs.Inside.Words.{view, located, step_view, nodes_in, parts_bound, AreTypedSegments, UnderSome, IsAtNode, IsKept, SoundSegments, MayRefuse, nodes_of, top_of, entering, is_leaf, last_passed, stack_path, without_node, IsStackIn, segments_at, stages_at, frames_view, task_view, Memory, Pattern};
+ghost use Rattle.serde_json_path_core.specs.Inside.Words.{view, located, step_view, nodes_in, parts_bound, AreOfKind, is_segment, IsAtNode, IsKept, SoundSegments, MayRefuse, nodes_of, top_of, entering, is_leaf, last_passed, stack_path, without_node, IsStackIn, stages_at, frames_view, task_view, Memory, Pattern};
 
 use crate::child::Child;
 use crate::evaluation::frame::{Frame, Task};
@@ -84,7 +84,7 @@ fn enter<'b>(
     task: Task<'b>,
 ) -> Result<(), QueryError>
     requires within { parts_bound segments.now ≤ length (nodes_in query.now) }
-    requires typed { UnderSome AreTypedSegments (segments_at (nodes_in query.now) segments.now) }
+    requires are { AreOfKind is_segment (nodes_in query.now) segments.now }
     requires some { 0 < length frames.old.items }
     ensures ok { OnOk result (frames_view frames.new.items
         ≡ entering (stages_at (nodes_in query.now) segments.now)

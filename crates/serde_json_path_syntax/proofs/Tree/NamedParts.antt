@@ -1,6 +1,6 @@
 -- Parts that nodes name: their bounds, their kinds, and what stands for them.
-use Rattle.std.proofs.Common.{◌≡◌, ℕ, ◌<◌, ◌≤◌, true, false, nat_lt, arith, rules, zero, suc, List, [], ◌∷◌, length, get_or, ap, ◌-◌, take, drop, Bool, sym, subst, slice_get, Option, option_map, refl, ◌∙◌}
-use Rattle.serde_json_path_syntax.proofs.Words.{parts_bound, Part, and_parts, Decides-and, Decides, take_all, piece_in, pieces_named, segment_in, selector_in, selectors_in, segments_in, ors_in, ands_in, arguments_in, are_singular, each_is, is_and, is_argument, is_basic, is_query, is_segment, is_selector, is_singular, is_singular_query, is_singular_segment, Piece, a_query, long_hand, Selectors, selector, Selector, name, wildcard, index, slice, filter, IsSingularSegment, slice_get_read, slice_get_past, Signature, AreTypedSegments, IsTypedSegment, ArePartsFor, AreSelectorsOf, AreOrPartsOf, AreAndPartsOf, KeepsTrees, segment_pieces, selector_pieces, or_pieces, and_pieces, argument_pieces}
+use Rattle.std.proofs.Common.{◌≡◌, ℕ, ◌<◌, ◌≤◌, true, false, nat_lt, arith, rules, zero, suc, List, [], ◌∷◌, length, get_or, ap, ◌-◌, take, drop, Bool, sym, subst, slice_get, option_map, refl, ◌∙◌}
+use Rattle.serde_json_path_syntax.proofs.Words.{parts_bound, Part, and_parts, Decides-and, Decides, take_all, piece_in, pieces_named, selector_in, selectors_in, segments_in, ors_in, ands_in, arguments_in, are_singular, each_is, is_and, is_argument, is_basic, is_query, is_segment, is_selector, is_singular, is_singular_query, is_singular_segment, Piece, a_query, long_hand, Selectors, selector, Selector, name, wildcard, index, slice, filter, IsSingularSegment, slice_get_read, slice_get_past, ArePartsFor, AreSelectorsOf, AreOrPartsOf, AreAndPartsOf, KeepsTrees, segment_pieces, selector_pieces, or_pieces, and_pieces, argument_pieces}
 use Rattle.serde_json_path_syntax.specs.Flat.{pieces}
 use Rattle.serde_json_path_syntax.specs.Tree as tree
 use Rattle.serde_json_path_syntax.specs.declared.builder.SyntaxBuilder.{SyntaxBuilder}
@@ -40,6 +40,13 @@ pub others-bound : (parts : List Part) → parts_bound (others parts) ≤ parts_
 others-bound [] = omega arith
 others-bound (part ∷ parts) = rw (others-cons part parts) (omega arith)
 
+-- what is so of several pieces, if it is then so of the first and of the others, is so of each
+pub one_of : (All : List Piece → Type 0) (One : Piece → Type 0) → ((p : Piece) (more : List Piece) → All (p ∷ more) → One p × All more)
+    → (ps : List Piece) (parts : List Part) (i : ℕ) (d : Part) → i < length parts → All (pieces_named ps parts) → One (piece_in ps (get_or parts i d).number)
+one_of All One split ps [] i d below h = absurd (omega (arith, below))
+one_of All One split ps (part ∷ parts) zero d below h = (split (piece_in ps part.number) (pieces_named ps parts) h).0
+one_of All One split ps (part ∷ parts) (suc i) d below h = one_of All One split ps parts i d (omega (arith, below)) (split (piece_in ps part.number) (pieces_named ps parts) h).1
+
 module _ (is : Piece → Bool) (ps : List Piece) where
   abbrev AllAre : List Part → Type 0
   AllAre parts = each_is is (pieces_named ps parts) ≡ true
@@ -51,9 +58,7 @@ module _ (is : Piece → Bool) (ps : List Piece) where
 
   -- each is
   pub one_is : (parts : List Part) (i : ℕ) (d : Part) → i < length parts → AllAre parts → is (piece_in ps (get_or parts i d).number) ≡ true
-  one_is [] i d below h = absurd (omega (arith, below))
-  one_is (part ∷ parts) zero d below h = (and_parts (is (piece_in ps part.number)) (each_is is (pieces_named ps parts)) h).0
-  one_is (part ∷ parts) (suc i) d below h = one_is parts i d (omega (arith, below)) (and_parts (is (piece_in ps part.number)) (each_is is (pieces_named ps parts)) h).1
+  one_is = one_of (λ pieces. each_is is pieces ≡ true) (λ p. is p ≡ true) (λ p more. and_parts (is p) (each_is is more)) ps
 
 -- a bracket with two selectors or more is no singular segment
 pub two_selectors : (ps : List Piece) (parts : List Part) → 2 ≤ length parts → IsSingularSegment (long_hand (selectors_in (pieces_named ps parts))) → ⊥
@@ -194,10 +199,3 @@ pub one_named : (ps : List Piece) (parts : List Part) (only : Selector) → sele
 one_named ps [] only e = absurd cc
 one_named ps (part ∷ []) only e = refl
 one_named ps (part ∷ other ∷ parts) only e = absurd cc
-
--- one of several segments that are well-typed is well-typed
-pub typed_segment : (signature : List ℕ → Option Signature) (ps : List Piece) (parts : List Part) (i : ℕ) (part : Part) → i < length parts → part ≡ get_or parts i part
-    → AreTypedSegments signature (segments_in (pieces_named ps parts)) → IsTypedSegment signature (segment_in (piece_in ps part.number))
-typed_segment signature ps [] i part h e typed = absurd (omega (arith, h))
-typed_segment signature ps (p ∷ parts) zero part h e typed = subst (λ (x : Part). IsTypedSegment signature (segment_in (piece_in ps x.number))) (sym e) typed.0
-typed_segment signature ps (p ∷ parts) (suc i) part h e typed = typed_segment signature ps parts i part (omega (arith, h)) e typed.1

@@ -10,7 +10,7 @@ pub all_from-requires-clause-sound : goal.all_from-requires-clause-sound
 all_from-requires-clause-sound g c =
     let F = g.F.Functions.set c.args.functions in
     let q = c.args.query.now in
-    sound-segments F (tree_of q) _ _ c.segments.ensures.tree (whole-sound F (signatures_of q) (tree_of q) ∣ c.requires ∣₁ q.typed)
+    (c.segments.ensures.are, sound-segments F (tree_of q) _ _ c.segments.ensures.tree (whole-sound F (signatures_of q) (tree_of q) ∣ c.requires ∣₁ q.typed))
 
 pub all_from-requires-clause-inside : goal.all_from-requires-clause-inside
 all_from-requires-clause-inside g c = root_stands (view c.args.document.now)

@@ -1,8 +1,7 @@
 use Rattle.std.proofs.Common.{sym, subst, ap, ◌∙◌}
-use Rattle.serde_json_path_core.proofs.Words.{view, start_of, nodes_in, signatures_of, tree_of, frames_view, rest_of, stages, stages_at, IsResult}
+use Rattle.serde_json_path_core.proofs.Words.{view, start_of, nodes_in, tree_of, frames_view, rest_of, stages, stages_at, IsResult}
 use Rattle.serde_json_path_core.proofs.Walks.Chains.{stack-started}
 use Rattle.serde_json_path_core.proofs.Meaning.Derived.{computed_result}
-use Rattle.serde_json_path_core.proofs.Sound.{sound-segments, whole-sound}
 use Rattle.serde_json_path_core.proofs.Walks.Stacks.{begun-results}
 use Rattle.serde_json_path_core.proofs.evaluation.walk.Goals as goal
 
@@ -19,9 +18,3 @@ returns-clause-selects g c =
     let begun = begun-results F top tree top top _ frames c.segments.ensures.tree (sym (ap (λ kind. start_of kind top top) q.rooted)) c.in_ok-frames.ensures in
     subst (IsResult F top tree top) (sym begun ∙ ap (λ segs. rest_of F top (stages segs) frames) c.segments.ensures.tree)
     (computed_result F top tree top)
-
-pub first_frames-requires-clause-typed : goal.first_frames-requires-clause-typed
-first_frames-requires-clause-typed g c =
-    let F = g.F.Functions.set c.args.functions in
-    let q = c.args.query.now in
-    (F.signature, (sound-segments F (tree_of q) _ _ c.segments.ensures.tree (whole-sound F (signatures_of q) (tree_of q) ∣ c.requires ∣₁ q.typed)).0)

@@ -1,5 +1,5 @@
 use Rattle.std.proofs.Common.{get_or, None, Some, ◌∙◌, arith, sym, true≢false}
-use Rattle.serde_json_path_core.proofs.Words.{get_or_default, view, pieces, nodes_in, Part, within_get, typed_segment}
+use Rattle.serde_json_path_core.proofs.Words.{get_or_default, is_segment, view, one_is, pieces, nodes_in, Part, within_get}
 use Rattle.serde_json_path_core.proofs.Walks.Chains.{child_stands}
 use Rattle.serde_json_path_core.proofs.Walks.SingleChildren.{child-selected, ends-at, goes_down, next-singular}
 use Rattle.serde_json_path_core.proofs.evaluation.single_children.go_down.Goals as goal
@@ -10,16 +10,9 @@ single_selector-requires-clause-within c =
     let most = c.requires.within in
     omega arith
 
-pub single_selector-requires-clause-typed : goal.single_selector-requires-clause-typed
-single_selector-requires-clause-typed c =
-    let parts = c.args.segments.now in
-    let i = c.loop-passed.passed in
-    let first : Part = record { number = 0 } in
-    let signature = c.requires.typed.0 in (
-      signature,
-      typed_segment signature (pieces (nodes_in c.args.query.now)) parts i (get_or parts i first) c.loop-passed-test.true
-          (get_or_default parts i first (get_or parts i first) c.loop-passed-test.true) c.requires.typed.1,
-    )
+pub single_selector-requires-clause-is : goal.single_selector-requires-clause-is
+single_selector-requires-clause-is c =
+    one_is is_segment (pieces (nodes_in c.args.query.now)) c.args.segments.now c.loop-passed.passed (record { number = 0 }) c.loop-passed-test.true c.requires.are
 
 pub returns-in_default-clause-ends : goal.returns-in_default-clause-ends
 returns-in_default-clause-ends c = ends-at c.args.segments.now c.loop-passed.passed

@@ -1,17 +1,13 @@
-use Rattle.std.proofs.Common.{◌≡◌, ◌∙◌, ap, arith, rules, subst, sym}
-use Rattle.serde_json_path_core.proofs.Words.{common_steps, calls_in_or, comparable_at, or_at, pieces, operator_view, and, no_and, no_or, or, relation, IsTypedOr, Part, Sound, nodes_of, top_of, within_get, compare_sides, query_of, set_of, compared_by, SoundComparable, compared_at}
-use Rattle.serde_json_path_core.proofs.Sound.{sound-and, sound-sides}
+use Rattle.std.proofs.Common.{◌≡◌, ◌∙◌, ap, arith, rules, sym}
+use Rattle.serde_json_path_core.proofs.Words.{and_parts, common_steps, comparable_at, is_and, is_comparable, one_is, or_at, piece_at, pieces, operator_view, and, no_and, no_or, or, relation, Part, nodes_of, top_of, within_get, compare_sides, query_of, set_of, compared_by, SoundComparable, compared_at}
+use Rattle.serde_json_path_core.proofs.Sound.{sound-sides}
 use Rattle.serde_json_path_core.proofs.Steps.Lookups.{one-comparison, only-comparison}
 use Rattle.serde_json_path_core.proofs.filter.comparison.only_comparison.Goals.{In-Basic-Relation}
 use Rattle.serde_json_path_core.proofs.filter.comparison.only_comparison.Goals as goal
 
-pub and_parts-requires-clause-typed : goal.and_parts-requires-clause-typed
-and_parts-requires-clause-typed g c =
-    let scope = c.args.scope.now in
-    let sound =
-    sound-and (set_of scope) (query_of scope) (pieces (nodes_of scope)) c.or_parts.result.now 0 (record { number = 0 }) c.in-len1.len_at_least
-    (subst (Sound scope IsTypedOr calls_in_or) c.or_parts.ensures.tree c.requires.sound) in
-    ((set_of scope).signature, sound.0)
+pub and_parts-requires-clause-is : goal.and_parts-requires-clause-is
+and_parts-requires-clause-is g c =
+    one_is is_and (pieces (nodes_of c.args.scope.now)) c.or_parts.result.now 0 (record { number = 0 }) c.in-len1.len_at_least c.or_parts.ensures.are
 
 -- the filter is that comparison alone
 only : (g : _) (c : In-Basic-Relation g)
@@ -27,7 +23,10 @@ only g c =
 sound : (g : _) (c : In-Basic-Relation g) → SoundComparable c.args.scope.now c.in-Basic-Relation.left × SoundComparable c.args.scope.now c.in-Basic-Relation.right
 sound g c =
     let scope = c.args.scope.now in
-    sound-sides (set_of scope) (query_of scope) (or_at (nodes_of scope) c.args.test) _ _ _ (only g c) c.requires.sound
+    let nodes = nodes_of scope in
+    let kinds = and_parts (is_comparable (piece_at nodes c.in-Basic-Relation.left.number)) (is_comparable (piece_at nodes c.in-Basic-Relation.right.number)) (search rules) in
+    let sides = sound-sides (set_of scope) (query_of scope) (or_at nodes c.args.test) _ _ _ (only g c) c.requires.sound.1 in
+    ((kinds.0, sides.0), (kinds.1, sides.1))
 
 pub form_of-left-requires-clause-sound : goal.form_of-left-requires-clause-sound
 form_of-left-requires-clause-sound g c = (sound g (goal.at.form_of-left-requires-clause-sound g c).In-Basic-Relation).0

@@ -6,11 +6,6 @@ use Rattle.serde_json_path_core.proofs.Walks.Chains.{start_stands}
 use Rattle.serde_json_path_core.proofs.Walks.SingleChildren.{values-query}
 use Rattle.serde_json_path_core.proofs.filter.query.reached.Goals as goal
 
-pub go_down-requires-clause-typed : goal.go_down-requires-clause-typed
-go_down-requires-clause-typed g c =
-    let scope = c.args.scope.now in
-    ((set_of scope).signature, (sound-segments (set_of scope) (query_of scope) _ _ c.part_segments.ensures.tree c.requires.sound).0)
-
 pub returns-clause-selects : goal.returns-clause-selects
 returns-clause-selects g c =
     let top = top_of c.args.scope.now in
@@ -29,7 +24,7 @@ pub returns-clause-sound : goal.returns-clause-sound
 returns-clause-sound g c =
     let scope = c.args.scope.now in
     sound-ends (set_of scope) (query_of scope) (pieces (nodes_of scope)) c.part_segments.result.now c.go_down.result.segments.now c.go_down.ensures.ends
-    (sound-segments (set_of scope) (query_of scope) _ _ c.part_segments.ensures.tree c.requires.sound)
+    (c.part_segments.ensures.are, sound-segments (set_of scope) (query_of scope) _ _ c.part_segments.ensures.tree c.requires.sound.1)
 
 pub returns-clause-inside : goal.returns-clause-inside
 returns-clause-inside g c =

@@ -6,7 +6,7 @@ use Rattle.serde_json_path_syntax.proofs.Names.Once.{fits_each, once_fits}
 use Rattle.serde_json_path_syntax.proofs.checked.Checked.parameters.Goals as goal
 
 pub returns : goal.returns
-returns c = λ F s fits typed declared.
+returns c = λ F s fits declared.
     let nodes = nodes_in c.args.self.now in
     let f = string_bytes c.in-Call.name in
     let kept = signature_view c.in-Call.signature in

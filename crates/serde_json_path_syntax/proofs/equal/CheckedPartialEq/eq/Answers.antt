@@ -9,7 +9,7 @@ pub returns-clause-computes : goal.returns-clause-computes
 returns-clause-computes c =
     let mine = c.args.self.now in
     let theirs = c.args.other.now in
-    let listed = segments_same (pieces_named (pieces (nodes_in mine)) c.segments.result.now) (pieces_named (pieces (nodes_in theirs)) c.segments-2.result.now) c.segments.ensures.segments c.segments-2.ensures.segments in
+    let listed = segments_same (pieces_named (pieces (nodes_in mine)) c.segments.result.now) (pieces_named (pieces (nodes_in theirs)) c.segments-2.result.now) c.segments.ensures.are c.segments-2.ensures.are in
     let computed = c.same_parts.ensures ∙ listed in
     search rules
 
