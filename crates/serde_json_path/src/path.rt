@@ -40,7 +40,7 @@ impl JsonPath {
     /// The path `$`, which selects the document itself. It calls nothing, so it fits every function set. It allocates nothing.
     pub fn new(alloc: Global) -> JsonPath
         ensures tree { path_tree result ≡ query root no_segments }
-        ensures silent { path_signatures result ≡ [] }
+        ensures no_calls { path_signatures result ≡ [] }
         ensures fits { Fits builtin_functions (path_signatures result) }
     {
         JsonPath {

@@ -1,6 +1,6 @@
 -- The parts of a sound query are sound.
 use Rattle.std.proofs.Common.{◌≡◌, ℕ, zero, suc, ◌<◌, ◌≤◌, ◌&&◌, List, [], ◌∷◌, ◌++◌, Bool, true, length, get_or, slice_get, Option, Some, refl, sym, subst, arith, ap, ◌∙◌}
-use Rattle.serde_json_path_core.proofs.Words.{none-some, same_Some, Query, query, Segments, segments_of, Segment, dot_name, dot_wildcard, long_hand, Selectors, no_selectors, selector, Selector, name, wildcard, Operator, LogicalOr, no_or, or, no_and, and, Basic, relation, Comparable, Call, call, FunctionSet, Signature, Kind, Fits, IsTyped, AreTypedSegments, IsTypedSegment, AreTypedSelectors, IsTypedSelector, IsTypedOr, IsTypedAnd, IsTypedBasic, IsTypedComparable, IsTypedCall, AreTypedArguments, arguments_of, calls_of, calls_in_segments, calls_in_segment, calls_in_selectors, calls_in_selector, calls_in_or, calls_in_and, calls_in_basic, calls_in_comparable, calls_from, calls_in_arguments, calls_in_argument, name_of, IsIn, parts_bound, EndsIn, Piece, argument_in, arguments_in, piece_in, pieces_named, segment_in, segments_in, and_in, ors_in, basic_in, ands_in, selectors_list, selectors_of, params_of, each_is, is_segment, is_and, is_basic, is_argument, one_of, and_parts, ∥∥₁_elim, AreCallsOf, IsSound, Part, ∥∥₁_map₂}
+use Rattle.serde_json_path_core.proofs.Words.{none-some, same_Some, Query, query, Segments, segments_of, Segment, dot_name, dot_wildcard, long_hand, Selectors, no_selectors, selector, Selector, name, wildcard, Operator, LogicalOr, no_or, or, no_and, and, Basic, relation, Comparable, Call, call, FunctionSet, Signature, Kind, Fits, IsTyped, AreTypedSegments, IsTypedSegment, AreTypedSelectors, IsTypedSelector, IsTypedOr, IsTypedAnd, IsTypedBasic, IsTypedComparable, IsTypedCall, AreTypedArguments, arguments_of, calls_of, calls_in_segments, calls_in_segment, calls_in_selectors, calls_in_selector, calls_in_or, calls_in_and, calls_in_basic, calls_in_comparable, calls_from, calls_in_arguments, calls_in_argument, name_of, IsIn, parts_bound, EndsIn, Branch, argument_in, arguments_in, branch_in, branches_named, segment_in, segments_in, and_in, ors_in, basic_in, ands_in, selectors_list, selectors_of, params_of, each_is, is_segment, is_and, is_basic, is_argument, one_of, and_parts, ∥∥₁_elim, AreCallsOf, IsSound, Part, ∥∥₁_map₂}
 use Rattle.serde_json_path_syntax.proofs.Names.Once.{fits_each, found_in, in_from, of_both}
 use mathlib.Core.List.{is_set}
 use mathlib.Core.Sum.{⊎_set}
@@ -28,15 +28,15 @@ pub argument-calls : (q : Query) (c : Call) → AreCallsOf q (calls_from c) → 
 argument-calls q (call f args) each = (both-calls q (calls_in_arguments args) (call f args ∷ []) each).0
 
 -- the kind and the calls of arguments
-abbrev pub AreArgumentsIn : Query → List Piece → Type 0
+abbrev pub AreArgumentsIn : Query → List Branch → Type 0
 AreArgumentsIn q args = (each_is is_argument args ≡ true) × AreCallsOf q (calls_in_arguments (arguments_in args))
 
 -- those of the first argument, and of the others
-pub next-argument : (q : Query) (ps : List Piece) (parts : List Part) (part : Part) (more : List Part) → parts ≡ part ∷ more → AreArgumentsIn q (pieces_named ps parts)
-    → ((is_argument (piece_in ps part.number) ≡ true) × AreCallsOf q (calls_in_argument (argument_in (piece_in ps part.number)))) × AreArgumentsIn q (pieces_named ps more)
+pub next-argument : (q : Query) (ps : List Branch) (parts : List Part) (part : Part) (more : List Part) → parts ≡ part ∷ more → AreArgumentsIn q (branches_named ps parts)
+    → ((is_argument (branch_in ps part.number) ≡ true) × AreCallsOf q (calls_in_argument (argument_in (branch_in ps part.number)))) × AreArgumentsIn q (branches_named ps more)
 next-argument q ps parts part more e each =
-    let s = subst (λ list. AreArgumentsIn q (pieces_named ps list)) e each in
-    let kinds = and_parts (is_argument (piece_in ps part.number)) (each_is is_argument (pieces_named ps more)) s.0 in
+    let s = subst (λ list. AreArgumentsIn q (branches_named ps list)) e each in
+    let kinds = and_parts (is_argument (branch_in ps part.number)) (each_is is_argument (branches_named ps more)) s.0 in
     let calls = both-calls q _ _ s.1 in
     ((kinds.0, calls.0), (kinds.1, calls.1))
 
@@ -55,46 +55,46 @@ module _ (F : FunctionSet) (q : Query) where
   pub sound-segments : (p : Query) (segs : Segments) → segs ≡ segments_of p → IsSound F q IsTyped calls_of p → IsSound F q AreTypedSegments calls_in_segments segs
   sound-segments (query kind below) segs e h = subst (IsSound F q AreTypedSegments calls_in_segments) (sym e) h
 
-  -- a piece, or several, of that kind, whose tree is sound
+  -- a branch, or several, of that kind, whose tree is sound
   abbrev Is : {P A : Type 0} → (P → Bool) → (P → A) → ((List ℕ → Option Signature) → A → Type 0) → (A → List Call) → P → Type 0
   Is is tree typed calls p = (is p ≡ true) × IsSound F q typed calls (tree p)
 
-  abbrev IsSegment : Piece → Type 0
+  abbrev IsSegment : Branch → Type 0
   IsSegment p = Is is_segment segment_in IsTypedSegment calls_in_segment p
 
-  abbrev AreSegments : List Piece → Type 0
+  abbrev AreSegments : List Branch → Type 0
   AreSegments ps = Is (each_is is_segment) segments_in AreTypedSegments calls_in_segments ps
 
-  -- what is so of the first of several pieces and of the others
-  first_of : {T U : Type 0} (is : Piece → Bool) (p : Piece) (more : List Piece) (xs ys : List Call) → (is p && each_is is more ≡ true) × ((T × U) × AreCallsOf q (xs ++ ys))
+  -- what is so of the first of several branches and of the others
+  first_of : {T U : Type 0} (is : Branch → Bool) (p : Branch) (more : List Branch) (xs ys : List Call) → (is p && each_is is more ≡ true) × ((T × U) × AreCallsOf q (xs ++ ys))
       → ((is p ≡ true) × (T × AreCallsOf q xs)) × ((each_is is more ≡ true) × (U × AreCallsOf q ys))
   first_of is p more xs ys s =
       let kinds = and_parts (is p) (each_is is more) s.0 in
       let calls = both-calls q xs ys s.1.1 in
       ((kinds.0, (s.1.0.0, calls.0)), (kinds.1, (s.1.0.1, calls.1)))
 
-  first_segment : (p : Piece) (more : List Piece) → AreSegments (p ∷ more) → IsSegment p × AreSegments more
+  first_segment : (p : Branch) (more : List Branch) → AreSegments (p ∷ more) → IsSegment p × AreSegments more
   first_segment p more s = first_of is_segment p more _ _ s
 
   -- one of the segments
-  pub sound-segment : (ps : List Piece) (parts : List Part) (i : ℕ) (part : Part) → i < length parts → part ≡ get_or parts i part → AreSegments (pieces_named ps parts) → IsSegment (piece_in ps part.number)
-  sound-segment ps parts i part h e s = subst (λ (x : Part). IsSegment (piece_in ps x.number)) (sym e) (one_of AreSegments IsSegment first_segment ps parts i part h s)
+  pub sound-segment : (ps : List Branch) (parts : List Part) (i : ℕ) (part : Part) → i < length parts → part ≡ get_or parts i part → AreSegments (branches_named ps parts) → IsSegment (branch_in ps part.number)
+  sound-segment ps parts i part h e s = subst (λ (x : Part). IsSegment (branch_in ps x.number)) (sym e) (one_of AreSegments IsSegment first_segment ps parts i part h s)
 
   -- the last of so many
-  pub sound-ends : (ps : List Piece) (parts more : List Part) → EndsIn parts more → AreSegments (pieces_named ps parts) → AreSegments (pieces_named ps more)
-  sound-ends ps parts more ends s = past ends.0 (subst (λ xs. AreSegments (pieces_named ps xs)) ends.1 s)
+  pub sound-ends : (ps : List Branch) (parts more : List Part) → EndsIn parts more → AreSegments (branches_named ps parts) → AreSegments (branches_named ps more)
+  sound-ends ps parts more ends s = past ends.0 (subst (λ xs. AreSegments (branches_named ps xs)) ends.1 s)
     where
-      past : (front : List Part) → AreSegments (pieces_named ps (front ++ more)) → AreSegments (pieces_named ps more)
+      past : (front : List Part) → AreSegments (branches_named ps (front ++ more)) → AreSegments (branches_named ps more)
       past [] h = h
-      past (p ∷ front) h = past front (first_segment (piece_in ps p.number) (pieces_named ps (front ++ more)) h).1
+      past (p ∷ front) h = past front (first_segment (branch_in ps p.number) (branches_named ps (front ++ more)) h).1
 
   -- one of the operands of `||`, and of `&&`
-  pub sound-and : (ps : List Piece) (parts : List Part) (i : ℕ) (d : Part) → i < length parts
-      → Is (each_is is_and) ors_in IsTypedOr calls_in_or (pieces_named ps parts) → Is is_and and_in IsTypedAnd calls_in_and (piece_in ps (get_or parts i d).number)
+  pub sound-and : (ps : List Branch) (parts : List Part) (i : ℕ) (d : Part) → i < length parts
+      → Is (each_is is_and) ors_in IsTypedOr calls_in_or (branches_named ps parts) → Is is_and and_in IsTypedAnd calls_in_and (branch_in ps (get_or parts i d).number)
   sound-and = one_of (Is (each_is is_and) ors_in IsTypedOr calls_in_or) (Is is_and and_in IsTypedAnd calls_in_and) (λ p more s. first_of is_and p more _ _ s)
 
-  pub sound-basic : (ps : List Piece) (parts : List Part) (i : ℕ) (d : Part) → i < length parts
-      → Is (each_is is_basic) ands_in IsTypedAnd calls_in_and (pieces_named ps parts) → Is is_basic basic_in IsTypedBasic calls_in_basic (piece_in ps (get_or parts i d).number)
+  pub sound-basic : (ps : List Branch) (parts : List Part) (i : ℕ) (d : Part) → i < length parts
+      → Is (each_is is_basic) ands_in IsTypedAnd calls_in_and (branches_named ps parts) → Is is_basic basic_in IsTypedBasic calls_in_basic (branch_in ps (get_or parts i d).number)
   sound-basic = one_of (Is (each_is is_basic) ands_in IsTypedAnd calls_in_and) (Is is_basic basic_in IsTypedBasic calls_in_basic) (λ p more s. first_of is_basic p more _ _ s)
 
   -- both sides of a comparison

@@ -2,7 +2,7 @@
 
 -- a child is lower than its value
 pub mod Heights
--- frames of a walk: their tasks, and what they pass
+-- frames of a walk: their arrivals, and what they pass
 pub mod Frames
 -- turns of a walk: what the last frame comes to
 pub mod Turns

@@ -14,7 +14,7 @@ pub use Rattle.serde_json_path_nodes.specs.Views.{located, node_value, step_view
 pub use Rattle.serde_json_path_numbers.specs.Numbers.{AreEqualNumbers, IsInLiteralRange, IsLessNumber, document_number, literal_number}
 pub use Rattle.serde_json_path_numbers.specs.Views.{exact_view}
 pub use Rattle.serde_json_path_syntax.specs.Calls.{OfEach, calls_from, calls_in_and, calls_in_argument, calls_in_basic, calls_in_comparable, calls_in_or, calls_in_segment, calls_in_segments, calls_in_selector, calls_of}
-pub use Rattle.serde_json_path_syntax.specs.Flat.{and_at, and_in, ands_in, argument_at, argument_in, arguments_in, basic_at, basic_in, call_at, comparable_at, held_view, or_at, ors_in, part_query, piece_at, piece_in, pieces, pieces_named, segment_at, segment_in, segment_kind_in, segment_kind_view, segments_at, segments_in}
+pub use Rattle.serde_json_path_syntax.specs.Flat.{and_at, and_in, ands_in, argument_at, argument_in, arguments_in, basic_at, basic_in, call_at, comparable_at, held_view, or_at, ors_in, part_query, branch_at, branch_in, branches, branches_named, segment_at, segment_in, segment_kind_in, segment_kind_view, segments_at, segments_in}
 pub use Rattle.serde_json_path_syntax.specs.Kinds.{AreOfKind, IsOfKind, are_singular, each_is, is_and, is_argument, is_basic, is_call, is_comparable, is_or, is_query, is_segment, is_singular, literal_fits, selector_ref_fits}
 pub use Rattle.serde_json_path_syntax.specs.Lists.{IsIn, IsInOrder}
 pub use Rattle.serde_json_path_syntax.specs.Literals.{number_amount, operator_view}

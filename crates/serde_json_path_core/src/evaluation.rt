@@ -15,7 +15,7 @@ ghost use Rattle.serde_json.specs.View.{view};
 ghost use Rattle.serde_json_path_nodes.specs.Views.{located_nodes, node_values};
 ghost use Rattle.serde_json_path_functions.specs.Functions.{Fits};
 ghost use Rattle.serde_json_path_core.specs.Derivation.{start_of};
-ghost use Rattle.serde_json_path_syntax.specs.Flat.{kind_view};
+ghost use Rattle.serde_json_path_syntax.specs.Flat.{query_kind_view};
 ghost use Rattle.serde_json_path_core.specs.Selects.{OnlyMemoryOrPattern, Selects, SelectsValues};
 ghost use Rattle.serde_json_path_core.specs.Walks.{rest, query_of, set_of, document_of};
 ghost use Rattle.serde_json_path_syntax.specs.Parts.{signatures_of, tree_of};
@@ -33,7 +33,7 @@ use std::alloc::Global;
 
 /// The value at which a query of that kind starts.
 pub(crate) fn start<'b>(kind: QueryKind, node: &'b Value, root: &'b Value) -> &'b Value
-    ensures { view result.now ≡ start_of (kind_view kind) (view root.now) (view node.now) }
+    ensures { view result.now ≡ start_of (query_kind_view kind) (view root.now) (view node.now) }
 {
     match kind {
         QueryKind::Root => root,

@@ -1,5 +1,5 @@
 -- Steps of the code: rows of items that a loop reads, how the builder grows by them, arguments, and what stands in filters.
-use Rattle.serde_json_path_parser.proofs.Words.{◌↔◌, append-nil, map-append, name_of, names_of, calls_in_segments, calls_from, calls_in_arguments, KeepsParts, KeepsTrees, calls_in, AreDeclared, MayFinish, deepest, names_in, IsTyped, depth, Part, query, root, Segments, Call, call, Arguments, SyntaxBuilder, Signature, Grows, Parsed, Failure, Reader, Ghosts, SegmentKind, Segment, ArePartsOf, segment_list, length-append, Piece, IsPart, ArePartsFor, parts_for_kept, Fails, GrowsFrom, ◌>>=◌, many, Selector, LogicalOr, LogicalAnd, Basic, Deeper, a_selector, an_and, a_basic, segment_piece, segment_pieces, selector_pieces, or_pieces, and_pieces, calls_in_selectors, calls_in_or, calls_in_and, selector_list, or_list, and_list, past_blanks, is_at, is_small_letter, are_at, begins, opens, opens_next, level, read_segment, read_selector, read_and, read_basic, no_arguments, argument, Argument, Kind, ExpectedClosingParenthesis, calls_in_argument, an_argument, IsAsRead, MakesArguments, refusal, ends_argument, read_argument, read_some_arguments, nat_tests, Literal, ExpectedExpression, Operand, a_literal, word, past_word, read_literal_word, literal_word, of_value, kind_view, is_result, ◌==◌, filter, byte_count, read_or, read_call, IsTrue, calls_in_operand, alone, is_singular, is_whole, is_value_literal, number, IsValueLiteral, Query, IsSingular, cases_Bool, not_test, result_kind, WrongReturnType, begins_call, read_named_call, read_named, read_negated, a_call, cond, ◌≡◌, ◌≤◌, ℕ, List, [], ◌∷◌, ◌++◌, inl, inr, Some, Option, Result, Ok, Err, refl, sym, ap, subst, ◌∙◌, append_assoc, ◌<◌, Bool, true, false, length, arith, drop, None, zero, suc, ◌-◌, Memory, Refused, Context, read_filter, LongHand, MakesSo, IsOperandOf, calls_in_piece, same_from_decides, query_singular}
+use Rattle.serde_json_path_parser.proofs.Words.{◌↔◌, append-nil, map-append, name_of, names_of, calls_in_segments, calls_from, calls_in_arguments, KeepsParts, KeepsTrees, calls_in, AreDeclared, MayFinish, deepest, names_in, IsTyped, depth, Part, query, root, Segments, Call, call, Arguments, SyntaxBuilder, Signature, Grows, Parsed, Failure, Reader, Ghosts, SegmentKind, Segment, ArePartsOf, segment_list, length-append, Branch, IsPart, ArePartsFor, parts_for_kept, Fails, GrowsFrom, ◌>>=◌, many, Selector, LogicalOr, LogicalAnd, Basic, Deeper, a_selector, an_and, a_basic, segment_branch, segment_branches, selector_branches, or_branches, and_branches, calls_in_selectors, calls_in_or, calls_in_and, selector_list, or_list, and_list, past_blanks, is_at, is_small_letter, are_at, begins, opens, opens_next, level, read_segment, read_selector, read_and, read_basic, no_arguments, argument, Argument, Kind, ExpectedClosingParenthesis, calls_in_argument, an_argument, IsAsRead, MakesArguments, refusal, ends_argument, read_argument, read_some_arguments, nat_tests, Literal, ExpectedExpression, Operand, a_literal, word, past_word, read_literal_word, literal_word, of_value, kind_view, is_result, ◌==◌, filter, byte_count, read_or, read_call, IsTrue, calls_in_operand, alone, is_singular, is_whole, is_value_literal, number, IsValueLiteral, Query, IsSingular, cases_Bool, not_test, result_kind, WrongReturnType, begins_call, read_named_call, read_named, read_negated, a_call, cond, ◌≡◌, ◌≤◌, ℕ, List, [], ◌∷◌, ◌++◌, inl, inr, Some, Option, Result, Ok, Err, refl, sym, ap, subst, ◌∙◌, append_assoc, ◌<◌, Bool, true, false, length, arith, drop, None, zero, suc, ◌-◌, Memory, Refused, Context, read_filter, LongHand, MakesSo, IsOperandOf, calls_in_branch, same_from_decides, query_singular}
 use Rattle.serde_json_path_syntax.proofs.Names.Finishing.{may_finish}
 use Rattle.serde_json_path_syntax.proofs.Lists.{in_append}
 use Rattle.serde_json_path_parser.proofs.Grammar.Calls.{level_laws, amount_whole, whole_amount}
@@ -19,12 +19,12 @@ use Rattle.serde_json_path_parser.proofs.Grammar.LogicalForms.{singular_query}
 module _ {signature : List ℕ → Option Signature} where
   -- it has not grown
   pub grows_none : (builder : SyntaxBuilder) → Grows signature builder builder []
-  grows_none builder = record { trees = λ part piece h. h; names = sym (append-nil (names_in (calls_in builder))); declared = λ h. h }
+  grows_none builder = record { trees = λ part branch h. h; names = sym (append-nil (names_in (calls_in builder))); declared = λ h. h }
 
   -- it has grown by what makes no call
   pub grows_kept : {old mid new : SyntaxBuilder} {calls : List Call} → Grows signature old mid calls → KeepsParts mid new → Grows signature old new calls
   grows_kept grown keeps = record {
-    trees = λ part piece h. keeps.trees part piece (grown.trees part piece h);
+    trees = λ part branch h. keeps.trees part branch (grown.trees part branch h);
     names = ap names_in keeps.calls ∙ grown.names;
     declared = λ h. subst (AreDeclared signature) (sym keeps.calls) (grown.declared h);
   }
@@ -39,7 +39,7 @@ module _ {signature : List ℕ → Option Signature} where
   pub grows_then : {old mid new : SyntaxBuilder} {calls more : List Call} → Grows signature old mid calls → Grows signature mid new more
       → Grows signature old new (calls ++ more)
   grows_then {old} {calls = calls} {more = more} grown further = record {
-    trees = λ part piece h. further.trees part piece (grown.trees part piece h);
+    trees = λ part branch h. further.trees part branch (grown.trees part branch h);
     names = further.names ∙ ap (λ ns. ns ++ names_of more) grown.names ∙ append_assoc (names_in (calls_in old)) (names_of calls) (names_of more)
         ∙ ap (λ ns. names_in (calls_in old) ++ ns) (sym (map-append name_of calls more));
     declared = λ h. further.declared (grown.declared h);
@@ -98,19 +98,19 @@ joined {each = each} {all = all} law (y ∷ xs) x =
     ap (λ l. l ++ each x) (law.some y xs) ∙ append_assoc (each y) (all xs) (each x) ∙ ap (λ l. each y ++ l) (joined law xs x) ∙ sym (law.some y (xs ++ x ∷ []))
 
 -- one more part
-pushed_part : (builder : SyntaxBuilder) (parts : List Part) (pieces : List Piece) (part : Part) (piece : Piece) → ArePartsFor builder parts pieces → IsPart builder part piece
-    → ArePartsFor builder (parts ++ part ∷ []) (pieces ++ piece ∷ [])
-pushed_part builder [] [] part piece h p = (p, tt)
-pushed_part builder (q ∷ parts) (x ∷ pieces) part piece h p = (h.0, pushed_part builder parts pieces part piece h.1 p)
-pushed_part builder _ _ part piece h p = absurd h
+pushed_part : (builder : SyntaxBuilder) (parts : List Part) (branches : List Branch) (part : Part) (branch : Branch) → ArePartsFor builder parts branches → IsPart builder part branch
+    → ArePartsFor builder (parts ++ part ∷ []) (branches ++ branch ∷ [])
+pushed_part builder [] [] part branch h p = (p, tt)
+pushed_part builder (q ∷ parts) (x ∷ branches) part branch h p = (h.0, pushed_part builder parts branches part branch h.1 p)
+pushed_part builder _ _ part branch h p = absurd h
 
--- How items stand in a row: each is read after what is before it, all have these pieces and calls, and they make up a whole.
+-- How items stand in a row: each is read after what is before it, all have these branches and calls, and they make up a whole.
 pub record Row (A B : Type 0) : Type 0 where
   pub more : List ℕ → Bool
   pub before : List ℕ → List ℕ
   pub item : List ℕ → Parsed A
-  pub piece : A → Piece
-  pub pieces : List A → List Piece
+  pub branch : A → Branch
+  pub branches : List A → List Branch
   pub calls : List A → List Call
   pub whole : List A → B
   -- how many there are at least
@@ -126,13 +126,13 @@ module _ {A B : Type 0} (row : Row A B) where
 
   pub record IsRow : Type 0 where
     pub consumes : Consumes row.more next
-    pub pieces : Joins (λ x. row.piece x ∷ []) row.pieces
-    pub calls : Joins (λ x. calls_in_piece (row.piece x)) row.calls
+    pub branches : Joins (λ x. row.branch x ∷ []) row.branches
+    pub calls : Joins (λ x. calls_in_branch (row.branch x)) row.calls
 
   -- What a loop has made of what is read in all, out of what made the first calls: the parts of some items, up to cs.
   pub record SoFar (signature : List ℕ → Option Signature) (old builder : SyntaxBuilder) (first : List Call) (parts : List Part) (cs : List ℕ) (read : Parsed B) : Type 0 where
     pub items : List A
-    pub are : ArePartsFor builder parts (row.pieces items)
+    pub are : ArePartsFor builder parts (row.branches items)
     pub some : row.least ≤ length parts
     pub reads : after items (many row.more next cs) ≡ read
     pub grown : GrowsFrom signature old builder first (row.calls items)
@@ -144,11 +144,11 @@ module _ {A B : Type 0} {row : Row A B} (law : IsRow row) where
 
   -- the first one, of a row that has one at least
   pub begins_row : {signature : List ℕ → Option Signature} {old builder : SyntaxBuilder} {first : List Call} {empty parts : List Part} {part : Part} {cs : List ℕ} {read : Parsed B} (x : A)
-      → row.least ≤ 1 → empty ≡ [] → parts ≡ empty ++ part ∷ [] → IsPart builder part (row.piece x) → GrowsFrom signature old builder first (calls_in_piece (row.piece x))
+      → row.least ≤ 1 → empty ≡ [] → parts ≡ empty ++ part ∷ [] → IsPart builder part (row.branch x) → GrowsFrom signature old builder first (calls_in_branch (row.branch x))
       → after row (x ∷ []) (many row.more (next row) cs) ≡ read → SoFar row signature old builder first parts cs read
   begins_row {builder = builder} {part = part} x least none pushed is grown reads = record {
     items = x ∷ [];
-    are = rw (pushed, none, ← joined law.pieces [] x, law.pieces.none) (is, tt);
+    are = rw (pushed, none, ← joined law.branches [] x, law.branches.none) (is, tt);
     some = rw (pushed, none) least;
     reads = reads;
     grown = λ before h. grows_same (rw (← joined law.calls [] x, law.calls.none) refl) (grown before h);
@@ -164,7 +164,7 @@ module _ {A B : Type 0} {row : Row A B} (law : IsRow row) where
 
     -- an item is made
     module _ {signature : List ℕ → Option Signature} {builder new : SyntaxBuilder} {part : Part} {rest : List ℕ}
-        (one : (x : A) × IsPart new part (row.piece x) × (row.item ds ≡ Ok (x, rest)) × Grows signature builder new (calls_in_piece (row.piece x))) where
+        (one : (x : A) × IsPart new part (row.branch x) × (row.item ds ≡ Ok (x, rest)) × Grows signature builder new (calls_in_branch (row.branch x))) where
       reads_next : next row cs ≡ Ok (one.0, rest)
       reads_next = ap row.item (sym past) ∙ one.2
 
@@ -175,7 +175,7 @@ module _ {A B : Type 0} {row : Row A B} (law : IsRow row) where
           → pushed ≡ parts ++ part ∷ [] → SoFar row signature old new first pushed rest read
       row_goes_on {parts = parts} so_far e = record {
         items = so_far.items ++ one.0 ∷ [];
-        are = rw (e, ← joined law.pieces so_far.items one.0) (pushed_part new parts (row.pieces so_far.items) part (row.piece one.0) (parts_for_kept builder new one.3.trees parts (row.pieces so_far.items) so_far.are) one.1);
+        are = rw (e, ← joined law.branches so_far.items one.0) (pushed_part new parts (row.branches so_far.items) part (row.branch one.0) (parts_for_kept builder new one.3.trees parts (row.branches so_far.items) so_far.are) one.1);
         some = rw (e, length-append parts (part ∷ [])) (let some = so_far.some in omega arith);
         reads = sym (regrouped so_far.items one.0 (many row.more (next row) rest)) ∙ ap (after row so_far.items) (sym (many_more row.more (next row) law.consumes cs rest one.0 there reads_next)) ∙ so_far.reads;
         grown = λ before h. grows_same (joined law.calls so_far.items one.0) (grows_then (so_far.grown before h) one.3);
@@ -196,8 +196,8 @@ module _ (signature : List ℕ → Option Signature) (deeper : Deeper) where
     more = opens_next;
     before = past_blanks;
     item = read_segment (read_filter signature deeper) here;
-    piece = segment_piece;
-    pieces = λ ss. segment_pieces (segment_list ss);
+    branch = segment_branch;
+    branches = λ ss. segment_branches (segment_list ss);
     calls = λ ss. calls_in_segments (segment_list ss);
     whole = λ ss. ss;
     least = 0;
@@ -208,8 +208,8 @@ module _ (signature : List ℕ → Option Signature) (deeper : Deeper) where
     more = is_at ",";
     before = λ cs. past_blanks (drop 1 cs);
     item = read_selector (read_filter signature deeper);
-    piece = a_selector;
-    pieces = λ ss. selector_pieces (selector_list ss);
+    branch = a_selector;
+    branches = λ ss. selector_branches (selector_list ss);
     calls = λ ss. calls_in_selectors (selector_list ss);
     whole = λ ss. ss;
     least = 1;
@@ -220,8 +220,8 @@ module _ (signature : List ℕ → Option Signature) (deeper : Deeper) where
     more = are_at "||";
     before = λ cs. past_blanks (drop 2 cs);
     item = read_and signature deeper;
-    piece = an_and;
-    pieces = λ xs. or_pieces (or_list xs);
+    branch = an_and;
+    branches = λ xs. or_branches (or_list xs);
     calls = λ xs. calls_in_or (or_list xs);
     whole = or_list;
     least = 1;
@@ -232,8 +232,8 @@ module _ (signature : List ℕ → Option Signature) (deeper : Deeper) where
     more = are_at "&&";
     before = λ cs. past_blanks (drop 2 cs);
     item = read_basic signature deeper;
-    piece = a_basic;
-    pieces = λ bs. and_pieces (and_list bs);
+    branch = a_basic;
+    branches = λ bs. and_branches (and_list bs);
     calls = λ bs. calls_in_and (and_list bs);
     whole = and_list;
     least = 1;
@@ -246,7 +246,7 @@ module _ (signature : List ℕ → Option Signature) (n : ℕ) where
   pub segments_stand : (at : Context) → IsRow (segment_row signature here at)
   segments_stand at = record {
     consumes = segments.next_segment_consumes signature n here (level_laws signature n) at;
-    pieces = record { none = refl; some = λ s ss. refl };
+    branches = record { none = refl; some = λ s ss. refl };
     calls = record { none = refl; some = λ s ss. refl };
   }
 
@@ -256,29 +256,29 @@ module _ (signature : List ℕ → Option Signature) (n : ℕ) where
   pub selectors_stand : IsRow (selector_row signature here)
   selectors_stand = record {
     consumes = segments.next_selector_consumes signature n here (level_laws signature n);
-    pieces = record { none = refl; some = λ s ss. refl };
+    branches = record { none = refl; some = λ s ss. refl };
     calls = record { none = refl; some = λ s ss. refl };
   }
 
   pub ors_stand : IsRow (or_row signature here)
   ors_stand = record {
     consumes = next_and_consumes signature n here (level_laws signature n);
-    pieces = record { none = refl; some = λ x xs. refl };
+    branches = record { none = refl; some = λ x xs. refl };
     calls = record { none = refl; some = λ x xs. refl };
   }
 
   pub ands_stand : IsRow (and_row signature here)
   ands_stand = record {
     consumes = next_basic_consumes signature n here (level_laws signature n);
-    pieces = record { none = refl; some = λ b bs. refl };
+    branches = record { none = refl; some = λ b bs. refl };
     calls = record { none = refl; some = λ b bs. refl };
   }
 
 -- where there is one part at least
-pub some_parts : (builder : SyntaxBuilder) (Are : List Part → Type 0) (parts : List Part) (pieces : List Piece) → 1 ≤ length parts
-    → ((part : Part) (others : List Part) → ArePartsFor builder (part ∷ others) pieces → Are (part ∷ others)) → ArePartsFor builder parts pieces → Are parts
-some_parts builder Are [] pieces some are h = absurd (omega (arith, some))
-some_parts builder Are (part ∷ parts) pieces some are h = are part parts h
+pub some_parts : (builder : SyntaxBuilder) (Are : List Part → Type 0) (parts : List Part) (branches : List Branch) → 1 ≤ length parts
+    → ((part : Part) (others : List Part) → ArePartsFor builder (part ∷ others) branches → Are (part ∷ others)) → ArePartsFor builder parts branches → Are parts
+some_parts builder Are [] branches some are h = absurd (omega (arith, some))
+some_parts builder Are (part ∷ parts) branches some are h = are part parts h
 
 -- ---- parts of arguments
 

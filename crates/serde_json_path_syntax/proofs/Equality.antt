@@ -1,18 +1,18 @@
 -- Equality of parts, of any kind and one by one.
 use Rattle.std.proofs.Common.{◌≡◌, ◌≢◌, ◌≤◌, ◌⊎◌, List, [], ◌∷◌, length, Bool, true, false, ◌&&◌, refl, sym, ap, ◌∙◌, arith}
 use Rattle.std.specs.Cmp.Lexicographic.{pointwise, unequal}
-use Rattle.serde_json_path_syntax.proofs.Words.{length-map, piece_in, pieces_named, ands_in, arguments_in, call_in, comparable_in, or_in, ors_in, query_in, segments_in, selectors_in, parts_bound, Piece, a_query, a_segment, a_selector, an_or, an_and, a_basic, a_comparable, a_call, an_argument, same_piece, same_and, same_arguments, same_call, same_comparable, same_or, same_query, same_segments, same_selectors, Part, each_is, is_and, is_argument, is_basic, is_call, is_comparable, is_or, is_query, is_segment, is_selector}
+use Rattle.serde_json_path_syntax.proofs.Words.{length-map, branch_in, branches_named, ands_in, arguments_in, call_in, comparable_in, or_in, ors_in, query_in, segments_in, selectors_in, parts_bound, Branch, a_query, a_segment, a_selector, an_or, an_and, a_basic, a_comparable, a_call, an_argument, same_branch, same_and, same_arguments, same_call, same_comparable, same_or, same_query, same_segments, same_selectors, Part, each_is, is_and, is_argument, is_basic, is_call, is_comparable, is_or, is_query, is_segment, is_selector}
 use Rattle.serde_json_path_syntax.proofs.Tree.NamedParts.{query_of_singular}
 
 -- ---- parts of two trees that are compared one by one
 
-module _ (ps qs : List Piece) where
+module _ (ps qs : List Branch) where
   abbrev pub same_named : List Part → List Part → Bool
-  same_named xs ys = pointwise same_piece (pieces_named ps xs) (pieces_named qs ys)
+  same_named xs ys = pointwise same_branch (branches_named ps xs) (branches_named qs ys)
 
   pub uneven : (xs ys : List Part) → length xs ≢ length ys → same_named xs ys ≡ false
   uneven xs ys h =
-      unequal same_piece (pieces_named ps xs) (pieces_named qs ys) (λ same. h (sym (length-map xs _) ∙ same ∙ length-map ys _))
+      unequal same_branch (branches_named ps xs) (branches_named qs ys) (λ same. h (sym (length-map xs _) ∙ same ∙ length-map ys _))
 
   -- xs and ys are left of lefts and rights, where those before are alike
   pub record AreLeft (lefts rights xs ys : List Part) : Type 0 where
@@ -26,7 +26,7 @@ module _ (ps qs : List Piece) where
 
   module _ {lefts rights : List Part} where
     -- the next two are unlike
-    pub unlike_next : (p q : Part) (xs ys : List Part) → same_piece (piece_in ps p.number) (piece_in qs q.number) ≡ false → AreLeft lefts rights (p ∷ xs) (q ∷ ys) → same_named lefts rights ≡ false
+    pub unlike_next : (p q : Part) (xs ys : List Part) → same_branch (branch_in ps p.number) (branch_in qs q.number) ≡ false → AreLeft lefts rights (p ∷ xs) (q ∷ ys) → same_named lefts rights ≡ false
     unlike_next p q xs ys h known = sym known.same ∙ ap (λ b. b && same_named xs ys) h
 
     -- none is left
@@ -37,51 +37,51 @@ module _ (ps qs : List Piece) where
 
 -- ---- one
 
-pub query_same : (p q : Piece) → is_query p ≡ true → is_query q ≡ true → same_piece p q ≡ same_query (query_in p) (query_in q)
+pub query_same : (p q : Branch) → is_query p ≡ true → is_query q ≡ true → same_branch p q ≡ same_query (query_in p) (query_in q)
 query_same (a_query a) (a_query b) h g = refl
 query_same _ _ h g = absurd cc
 
-pub or_same : (p q : Piece) → is_or p ≡ true → is_or q ≡ true → same_piece p q ≡ same_or (or_in p) (or_in q)
+pub or_same : (p q : Branch) → is_or p ≡ true → is_or q ≡ true → same_branch p q ≡ same_or (or_in p) (or_in q)
 or_same (an_or a) (an_or b) h g = refl
 or_same _ _ h g = absurd cc
 
-pub comparable_same : (p q : Piece) → is_comparable p ≡ true → is_comparable q ≡ true → same_piece p q ≡ same_comparable (comparable_in p) (comparable_in q)
+pub comparable_same : (p q : Branch) → is_comparable p ≡ true → is_comparable q ≡ true → same_branch p q ≡ same_comparable (comparable_in p) (comparable_in q)
 comparable_same (a_comparable a) (a_comparable b) h g = refl
 comparable_same _ _ h g = absurd cc
 
-pub call_same : (p q : Piece) → is_call p ≡ true → is_call q ≡ true → same_piece p q ≡ same_call (call_in p) (call_in q)
+pub call_same : (p q : Branch) → is_call p ≡ true → is_call q ≡ true → same_branch p q ≡ same_call (call_in p) (call_in q)
 call_same (a_call a) (a_call b) h g = refl
 call_same _ _ h g = absurd cc
 
 -- ---- many
 
-pub segments_same : (xs ys : List Piece) → each_is is_segment xs ≡ true → each_is is_segment ys ≡ true → pointwise same_piece xs ys ≡ same_segments (segments_in xs) (segments_in ys)
+pub segments_same : (xs ys : List Branch) → each_is is_segment xs ≡ true → each_is is_segment ys ≡ true → pointwise same_branch xs ys ≡ same_segments (segments_in xs) (segments_in ys)
 segments_same [] [] h g = refl
-segments_same (a_segment k s ∷ xs) (a_segment l t ∷ ys) h g = ap (λ rest. same_piece (a_segment k s) (a_segment l t) && rest) (segments_same xs ys h g)
+segments_same (a_segment k s ∷ xs) (a_segment l t ∷ ys) h g = ap (λ rest. same_branch (a_segment k s) (a_segment l t) && rest) (segments_same xs ys h g)
 segments_same _ _ h g = cc
 
-pub selectors_same : (xs ys : List Piece) → each_is is_selector xs ≡ true → each_is is_selector ys ≡ true → pointwise same_piece xs ys ≡ same_selectors (selectors_in xs) (selectors_in ys)
+pub selectors_same : (xs ys : List Branch) → each_is is_selector xs ≡ true → each_is is_selector ys ≡ true → pointwise same_branch xs ys ≡ same_selectors (selectors_in xs) (selectors_in ys)
 selectors_same [] [] h g = refl
-selectors_same (a_selector s ∷ xs) (a_selector t ∷ ys) h g = ap (λ rest. same_piece (a_selector s) (a_selector t) && rest) (selectors_same xs ys h g)
+selectors_same (a_selector s ∷ xs) (a_selector t ∷ ys) h g = ap (λ rest. same_branch (a_selector s) (a_selector t) && rest) (selectors_same xs ys h g)
 selectors_same _ _ h g = cc
 
-pub ors_same : (xs ys : List Piece) → each_is is_and xs ≡ true → each_is is_and ys ≡ true → pointwise same_piece xs ys ≡ same_or (ors_in xs) (ors_in ys)
+pub ors_same : (xs ys : List Branch) → each_is is_and xs ≡ true → each_is is_and ys ≡ true → pointwise same_branch xs ys ≡ same_or (ors_in xs) (ors_in ys)
 ors_same [] [] h g = refl
-ors_same (an_and a ∷ xs) (an_and b ∷ ys) h g = ap (λ rest. same_piece (an_and a) (an_and b) && rest) (ors_same xs ys h g)
+ors_same (an_and a ∷ xs) (an_and b ∷ ys) h g = ap (λ rest. same_branch (an_and a) (an_and b) && rest) (ors_same xs ys h g)
 ors_same _ _ h g = cc
 
-pub ands_same : (xs ys : List Piece) → each_is is_basic xs ≡ true → each_is is_basic ys ≡ true → pointwise same_piece xs ys ≡ same_and (ands_in xs) (ands_in ys)
+pub ands_same : (xs ys : List Branch) → each_is is_basic xs ≡ true → each_is is_basic ys ≡ true → pointwise same_branch xs ys ≡ same_and (ands_in xs) (ands_in ys)
 ands_same [] [] h g = refl
-ands_same (a_basic a ∷ xs) (a_basic b ∷ ys) h g = ap (λ rest. same_piece (a_basic a) (a_basic b) && rest) (ands_same xs ys h g)
+ands_same (a_basic a ∷ xs) (a_basic b ∷ ys) h g = ap (λ rest. same_branch (a_basic a) (a_basic b) && rest) (ands_same xs ys h g)
 ands_same _ _ h g = cc
 
-pub arguments_same : (xs ys : List Piece) → each_is is_argument xs ≡ true → each_is is_argument ys ≡ true → pointwise same_piece xs ys ≡ same_arguments (arguments_in xs) (arguments_in ys)
+pub arguments_same : (xs ys : List Branch) → each_is is_argument xs ≡ true → each_is is_argument ys ≡ true → pointwise same_branch xs ys ≡ same_arguments (arguments_in xs) (arguments_in ys)
 arguments_same [] [] h g = refl
-arguments_same (an_argument a ∷ xs) (an_argument b ∷ ys) h g = ap (λ rest. same_piece (an_argument a) (an_argument b) && rest) (arguments_same xs ys h g)
+arguments_same (an_argument a ∷ xs) (an_argument b ∷ ys) h g = ap (λ rest. same_branch (an_argument a) (an_argument b) && rest) (arguments_same xs ys h g)
 arguments_same _ _ h g = cc
 
 -- what the parts that are left are the same by
 pub ruleset of_parts = (uneven, all_left, unlike_next, none_left)
 
--- what the trees of pieces are the same by
+-- what the trees of branches are the same by
 pub ruleset of_kinds = (query_of_singular, query_same, or_same, comparable_same, call_same, segments_same, selectors_same, ors_same, ands_same, arguments_same)

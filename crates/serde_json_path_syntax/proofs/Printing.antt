@@ -2,7 +2,7 @@
 use Rattle.std.proofs.Common.{◌≡◌, ◌≢◌, ◌∙◌, ℕ, zero, suc, ◌+◌, ◌-◌, ◌*◌, ◌/◌, ◌%◌, ◌<◌, ℤ, pos, negsuc, List, [], ◌++◌, codes, true, false, refl, sym, ap, append_assoc, arith, ◌≤◌, ◌∷◌, length, map, take, get_or}
 use lib.Signed.{lt_z}
 use Rattle.std.proofs.Math.IntN.{nat_abs}
-use Rattle.serde_json_path_syntax.proofs.Words.{ints, decimal, HasWritten, IsPlainFormatter, amount_text, fraction_digits, number_text, query_text, joined, piece_text, and_text, and_texts, argument_text, argument_texts, basic_text, basic_texts, call_text, comparable_text, or_text, segment_text, segments_text, selector_text, selector_texts, has_written_append, has_written_of_eq, flat_map_more, map_more, take_all, piece_in, pieces_named, ands_in, arguments_in, call_in, comparable_in, or_in, ors_in, query_in, segments_in, selectors_in, Piece, a_query, a_segment, a_selector, an_or, an_and, a_basic, a_comparable, a_call, an_argument, Part, each_is, is_and, is_argument, is_basic, is_call, is_comparable, is_or, is_query, is_segment, is_selector}
+use Rattle.serde_json_path_syntax.proofs.Words.{ints, decimal, HasWritten, IsPlainFormatter, amount_text, fraction_digits, number_text, query_text, joined, branch_text, and_text, and_texts, argument_text, argument_texts, basic_text, basic_texts, call_text, comparable_text, or_text, segment_text, segments_text, selector_text, selector_texts, has_written_append, has_written_of_eq, flat_map_more, map_more, take_all, branch_in, branches_named, ands_in, arguments_in, call_in, comparable_in, or_in, ors_in, query_in, segments_in, selectors_in, Branch, a_query, a_segment, a_selector, an_or, an_and, a_basic, a_comparable, a_call, an_argument, Part, each_is, is_and, is_argument, is_basic, is_call, is_comparable, is_or, is_query, is_segment, is_selector}
 use Rattle.std.specs.declared.fmt.Formatter.{Formatter}
 use Rattle.std.specs.List.{flat_map}
 use Rattle.serde_json_path_syntax.proofs.Tree.NamedParts.{one_is, others, others-bound, others-cons, others_are, query_of_singular, within_get}
@@ -36,9 +36,9 @@ natural (negsuc n) size e above = absurd (omega (arith, ints, above))
 
 -- ---- texts of parts that are printed one after another
 
-module _ (separator : List ℕ) (ps : List Piece) where
+module _ (separator : List ℕ) (ps : List Branch) where
   abbrev text_of : Part → List ℕ
-  text_of part = piece_text (piece_in ps part.number)
+  text_of part = branch_text (branch_in ps part.number)
 
   -- what is printed of the first i parts, each after a separator
   abbrev pub begun : List Part → ℕ → List ℕ
@@ -61,12 +61,12 @@ module _ (separator : List ℕ) (ps : List Piece) where
       → HasWritten took f (begun parts (i + 1)) k
   printed_apart took f g h k parts i d within wrote between next = printed_more took f g k parts i d within wrote (has_written_append _ _ _ _ _ _ between next)
 
-  listed : (parts : List Part) → map text_of parts ≡ map piece_text (pieces_named ps parts)
+  listed : (parts : List Part) → map text_of parts ≡ map branch_text (branches_named ps parts)
   listed [] = refl
   listed (part ∷ parts) = ap (λ ts. text_of part ∷ ts) (listed parts)
 
   -- a first part, and what is printed of the others once none is left
-  pub begun_whole : (parts : List Part) (d : Part) (i : ℕ) → 1 ≤ length parts → length (others parts) ≤ i → text_of (get_or parts 0 d) ++ begun (others parts) i ≡ joined separator (map piece_text (pieces_named ps parts))
+  pub begun_whole : (parts : List Part) (d : Part) (i : ℕ) → 1 ≤ length parts → length (others parts) ≤ i → text_of (get_or parts 0 d) ++ begun (others parts) i ≡ joined separator (map branch_text (branches_named ps parts))
   begun_whole [] d i some all = absurd (omega (arith, some))
   begun_whole (part ∷ parts) d i some all =
       ap (λ xs. text_of part ++ flat_map (λ t. separator ++ t) (map text_of xs)) (take_all i (others (part ∷ parts)) all ∙ others-cons part parts)
@@ -75,7 +75,7 @@ module _ (separator : List ℕ) (ps : List Piece) where
   -- all are printed, after a text before the first
   pub all_printed : {W : Type 0} (took : W → List ℕ → W → Type 0) (f g h : Formatter W) (start : List ℕ) (parts : List Part) (d : Part) (i : ℕ)
       → 1 ≤ length parts → length (others parts) ≤ i → HasWritten took f (start ++ text_of (get_or parts 0 d)) g → HasWritten took g (begun (others parts) i) h
-      → HasWritten took f (start ++ joined separator (map piece_text (pieces_named ps parts))) h
+      → HasWritten took f (start ++ joined separator (map branch_text (branches_named ps parts))) h
   all_printed took f g h start parts d i some all first rest =
       has_written_of_eq _ _ _ _ _ (append_assoc start _ _ ∙ ap (λ t. start ++ t) (begun_whole parts d i some all)) (has_written_append _ _ _ _ _ _ first rest)
 
@@ -85,53 +85,53 @@ nothing_printed took f plain = record { wrote = record { parts = []; calls = ref
 
 -- ---- one
 
-pub text_of_query : (p : Piece) → is_query p ≡ true → piece_text p ≡ query_text (query_in p)
+pub text_of_query : (p : Branch) → is_query p ≡ true → branch_text p ≡ query_text (query_in p)
 text_of_query (a_query q) h = refl
 text_of_query _ h = absurd cc
 
-pub text_of_or : (p : Piece) → is_or p ≡ true → piece_text p ≡ or_text (or_in p)
+pub text_of_or : (p : Branch) → is_or p ≡ true → branch_text p ≡ or_text (or_in p)
 text_of_or (an_or e) h = refl
 text_of_or _ h = absurd cc
 
-pub text_of_comparable : (p : Piece) → is_comparable p ≡ true → piece_text p ≡ comparable_text (comparable_in p)
+pub text_of_comparable : (p : Branch) → is_comparable p ≡ true → branch_text p ≡ comparable_text (comparable_in p)
 text_of_comparable (a_comparable c) h = refl
 text_of_comparable _ h = absurd cc
 
-pub text_of_call : (p : Piece) → is_call p ≡ true → piece_text p ≡ call_text (call_in p)
+pub text_of_call : (p : Branch) → is_call p ≡ true → branch_text p ≡ call_text (call_in p)
 text_of_call (a_call c) h = refl
 text_of_call _ h = absurd cc
 
 -- ---- many
 
-more_segments : (ps : List Piece) → each_is is_segment ps ≡ true → flat_map (λ t. [] ++ t) (map piece_text ps) ≡ segments_text (segments_in ps)
+more_segments : (ps : List Branch) → each_is is_segment ps ≡ true → flat_map (λ t. [] ++ t) (map branch_text ps) ≡ segments_text (segments_in ps)
 more_segments (a_segment kind seg ∷ ps) h = ap (λ t. segment_text seg kind ++ t) (more_segments ps h)
 more_segments _ h = cc
 
-pub text_of_segments : (ps : List Piece) → each_is is_segment ps ≡ true → joined [] (map piece_text ps) ≡ segments_text (segments_in ps)
+pub text_of_segments : (ps : List Branch) → each_is is_segment ps ≡ true → joined [] (map branch_text ps) ≡ segments_text (segments_in ps)
 text_of_segments [] h = refl
 text_of_segments (p ∷ ps) h = more_segments (p ∷ ps) h
 
-pub texts_of_selectors : (ps : List Piece) → each_is is_selector ps ≡ true → map piece_text ps ≡ selector_texts (selectors_in ps)
+pub texts_of_selectors : (ps : List Branch) → each_is is_selector ps ≡ true → map branch_text ps ≡ selector_texts (selectors_in ps)
 texts_of_selectors (a_selector sel ∷ ps) h = ap (λ ts. selector_text sel ∷ ts) (texts_of_selectors ps h)
 texts_of_selectors _ h = cc
 
-texts_of_ands : (ps : List Piece) → each_is is_and ps ≡ true → map piece_text ps ≡ and_texts (ors_in ps)
+texts_of_ands : (ps : List Branch) → each_is is_and ps ≡ true → map branch_text ps ≡ and_texts (ors_in ps)
 texts_of_ands (an_and e ∷ ps) h = ap (λ ts. and_text e ∷ ts) (texts_of_ands ps h)
 texts_of_ands _ h = cc
 
-pub text_of_ands : (ps : List Piece) → each_is is_and ps ≡ true → joined (codes " || ") (map piece_text ps) ≡ or_text (ors_in ps)
+pub text_of_ands : (ps : List Branch) → each_is is_and ps ≡ true → joined (codes " || ") (map branch_text ps) ≡ or_text (ors_in ps)
 text_of_ands [] h = refl
 text_of_ands (p ∷ ps) h = ap (joined (codes " || ")) (texts_of_ands (p ∷ ps) h)
 
-texts_of_basics : (ps : List Piece) → each_is is_basic ps ≡ true → map piece_text ps ≡ basic_texts (ands_in ps)
+texts_of_basics : (ps : List Branch) → each_is is_basic ps ≡ true → map branch_text ps ≡ basic_texts (ands_in ps)
 texts_of_basics (a_basic b ∷ ps) h = ap (λ ts. basic_text b ∷ ts) (texts_of_basics ps h)
 texts_of_basics _ h = cc
 
-pub text_of_basics : (ps : List Piece) → each_is is_basic ps ≡ true → joined (codes " && ") (map piece_text ps) ≡ and_text (ands_in ps)
+pub text_of_basics : (ps : List Branch) → each_is is_basic ps ≡ true → joined (codes " && ") (map branch_text ps) ≡ and_text (ands_in ps)
 text_of_basics [] h = refl
 text_of_basics (p ∷ ps) h = ap (joined (codes " && ")) (texts_of_basics (p ∷ ps) h)
 
-pub texts_of_arguments : (ps : List Piece) → each_is is_argument ps ≡ true → map piece_text ps ≡ argument_texts (arguments_in ps)
+pub texts_of_arguments : (ps : List Branch) → each_is is_argument ps ≡ true → map branch_text ps ≡ argument_texts (arguments_in ps)
 texts_of_arguments (an_argument a ∷ ps) h = ap (λ ts. argument_text a ∷ ts) (texts_of_arguments ps h)
 texts_of_arguments _ h = cc
 

@@ -9,7 +9,7 @@ use Rattle.serde_json_path_syntax.specs.Literals.{number_amount, operator_view}
 use Rattle.serde_json_path_functions.specs.Functions.{Signature}
 use Rattle.serde_json_path_functions.specs.Terms.{signature_view}
 use Rattle.serde_json_path_syntax.specs.PartBounds.{parts_bound}
-use Rattle.serde_json_path_syntax.specs.Piece.{Piece, a_query, a_segment, a_selector, an_or, an_and, a_basic, a_comparable, a_call, an_argument}
+use Rattle.serde_json_path_syntax.specs.Branch.{Branch, a_query, a_segment, a_selector, an_or, an_and, a_basic, a_comparable, a_call, an_argument}
 use Rattle.serde_json_path_syntax.specs.declared.node.Node.{Node}
 use Rattle.serde_json_path_syntax.specs.declared.node.Node.TheVariants as node
 use Rattle.serde_json_path_syntax.specs.declared.node.Segment as segments
@@ -33,87 +33,87 @@ use Rattle.serde_json_path_syntax.specs.declared.parts.Kept.{Kept}
 use Rattle.serde_json_path_syntax.specs.declared.parts.Kept.TheVariants as kept
 use Rattle.serde_json_path_syntax.specs.declared.parts.Parts.{Parts}
 
-abbrev pub kind_view : kind.QueryKind → QueryKind
-kind_view Root = root
-kind_view Current = current
+abbrev pub query_kind_view : kind.QueryKind → QueryKind
+query_kind_view Root = root
+query_kind_view Current = current
 
 abbrev pub segment_kind_view : reach.SegmentKind → SegmentKind
 segment_kind_view Child = child
 segment_kind_view Descendant = descendant
 
--- ---- out of pieces; what a piece of another kind gives is never used, since each place has a piece of its kind (`Kinds`)
+-- ---- out of branches; what a branch of another kind gives is never used, since each place has a branch of its kind (`Kinds`)
 
--- beyond the last piece
-abbrev pub no_piece : Piece
-no_piece = a_query (query root no_segments)
+-- beyond the last branch
+abbrev pub no_branch : Branch
+no_branch = a_query (query root no_segments)
 
--- the query of a piece
-abbrev pub query_in : Piece → Query
+-- the query of a branch
+abbrev pub query_in : Branch → Query
 query_in (a_query q) = q
 query_in _ = query root no_segments
 
--- the kind and the segment of a piece
-abbrev pub segment_kind_in : Piece → SegmentKind
+-- the kind and the segment of a branch
+abbrev pub segment_kind_in : Branch → SegmentKind
 segment_kind_in (a_segment kind seg) = kind
 segment_kind_in _ = child
 
-abbrev pub segment_in : Piece → Segment
+abbrev pub segment_in : Branch → Segment
 segment_in (a_segment kind seg) = seg
 segment_in _ = dot_wildcard
 
-abbrev pub selector_in : Piece → Selector
+abbrev pub selector_in : Branch → Selector
 selector_in (a_selector sel) = sel
 selector_in _ = wildcard
 
-abbrev pub or_in : Piece → LogicalOr
+abbrev pub or_in : Branch → LogicalOr
 or_in (an_or e) = e
 or_in _ = no_or
 
-abbrev pub and_in : Piece → LogicalAnd
+abbrev pub and_in : Branch → LogicalAnd
 and_in (an_and e) = e
 and_in _ = no_and
 
-abbrev pub basic_in : Piece → Basic
+abbrev pub basic_in : Branch → Basic
 basic_in (a_basic b) = b
 basic_in _ = paren no_or
 
-abbrev pub comparable_in : Piece → Comparable
+abbrev pub comparable_in : Branch → Comparable
 comparable_in (a_comparable c) = c
 comparable_in _ = literal null
 
-abbrev pub call_in : Piece → Call
+abbrev pub call_in : Branch → Call
 call_in (a_call c) = c
 call_in _ = call [] no_arguments
 
-abbrev pub argument_in : Piece → Argument
+abbrev pub argument_in : Branch → Argument
 argument_in (an_argument a) = a
 argument_in _ = literal_argument null
 
-abbrev pub segments_in : List Piece → Segments
+abbrev pub segments_in : List Branch → Segments
 segments_in [] = no_segments
-segments_in (piece ∷ more) = segment (segment_kind_in piece) (segment_in piece) (segments_in more)
+segments_in (branch ∷ more) = segment (segment_kind_in branch) (segment_in branch) (segments_in more)
 
-abbrev pub selectors_in : List Piece → Selectors
+abbrev pub selectors_in : List Branch → Selectors
 selectors_in [] = no_selectors
-selectors_in (piece ∷ more) = selector (selector_in piece) (selectors_in more)
+selectors_in (branch ∷ more) = selector (selector_in branch) (selectors_in more)
 
-abbrev pub ors_in : List Piece → LogicalOr
+abbrev pub ors_in : List Branch → LogicalOr
 ors_in [] = no_or
-ors_in (piece ∷ more) = or (and_in piece) (ors_in more)
+ors_in (branch ∷ more) = or (and_in branch) (ors_in more)
 
-abbrev pub ands_in : List Piece → LogicalAnd
+abbrev pub ands_in : List Branch → LogicalAnd
 ands_in [] = no_and
-ands_in (piece ∷ more) = and (basic_in piece) (ands_in more)
+ands_in (branch ∷ more) = and (basic_in branch) (ands_in more)
 
-abbrev pub arguments_in : List Piece → Arguments
+abbrev pub arguments_in : List Branch → Arguments
 arguments_in [] = no_arguments
-arguments_in (piece ∷ more) = argument (argument_in piece) (arguments_in more)
+arguments_in (branch ∷ more) = argument (argument_in branch) (arguments_in more)
 
 -- ---- nodes
 
--- the piece of that number
-abbrev pub piece_in : List Piece → ℕ → Piece
-piece_in pieces number = slice_index_or pieces number no_piece
+-- the branch of that number
+abbrev pub branch_in : List Branch → ℕ → Branch
+branch_in branches number = slice_index_or branches number no_branch
 
 -- the parts, in order
 abbrev pub kept_parts : Kept → List Part
@@ -124,30 +124,30 @@ kept_parts (kept.Listed parts) = parts.items
 unfoldable pub parts_in : Parts → List Part
 parts_in parts = kept_parts parts.kept
 
--- the pieces of so many parts
-abbrev pub pieces_named : List Piece → List Part → List Piece
-pieces_named earlier parts = map (λ (part : Part). piece_in earlier part.number) parts
+-- the branches of so many parts
+abbrev pub branches_named : List Branch → List Part → List Branch
+branches_named earlier parts = map (λ (part : Part). branch_in earlier part.number) parts
 
-abbrev pub segment_of : List Piece → segments.Segment → Segment
+abbrev pub segment_of : List Branch → segments.Segment → Segment
 segment_of earlier (DotName k) = dot_name (string_bytes k)
 segment_of earlier DotWildcard = dot_wildcard
-segment_of earlier (LongHand parts) = long_hand (selectors_in (pieces_named earlier (parts_in parts)))
+segment_of earlier (LongHand parts) = long_hand (selectors_in (branches_named earlier (parts_in parts)))
 
-abbrev pub selector_of : List Piece → selectors.Selector → Selector
+abbrev pub selector_of : List Branch → selectors.Selector → Selector
 selector_of earlier (one.Name k) = name (string_bytes k)
 selector_of earlier one.Wildcard = wildcard
 selector_of earlier (one.Index i) = index i
 selector_of earlier (one.Slice s) = slice (slice_view s)
-selector_of earlier (one.Filter part) = filter (or_in (piece_in earlier part.number))
+selector_of earlier (one.Filter part) = filter (or_in (branch_in earlier part.number))
 
-abbrev pub basic_of : List Piece → basics.Basic → Basic
-basic_of earlier (Paren part) = paren (or_in (piece_in earlier part.number))
-basic_of earlier (NotParen part) = not_paren (or_in (piece_in earlier part.number))
-basic_of earlier (Relation left operator right) = relation (comparable_in (piece_in earlier left.number)) (operator_view operator) (comparable_in (piece_in earlier right.number))
-basic_of earlier (Exist part) = exist (query_in (piece_in earlier part.number))
-basic_of earlier (NotExist part) = not_exist (query_in (piece_in earlier part.number))
-basic_of earlier (Test part) = test (call_in (piece_in earlier part.number))
-basic_of earlier (NotTest part) = not_test (call_in (piece_in earlier part.number))
+abbrev pub basic_of : List Branch → basics.Basic → Basic
+basic_of earlier (Paren part) = paren (or_in (branch_in earlier part.number))
+basic_of earlier (NotParen part) = not_paren (or_in (branch_in earlier part.number))
+basic_of earlier (Relation left operator right) = relation (comparable_in (branch_in earlier left.number)) (operator_view operator) (comparable_in (branch_in earlier right.number))
+basic_of earlier (Exist part) = exist (query_in (branch_in earlier part.number))
+basic_of earlier (NotExist part) = not_exist (query_in (branch_in earlier part.number))
+basic_of earlier (Test part) = test (call_in (branch_in earlier part.number))
+basic_of earlier (NotTest part) = not_test (call_in (branch_in earlier part.number))
 
 -- the literal that writes a text, a truth value or null; no builder makes one of any other value
 abbrev pub literal_of : Data → Literal
@@ -160,79 +160,79 @@ abbrev pub held_view : held.LiteralValue → Literal
 held_view (Value v) = literal_of (view v)
 held_view (Number n) = tree.number (number_amount n)
 
-abbrev pub comparable_of : List Piece → comparables.Comparable → Comparable
+abbrev pub comparable_of : List Branch → comparables.Comparable → Comparable
 comparable_of earlier (side.Literal l) = literal (held_view l)
-comparable_of earlier (side.Singular part) = singular (query_in (piece_in earlier part.number))
-comparable_of earlier (side.Called part) = called (call_in (piece_in earlier part.number))
+comparable_of earlier (side.Singular part) = singular (query_in (branch_in earlier part.number))
+comparable_of earlier (side.Called part) = called (call_in (branch_in earlier part.number))
 
-abbrev pub argument_of : List Piece → given.Argument → Argument
+abbrev pub argument_of : List Branch → given.Argument → Argument
 argument_of earlier (given_as.Literal l) = literal_argument (held_view l)
-argument_of earlier (given_as.Query part) = query_argument (query_in (piece_in earlier part.number))
-argument_of earlier (given_as.Call part) = call_argument (call_in (piece_in earlier part.number))
-argument_of earlier (given_as.Logical part) = logical_argument (or_in (piece_in earlier part.number))
+argument_of earlier (given_as.Query part) = query_argument (query_in (branch_in earlier part.number))
+argument_of earlier (given_as.Call part) = call_argument (call_in (branch_in earlier part.number))
+argument_of earlier (given_as.Logical part) = logical_argument (or_in (branch_in earlier part.number))
 
--- the piece that a node makes of earlier ones
-abbrev pub piece_of : List Piece → Node → Piece
-piece_of earlier (node.Query start parts) = a_query (query (kind_view start) (segments_in (pieces_named earlier (parts_in parts))))
-piece_of earlier (node.Segment kind seg) = a_segment (segment_kind_view kind) (segment_of earlier seg)
-piece_of earlier (node.Selector sel) = a_selector (selector_of earlier sel)
-piece_of earlier (node.LogicalOr parts) = an_or (ors_in (pieces_named earlier (parts_in parts)))
-piece_of earlier (node.LogicalAnd parts) = an_and (ands_in (pieces_named earlier (parts_in parts)))
-piece_of earlier (node.Basic b) = a_basic (basic_of earlier b)
-piece_of earlier (node.Comparable c) = a_comparable (comparable_of earlier c)
-piece_of earlier (node.Call k s parts) = a_call (call (string_bytes k) (arguments_in (pieces_named earlier parts.items)))
-piece_of earlier (node.Argument a) = an_argument (argument_of earlier a)
+-- the branch that a node makes of earlier ones
+abbrev pub branch_of : List Branch → Node → Branch
+branch_of earlier (node.Query start parts) = a_query (query (query_kind_view start) (segments_in (branches_named earlier (parts_in parts))))
+branch_of earlier (node.Segment kind seg) = a_segment (segment_kind_view kind) (segment_of earlier seg)
+branch_of earlier (node.Selector sel) = a_selector (selector_of earlier sel)
+branch_of earlier (node.LogicalOr parts) = an_or (ors_in (branches_named earlier (parts_in parts)))
+branch_of earlier (node.LogicalAnd parts) = an_and (ands_in (branches_named earlier (parts_in parts)))
+branch_of earlier (node.Basic b) = a_basic (basic_of earlier b)
+branch_of earlier (node.Comparable c) = a_comparable (comparable_of earlier c)
+branch_of earlier (node.Call k s parts) = a_call (call (string_bytes k) (arguments_in (branches_named earlier parts.items)))
+branch_of earlier (node.Argument a) = an_argument (argument_of earlier a)
 
-abbrev pub pieces_from : List Piece → List Node → List Piece
-pieces_from earlier [] = earlier
-pieces_from earlier (n ∷ nodes) = pieces_from (earlier ++ piece_of earlier n ∷ []) nodes
+abbrev pub branches_from : List Branch → List Node → List Branch
+branches_from earlier [] = earlier
+branches_from earlier (n ∷ nodes) = branches_from (earlier ++ branch_of earlier n ∷ []) nodes
 
-unfoldable pub pieces : List Node → List Piece
-pieces nodes = pieces_from [] nodes
+unfoldable pub branches : List Node → List Branch
+branches nodes = branches_from [] nodes
 
-abbrev pub piece_at : List Node → ℕ → Piece
-piece_at nodes number = piece_in (pieces nodes) number
+abbrev pub branch_at : List Node → ℕ → Branch
+branch_at nodes number = branch_in (branches nodes) number
 
 abbrev pub segment_at : List Node → Part → Segment
-segment_at nodes part = segment_in (piece_at nodes part.number)
+segment_at nodes part = segment_in (branch_at nodes part.number)
 
 abbrev pub selector_at : List Node → Part → Selector
-selector_at nodes part = selector_in (piece_at nodes part.number)
+selector_at nodes part = selector_in (branch_at nodes part.number)
 
 abbrev pub or_at : List Node → Part → LogicalOr
-or_at nodes part = or_in (piece_at nodes part.number)
+or_at nodes part = or_in (branch_at nodes part.number)
 
 abbrev pub and_at : List Node → Part → LogicalAnd
-and_at nodes part = and_in (piece_at nodes part.number)
+and_at nodes part = and_in (branch_at nodes part.number)
 
 abbrev pub basic_at : List Node → Part → Basic
-basic_at nodes part = basic_in (piece_at nodes part.number)
+basic_at nodes part = basic_in (branch_at nodes part.number)
 
 abbrev pub comparable_at : List Node → Part → Comparable
-comparable_at nodes part = comparable_in (piece_at nodes part.number)
+comparable_at nodes part = comparable_in (branch_at nodes part.number)
 
 abbrev pub call_at : List Node → Part → Call
-call_at nodes part = call_in (piece_at nodes part.number)
+call_at nodes part = call_in (branch_at nodes part.number)
 
 abbrev pub argument_at : List Node → Part → Argument
-argument_at nodes part = argument_in (piece_at nodes part.number)
+argument_at nodes part = argument_in (branch_at nodes part.number)
 
 -- the segments of so many parts
 abbrev pub segments_at : List Node → List Part → Segments
-segments_at nodes parts = segments_in (pieces_named (pieces nodes) parts)
+segments_at nodes parts = segments_in (branches_named (branches nodes) parts)
 
 -- the selectors of so many parts
 abbrev pub selectors_at : List Node → List Part → Selectors
-selectors_at nodes parts = selectors_in (pieces_named (pieces nodes) parts)
+selectors_at nodes parts = selectors_in (branches_named (branches nodes) parts)
 
 -- the query of a part
 abbrev pub part_query : List Node → Part → Query
-part_query nodes part = query_in (piece_at nodes part.number)
+part_query nodes part = query_in (branch_at nodes part.number)
 
 -- the same, or `$` without segments
 abbrev pub query_at : List Node → Option Part → Query
 query_at nodes None = query root no_segments
-query_at nodes (Some part) = query_in (piece_at nodes part.number)
+query_at nodes (Some part) = query_in (branch_at nodes part.number)
 
 -- ---- references
 

@@ -23,7 +23,7 @@ pub mod Lists
 -- the parts that a builder has made and the finished tree, as contracts see them
 pub mod Parts
 -- the trees that one part of a builder may stand for
-pub mod Piece
+pub mod Branch
 -- literals and comparison operators as the definitions see them
 pub mod Literals
 -- a slice selector of the program as the definitions see it
@@ -32,7 +32,7 @@ pub mod SliceView
 
 -- the trees of a vector of nodes, each of which names earlier ones
 pub mod Flat
--- the kinds of pieces, and which kind stands at each place of a node
+-- the kinds of branches, and which kind stands at each place of a node
 pub mod Kinds
 -- bounds of the numbers of parts
 pub mod PartBounds

@@ -3,72 +3,72 @@ use Rattle.std.specs.Prelude.{◌≡◌, ◌<◌, ℕ, List, [], ◌∷◌, leng
 use Rattle.serde_json_path_syntax.specs.Tree.{Query, Segments, no_segments, segment, Selectors, no_selectors, selector, LogicalOr, no_or, or, LogicalAnd, no_and, and, Arguments, no_arguments, argument}
 use Rattle.serde_json_path_functions.specs.Functions.{Signature}
 use Rattle.serde_json_path_syntax.specs.Used.{each_once}
-use Rattle.serde_json_path_syntax.specs.Piece.{Piece, a_segment, a_selector, an_and, a_basic, an_argument}
-use Rattle.serde_json_path_syntax.specs.Flat.{calls_among, piece_at, query_at}
+use Rattle.serde_json_path_syntax.specs.Branch.{Branch, a_segment, a_selector, an_and, a_basic, an_argument}
+use Rattle.serde_json_path_syntax.specs.Flat.{calls_among, branch_at, query_at}
 use Rattle.serde_json_path_syntax.specs.declared.node.Node.{Node}
 use Rattle.serde_json_path_syntax.specs.declared.node.Part.{Part}
 use Rattle.serde_json_path_syntax.specs.declared.builder.SyntaxBuilder.{SyntaxBuilder}
 use Rattle.serde_json_path_syntax.specs.declared.checked.Checked.{Checked}
 
 -- the part is good for the builder, and stands for that tree
-abbrev pub IsPart : SyntaxBuilder → Part → Piece → Type 0
-IsPart builder part piece = (part.number < length builder.arena.nodes.items) × (piece_at builder.arena.nodes.items part.number ≡ piece)
+abbrev pub IsPart : SyntaxBuilder → Part → Branch → Type 0
+IsPart builder part branch = (part.number < length builder.arena.nodes.items) × (branch_at builder.arena.nodes.items part.number ≡ branch)
 
 -- no part is good for the builder
 abbrev pub HasNoParts : SyntaxBuilder → Type 0
-HasNoParts builder = (part : Part) (piece : Piece) → IsPart builder part piece → ⊥
+HasNoParts builder = (part : Part) (branch : Branch) → IsPart builder part branch → ⊥
 
--- the parts stand for these pieces, one for each
-abbrev pub ArePartsFor : SyntaxBuilder → List Part → List Piece → Type 0
+-- the parts stand for these branches, one for each
+abbrev pub ArePartsFor : SyntaxBuilder → List Part → List Branch → Type 0
 ArePartsFor builder [] [] = Unit {0}
-ArePartsFor builder (part ∷ parts) (piece ∷ pieces) = IsPart builder part piece × ArePartsFor builder parts pieces
+ArePartsFor builder (part ∷ parts) (branch ∷ branches) = IsPart builder part branch × ArePartsFor builder parts branches
 ArePartsFor builder _ _ = ⊥
 
--- the pieces of segments, and of selectors
-abbrev pub segment_pieces : Segments → List Piece
-segment_pieces no_segments = []
-segment_pieces (segment kind seg more) = a_segment kind seg ∷ segment_pieces more
+-- the branches of segments, and of selectors
+abbrev pub segment_branches : Segments → List Branch
+segment_branches no_segments = []
+segment_branches (segment kind seg more) = a_segment kind seg ∷ segment_branches more
 
-abbrev pub selector_pieces : Selectors → List Piece
-selector_pieces no_selectors = []
-selector_pieces (selector sel more) = a_selector sel ∷ selector_pieces more
+abbrev pub selector_branches : Selectors → List Branch
+selector_branches no_selectors = []
+selector_branches (selector sel more) = a_selector sel ∷ selector_branches more
 
--- the pieces of what is joined by `||`, and by `&&`
-abbrev pub or_pieces : LogicalOr → List Piece
-or_pieces no_or = []
-or_pieces (or e more) = an_and e ∷ or_pieces more
+-- the branches of what is joined by `||`, and by `&&`
+abbrev pub or_branches : LogicalOr → List Branch
+or_branches no_or = []
+or_branches (or e more) = an_and e ∷ or_branches more
 
-abbrev pub and_pieces : LogicalAnd → List Piece
-and_pieces no_and = []
-and_pieces (and e more) = a_basic e ∷ and_pieces more
+abbrev pub and_branches : LogicalAnd → List Branch
+and_branches no_and = []
+and_branches (and e more) = a_basic e ∷ and_branches more
 
--- the pieces of arguments
-abbrev pub argument_pieces : Arguments → List Piece
-argument_pieces no_arguments = []
-argument_pieces (argument a more) = an_argument a ∷ argument_pieces more
+-- the branches of arguments
+abbrev pub argument_branches : Arguments → List Branch
+argument_branches no_arguments = []
+argument_branches (argument a more) = an_argument a ∷ argument_branches more
 
 -- the parts stand for the segments, one for each
 abbrev pub ArePartsOf : SyntaxBuilder → List Part → Segments → Type 0
-ArePartsOf builder parts segs = ArePartsFor builder parts (segment_pieces segs)
+ArePartsOf builder parts segs = ArePartsFor builder parts (segment_branches segs)
 
 -- the parts stand for the selectors in brackets, of which there is one at least
 abbrev pub AreSelectorsOf : SyntaxBuilder → List Part → Selectors → Type 0
 AreSelectorsOf builder [] sels = ⊥
-AreSelectorsOf builder (part ∷ parts) sels = ArePartsFor builder (part ∷ parts) (selector_pieces sels)
+AreSelectorsOf builder (part ∷ parts) sels = ArePartsFor builder (part ∷ parts) (selector_branches sels)
 
 -- the parts stand for what is joined by `||`, of which there is one at least
 abbrev pub AreOrPartsOf : SyntaxBuilder → List Part → LogicalOr → Type 0
 AreOrPartsOf builder [] e = ⊥
-AreOrPartsOf builder (part ∷ parts) e = ArePartsFor builder (part ∷ parts) (or_pieces e)
+AreOrPartsOf builder (part ∷ parts) e = ArePartsFor builder (part ∷ parts) (or_branches e)
 
 -- the parts stand for what is joined by `&&`, of which there is one at least
 abbrev pub AreAndPartsOf : SyntaxBuilder → List Part → LogicalAnd → Type 0
 AreAndPartsOf builder [] e = ⊥
-AreAndPartsOf builder (part ∷ parts) e = ArePartsFor builder (part ∷ parts) (and_pieces e)
+AreAndPartsOf builder (part ∷ parts) e = ArePartsFor builder (part ∷ parts) (and_branches e)
 
 -- the parts stand for the arguments, one for each
 abbrev pub AreArgumentsOf : SyntaxBuilder → List Part → Arguments → Type 0
-AreArgumentsOf builder parts args = ArePartsFor builder parts (argument_pieces args)
+AreArgumentsOf builder parts args = ArePartsFor builder parts (argument_branches args)
 
 -- the names and the signatures of the calls that a builder has made, in that order
 abbrev pub calls_in : SyntaxBuilder → List (List ℕ × Signature)
@@ -76,7 +76,7 @@ calls_in builder = calls_among builder.arena.nodes.items
 
 -- each part stays good, with its tree
 abbrev pub KeepsTrees : SyntaxBuilder → SyntaxBuilder → Type 0
-KeepsTrees old new = (part : Part) (piece : Piece) → IsPart old part piece → IsPart new part piece
+KeepsTrees old new = (part : Part) (branch : Branch) → IsPart old part branch → IsPart new part branch
 
 -- each part stays good, with its tree, and there is no further call
 pub record KeepsParts (old new : SyntaxBuilder) : Type 0 where

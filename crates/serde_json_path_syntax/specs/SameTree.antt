@@ -4,7 +4,7 @@ use Rattle.std.proofs.Math.Bool.{beq}
 use Rattle.std.specs.Option.{option_eq}
 use Rattle.std.specs.Ordering.{int_eq}
 use Rattle.std.specs.Str.{bytes_eq}
-use Rattle.serde_json_path_syntax.specs.Piece.{Piece, a_query, a_segment, a_selector, an_or, an_and, a_basic, a_comparable, a_call, an_argument}
+use Rattle.serde_json_path_syntax.specs.Branch.{Branch, a_query, a_segment, a_selector, an_or, an_and, a_basic, a_comparable, a_call, an_argument}
 use Rattle.serde_json_path_syntax.specs.Tree.{QueryKind, root, current, SegmentKind, child, descendant, Slice, Operator, equal, not_equal, less, less_or_equal, greater, greater_or_equal, Literal, text, number, truth, null, Query, query, Segments, no_segments, segment, Segment, dot_name, dot_wildcard, long_hand, Selectors, no_selectors, selector, Selector, name, wildcard, index, slice, filter, LogicalOr, no_or, or, LogicalAnd, no_and, and, Basic, paren, not_paren, relation, exist, not_exist, test, not_test, Comparable, literal, singular, called, Call, call, Arguments, no_arguments, argument, Argument, literal_argument, query_argument, call_argument, logical_argument}
 
 abbrev pub same_query_kind : QueryKind → QueryKind → Bool
@@ -105,15 +105,15 @@ abbrev mutual
   same_argument (logical_argument a) (logical_argument b) = same_or a b
   same_argument _ _ = false
 
--- whether two pieces are of one kind and the same
-abbrev pub same_piece : Piece → Piece → Bool
-same_piece (a_query q) (a_query r) = same_query q r
-same_piece (a_segment k s) (a_segment l t) = same_segment_kind k l && same_segment s t
-same_piece (a_selector s) (a_selector t) = same_selector s t
-same_piece (an_or a) (an_or b) = same_or a b
-same_piece (an_and a) (an_and b) = same_and a b
-same_piece (a_basic a) (a_basic b) = same_basic a b
-same_piece (a_comparable a) (a_comparable b) = same_comparable a b
-same_piece (a_call a) (a_call b) = same_call a b
-same_piece (an_argument a) (an_argument b) = same_argument a b
-same_piece _ _ = false
+-- whether two branches are of one kind and the same
+abbrev pub same_branch : Branch → Branch → Bool
+same_branch (a_query q) (a_query r) = same_query q r
+same_branch (a_segment k s) (a_segment l t) = same_segment_kind k l && same_segment s t
+same_branch (a_selector s) (a_selector t) = same_selector s t
+same_branch (an_or a) (an_or b) = same_or a b
+same_branch (an_and a) (an_and b) = same_and a b
+same_branch (a_basic a) (a_basic b) = same_basic a b
+same_branch (a_comparable a) (a_comparable b) = same_comparable a b
+same_branch (a_call a) (a_call b) = same_call a b
+same_branch (an_argument a) (an_argument b) = same_argument a b
+same_branch _ _ = false

@@ -1,7 +1,7 @@
 -- The segments of a tree as a walk takes them: each with its kind and the list of its selectors.
 use Rattle.std.specs.Prelude.{List, [], ◌∷◌}
 use Rattle.serde_json_path_syntax.specs.Tree.{Segments, no_segments, segment, SegmentKind, Segment, dot_name, dot_wildcard, long_hand, Selectors, no_selectors, selector, Selector, name, wildcard, index, slice, filter}
-use Rattle.serde_json_path_syntax.specs.Flat.{or_at, segment_kind_in, segment_in, piece_at, segments_at}
+use Rattle.serde_json_path_syntax.specs.Flat.{or_at, segment_kind_in, segment_in, branch_at, segments_at}
 use Rattle.serde_json_path_syntax.specs.SliceView.{slice_view}
 use Rattle.serde_json_path_syntax.specs.declared.node.Node.{Node}
 use Rattle.serde_json_path_syntax.specs.declared.node.Part.{Part}
@@ -39,7 +39,7 @@ selector_view nodes (selector_ref.Filter part) = filter (or_at nodes part)
 
 -- the stage of a part, and those of so many
 abbrev pub stage_at : List Node → Part → Stage
-stage_at nodes part = stage_of (segment_kind_in (piece_at nodes part.number)) (segment_in (piece_at nodes part.number))
+stage_at nodes part = stage_of (segment_kind_in (branch_at nodes part.number)) (segment_in (branch_at nodes part.number))
 
 abbrev pub stages_at : List Node → List Part → List Stage
 stages_at nodes parts = stages (segments_at nodes parts)

@@ -3,7 +3,7 @@ use Rattle.std.specs.Prelude.{ℕ, zero, suc, ◌*◌, ◌/◌, ◌%◌, ◌==�
 use Rattle.std.specs.List.{flat_map}
 use Rattle.std.specs.Fmt.{decimal, signed_decimal}
 use Rattle.serde_json_path_nodes.specs.Text.{quoted}
-use Rattle.serde_json_path_syntax.specs.Piece.{Piece, a_query, a_segment, a_selector, an_or, an_and, a_basic, a_comparable, a_call, an_argument}
+use Rattle.serde_json_path_syntax.specs.Branch.{Branch, a_query, a_segment, a_selector, an_or, an_and, a_basic, a_comparable, a_call, an_argument}
 use Rattle.serde_json_path_syntax.specs.Tree.{Query, query, QueryKind, root, current, Segments, no_segments, segment, SegmentKind, child, descendant, Segment, dot_name, dot_wildcard, long_hand, Selectors, no_selectors, selector, Selector, name, wildcard, index, slice, filter, Slice, LogicalOr, no_or, or, LogicalAnd, no_and, and, Basic, paren, not_paren, relation, exist, not_exist, test, not_test, Comparable, literal, singular, called, Call, call, Arguments, no_arguments, argument, Argument, literal_argument, query_argument, call_argument, logical_argument, Operator, equal, not_equal, less, less_or_equal, greater, greater_or_equal, Literal, text, number, truth, null}
 
 -- the digits of a fraction in billionths, up to the last that is not 0; a fraction has no more than nine
@@ -141,14 +141,14 @@ abbrev mutual
   argument_text (call_argument c) = call_text c
   argument_text (logical_argument e) = or_text e
 
--- the text of a piece of any kind
-abbrev pub piece_text : Piece → List ℕ
-piece_text (a_query q) = query_text q
-piece_text (a_segment kind seg) = segment_text seg kind
-piece_text (a_selector sel) = selector_text sel
-piece_text (an_or e) = or_text e
-piece_text (an_and e) = and_text e
-piece_text (a_basic b) = basic_text b
-piece_text (a_comparable c) = comparable_text c
-piece_text (a_call c) = call_text c
-piece_text (an_argument a) = argument_text a
+-- the text of a branch of any kind
+abbrev pub branch_text : Branch → List ℕ
+branch_text (a_query q) = query_text q
+branch_text (a_segment kind seg) = segment_text seg kind
+branch_text (a_selector sel) = selector_text sel
+branch_text (an_or e) = or_text e
+branch_text (an_and e) = and_text e
+branch_text (a_basic b) = basic_text b
+branch_text (a_comparable c) = comparable_text c
+branch_text (a_call c) = call_text c
+branch_text (an_argument a) = argument_text a

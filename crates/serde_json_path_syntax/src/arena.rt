@@ -17,7 +17,7 @@ pub(crate) struct Arena {
 
 impl Arena {
     ghost use Rattle.std.specs.Prelude.{ℕ, List, true, ◌≡◌, ◌<◌, ◌≤◌, ◌++◌, ◌∷◌, [], IfOk, OnErr, OnOk, length};
-    ghost use Rattle.serde_json_path_syntax.specs.Words.{NamesBelow, called_by, calls_among, part_query, piece_at, piece_of, pieces, segments_at, Signature, AreOfKind, IsOfKind, fits, is_query, is_segment, IsIn, parts_bound, segments_of};
+    ghost use Rattle.serde_json_path_syntax.specs.Words.{NamesBelow, called_by, calls_among, part_query, branch_at, branch_of, branches, segments_at, Signature, AreOfKind, IsOfKind, fits, is_query, is_segment, IsIn, parts_bound, segments_of};
 
     /// No nodes. Takes no memory.
     pub(crate) fn new(alloc: Global) -> Arena
@@ -34,7 +34,7 @@ impl Arena {
     #[tactic(auto, using(crate::proofs::Tree::Growing::fitting_pushed))]
     pub(crate) fn push(&mut self, node: Node) -> Result<Part, AllocError>
         requires below { NamesBelow (length self.old.nodes.items) node }
-        requires fits { fits (pieces self.old.nodes.items) node ≡ true }
+        requires fits { fits (branches self.old.nodes.items) node ≡ true }
         ensures number { IfOk result (λ part. part.number ≡ length self.old.nodes.items) }
         ensures pushed { OnOk result (self.new.nodes.items ≡ self.old.nodes.items ++ node ∷ []) }
         ensures refused { OnErr result (self.new.nodes.items ≡ self.old.nodes.items) }
@@ -47,8 +47,8 @@ impl Arena {
     /// A copy of the nodes. An error comes only where memory is refused.
     #[tactic(auto, using(crate::proofs::Tree::Growing::of_copies))]
     pub(crate) fn try_clone(&self, alloc: Global) -> Result<Arena, AllocError>
-        ensures pieces { IfOk result (λ copy.
-            pieces copy.nodes.items ≡ pieces self.now.nodes.items) }
+        ensures branches { IfOk result (λ copy.
+            branches copy.nodes.items ≡ branches self.now.nodes.items) }
         ensures calls { IfOk result (λ copy.
             calls_among copy.nodes.items ≡ calls_among self.now.nodes.items) }
         ensures length { IfOk result (λ copy.
@@ -69,10 +69,10 @@ impl Arena {
     #[inline]
     pub(crate) fn node(&self, part: Part) -> &Node
         requires { part.number < length self.now.nodes.items }
-        ensures piece { piece_at self.now.nodes.items part.number
-            ≡ piece_of (pieces self.now.nodes.items) result.now }
+        ensures branch { branch_at self.now.nodes.items part.number
+            ≡ branch_of (branches self.now.nodes.items) result.now }
         ensures below { NamesBelow part.number result.now }
-        ensures fits { fits (pieces self.now.nodes.items) result.now ≡ true }
+        ensures fits { fits (branches self.now.nodes.items) result.now ≡ true }
         ensures called { (u : List ℕ × Signature) → IsIn u (called_by result.now)
             → IsIn u (calls_among self.now.nodes.items) }
     {
@@ -83,7 +83,7 @@ impl Arena {
     #[inline]
     pub(crate) fn segments(&self, query: Part) -> &[Part]
         requires within { query.number < length self.now.nodes.items }
-        requires is { IsOfKind is_query self.now.nodes.items query }
+        requires kind { IsOfKind is_query self.now.nodes.items query }
         ensures tree { segments_at self.now.nodes.items result.now
             ≡ segments_of (part_query self.now.nodes.items query) }
         ensures below { parts_bound result.now ≤ query.number }

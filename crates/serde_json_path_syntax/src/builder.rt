@@ -28,13 +28,13 @@ pub struct SyntaxBuilder {
 
 impl SyntaxBuilder {
     ghost use Rattle.std.specs.Prelude.{true, ◌≡◌, ◌↔◌, ◌++◌, ◌∷◌, [], IfOk, OnErr, OnOk, IsTrue, string_bytes, length};
-    ghost use Rattle.serde_json_path_syntax.specs.Words.{literal_view, operator_view, a_query, a_segment, a_selector, an_or, an_and, a_basic, a_comparable, a_call, an_argument, IsOptionalInteger, called_by, kind_view, segment_kind_view, NamesBelow, parts_in, piece_of, pieces, fits, slice_view, HasNoParts, IsPart, ArePartsOf, AreSelectorsOf, AreOrPartsOf, AreAndPartsOf, AreArgumentsOf, KeepsParts, KeepsTrees, calls_in, tree_of, signatures_of, MayFinish, each_once, signature_view};
+    ghost use Rattle.serde_json_path_syntax.specs.Words.{literal_view, operator_view, a_query, a_segment, a_selector, an_or, an_and, a_basic, a_comparable, a_call, an_argument, IsOptionalInteger, called_by, query_kind_view, segment_kind_view, NamesBelow, parts_in, branch_of, branches, fits, slice_view, HasNoParts, IsPart, ArePartsOf, AreSelectorsOf, AreOrPartsOf, AreAndPartsOf, AreArgumentsOf, KeepsParts, KeepsTrees, calls_in, tree_of, signatures_of, MayFinish, each_once, signature_view};
     ghost use Rattle.serde_json_path_syntax.specs.Tree as tree;
 
     /// A builder with no parts. Takes no memory.
     pub fn new(alloc: Global) -> SyntaxBuilder
         ensures empty { HasNoParts result }
-        ensures silent { calls_in result ≡ [] }
+        ensures no_calls { calls_in result ≡ [] }
     {
         SyntaxBuilder {
             arena: Arena::new(alloc),
@@ -46,9 +46,9 @@ impl SyntaxBuilder {
     #[tactic(auto, using(crate::proofs::Tree::Growing::of_push))]
     fn push(&mut self, node: Node) -> Result<Part, AllocError>
         requires below { NamesBelow (length self.old.arena.nodes.items) node }
-        requires fits { fits (pieces self.old.arena.nodes.items) node ≡ true }
+        requires fits { fits (branches self.old.arena.nodes.items) node ≡ true }
         ensures made { IfOk result (λ part.
-            IsPart self.new part (piece_of (pieces self.old.arena.nodes.items) node)) }
+            IsPart self.new part (branch_of (branches self.old.arena.nodes.items) node)) }
         ensures keeps { called_by node ≡ [] → KeepsParts self.old self.new }
         ensures trees { KeepsTrees self.old self.new }
         ensures calls { OnOk result (calls_in self.new ≡ calls_in self.old ++ called_by node) }
@@ -363,7 +363,7 @@ impl SyntaxBuilder {
         requires { (segs : tree.Segments) × ArePartsOf self.old (parts_in segments) segs }
         ensures made { IfOk result (λ part.
             (segs : tree.Segments) → ArePartsOf self.old (parts_in segments) segs
-            → IsPart self.new part (a_query (tree.query (kind_view kind) segs))) }
+            → IsPart self.new part (a_query (tree.query (query_kind_view kind) segs))) }
         ensures keeps { KeepsParts self.old self.new }
     {
         self.push(Node::Query { kind, segments })

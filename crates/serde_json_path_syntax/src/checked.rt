@@ -37,10 +37,10 @@ pub struct Checked {
 
 impl Checked {
     ghost use Rattle.std.specs.Prelude.{ℕ, List, true, map, Some, IfOk, string_bytes};
-    ghost use Rattle.serde_json_path_syntax.specs.Words.{AreOfKind, IsOfKind, fits, is_and, is_argument, is_basic, is_call, is_or, is_query, is_segment, is_selector, selector_ref_fits, IsIn, child, query, no_segments, segments_of, FunctionSet, Signature, arguments_of, name_of, MayFinish, or_at, ors_in, and_at, ands_in, call_at, arguments_in, part_query, segment_kind_view, piece_at, piece_of, pieces, pieces_named, segments_at, selector_at, selectors_at, NamesBelow, selectors_list, query_text, nodes_in, number_of, tree_of, signatures_of, parts_bound, selector_bound};
+    ghost use Rattle.serde_json_path_syntax.specs.Words.{AreOfKind, IsOfKind, fits, is_and, is_argument, is_basic, is_call, is_or, is_query, is_segment, is_selector, selector_ref_fits, IsIn, child, query, no_segments, segments_of, FunctionSet, Signature, arguments_of, name_of, MayFinish, or_at, ors_in, and_at, ands_in, call_at, arguments_in, part_query, segment_kind_view, branch_at, branch_of, branches, branches_named, segments_at, selector_at, selectors_at, NamesBelow, selectors_list, query_text, nodes_in, number_of, tree_of, signatures_of, parts_bound, selector_bound};
     ghost use Rattle.serde_json_path_syntax.specs.Tree as tree;
     ghost use Rattle.serde_json_path_functions.specs.Terms.{kind_view};
-    ghost use Rattle.serde_json_path_syntax.specs.Flat.{kind_view as query_kind_view};
+    ghost use Rattle.serde_json_path_syntax.specs.Flat.{query_kind_view};
 
     /// The query `$`. Takes no memory.
     pub fn new(alloc: Global) -> Checked
@@ -56,7 +56,7 @@ impl Checked {
     /// The tree of a part.
     pub(crate) fn of(arena: Arena, part: Part) -> Checked
         requires within { part.number < length arena.nodes.items }
-        requires is { IsOfKind is_query arena.nodes.items part }
+        requires kind { IsOfKind is_query arena.nodes.items part }
         requires complete { MayFinish (calls_among arena.nodes.items)
             (part_query arena.nodes.items part) }
         ensures tree { tree_of result ≡ part_query arena.nodes.items part }
@@ -108,10 +108,10 @@ impl Checked {
     #[inline]
     pub fn node(&self, part: Part) -> &Node
         requires { number_of part < length (nodes_in self.now) }
-        ensures piece { piece_at (nodes_in self.now) (number_of part)
-            ≡ piece_of (pieces (nodes_in self.now)) result.now }
+        ensures branch { branch_at (nodes_in self.now) (number_of part)
+            ≡ branch_of (branches (nodes_in self.now)) result.now }
         ensures below { NamesBelow (number_of part) result.now }
-        ensures fits { fits (pieces (nodes_in self.now)) result.now ≡ true }
+        ensures fits { fits (branches (nodes_in self.now)) result.now ≡ true }
         ensures called { (u : List ℕ × Signature) → IsIn u (called_by result.now)
             → IsIn u (calls_among (nodes_in self.now)) }
     {
@@ -143,7 +143,7 @@ impl Checked {
     #[inline]
     pub fn part_kind(&self, query: Part) -> QueryKind
         requires within { number_of query < length (nodes_in self.now) }
-        requires is { IsOfKind is_query (nodes_in self.now) query }
+        requires kind { IsOfKind is_query (nodes_in self.now) query }
         ensures { query_kind_view result ≡ kind_of (part_query (nodes_in self.now) query) }
     {
         match self.node(query) {
@@ -156,7 +156,7 @@ impl Checked {
     #[inline]
     pub fn part_segments(&self, query: Part) -> &[Part]
         requires within { number_of query < length (nodes_in self.now) }
-        requires is { IsOfKind is_query (nodes_in self.now) query }
+        requires kind { IsOfKind is_query (nodes_in self.now) query }
         ensures tree { segments_at (nodes_in self.now) result.now
             ≡ segments_of (part_query (nodes_in self.now) query) }
         ensures below { parts_bound result.now ≤ number_of query }
@@ -169,9 +169,9 @@ impl Checked {
     #[inline]
     pub fn or_parts(&self, expression: Part) -> &[Part]
         requires within { number_of expression < length (nodes_in self.now) }
-        requires is { IsOfKind is_or (nodes_in self.now) expression }
+        requires kind { IsOfKind is_or (nodes_in self.now) expression }
         ensures tree { or_at (nodes_in self.now) expression
-            ≡ ors_in (pieces_named (pieces (nodes_in self.now)) result.now) }
+            ≡ ors_in (branches_named (branches (nodes_in self.now)) result.now) }
         ensures below { parts_bound result.now ≤ number_of expression }
         ensures are { AreOfKind is_and (nodes_in self.now) result.now }
     {
@@ -185,9 +185,9 @@ impl Checked {
     #[inline]
     pub fn and_parts(&self, expression: Part) -> &[Part]
         requires within { number_of expression < length (nodes_in self.now) }
-        requires is { IsOfKind is_and (nodes_in self.now) expression }
+        requires kind { IsOfKind is_and (nodes_in self.now) expression }
         ensures tree { and_at (nodes_in self.now) expression
-            ≡ ands_in (pieces_named (pieces (nodes_in self.now)) result.now) }
+            ≡ ands_in (branches_named (branches (nodes_in self.now)) result.now) }
         ensures below { parts_bound result.now ≤ number_of expression }
         ensures are { AreOfKind is_basic (nodes_in self.now) result.now }
     {
@@ -200,7 +200,7 @@ impl Checked {
     /// The name of the function that a call calls.
     pub fn called_name(&self, call: Part) -> &str
         requires within { number_of call < length (nodes_in self.now) }
-        requires is { IsOfKind is_call (nodes_in self.now) call }
+        requires kind { IsOfKind is_call (nodes_in self.now) call }
         ensures { result.now ≡ name_of (call_at (nodes_in self.now) call) }
     {
         match self.node(call) {
@@ -212,7 +212,7 @@ impl Checked {
     /// The types of the parameters of the function that a call calls.
     pub fn parameters(&self, call: Part) -> &[FunctionArgType]
         requires within { number_of call < length (nodes_in self.now) }
-        requires is { IsOfKind is_call (nodes_in self.now) call }
+        requires kind { IsOfKind is_call (nodes_in self.now) call }
         ensures { (F : FunctionSet) (s : Signature) → Fits F (signatures_of self.now)
             → F.signature (name_of (call_at (nodes_in self.now) call)) ≡ Some s
             → map kind_view result.now ≡ s.params }
@@ -226,9 +226,9 @@ impl Checked {
     /// The arguments of a call, in order.
     pub fn arguments(&self, call: Part) -> &[Part]
         requires within { number_of call < length (nodes_in self.now) }
-        requires is { IsOfKind is_call (nodes_in self.now) call }
+        requires kind { IsOfKind is_call (nodes_in self.now) call }
         ensures tree { arguments_of (call_at (nodes_in self.now) call)
-            ≡ arguments_in (pieces_named (pieces (nodes_in self.now)) result.now) }
+            ≡ arguments_in (branches_named (branches (nodes_in self.now)) result.now) }
         ensures below { parts_bound result.now ≤ number_of call }
         ensures are { AreOfKind is_argument (nodes_in self.now) result.now }
     {
@@ -242,7 +242,7 @@ impl Checked {
     #[inline]
     pub fn segment_kind(&self, segment: Part) -> SegmentKind
         requires within { number_of segment < length (nodes_in self.now) }
-        requires is { IsOfKind is_segment (nodes_in self.now) segment }
+        requires kind { IsOfKind is_segment (nodes_in self.now) segment }
         ensures { segment_kind_view result ≡ (stage_at (nodes_in self.now) segment).kind }
     {
         match self.node(segment) {
@@ -255,11 +255,11 @@ impl Checked {
     #[inline]
     pub(crate) fn selector(&self, part: Part) -> SelectorRef<'_>
         requires within { part.number < length (nodes_in self.now) }
-        requires is { IsOfKind is_selector (nodes_in self.now) part }
+        requires kind { IsOfKind is_selector (nodes_in self.now) part }
         ensures selector_ref { selector_view (nodes_in self.now) result
             ≡ selector_at (nodes_in self.now) part }
         ensures below { selector_bound result ≤ part.number }
-        ensures fits { selector_ref_fits (pieces (nodes_in self.now)) result ≡ true }
+        ensures fits { selector_ref_fits (branches (nodes_in self.now)) result ≡ true }
     {
         match self.node(part) {
             Node::Selector(selector) => match selector {
@@ -283,7 +283,7 @@ impl Checked {
         ensures below { IfSome result (λ selector_ref.
             selector_bound selector_ref ≤ parts_bound selectors.now) }
         ensures fits { IfSome result (λ selector_ref.
-            selector_ref_fits (pieces (nodes_in self.now)) selector_ref ≡ true) }
+            selector_ref_fits (branches (nodes_in self.now)) selector_ref ≡ true) }
         ensures selector_ref { option_map (selector_view (nodes_in self.now)) result
             ≡ slice_get (selectors_list (selectors_at (nodes_in self.now) selectors.now)) number }
     {
@@ -297,12 +297,12 @@ impl Checked {
     #[inline]
     pub fn selector_ref(&self, segment: Part, number: usize) -> Option<SelectorRef<'_>>
         requires within { number_of segment < length (nodes_in self.now) }
-        requires is { IsOfKind is_segment (nodes_in self.now) segment }
+        requires kind { IsOfKind is_segment (nodes_in self.now) segment }
         ensures more { IsSome result → number + 1 < 2 ^ 64 }
         ensures below { IfSome result (λ selector_ref.
             selector_bound selector_ref ≤ number_of segment) }
         ensures fits { IfSome result (λ selector_ref.
-            selector_ref_fits (pieces (nodes_in self.now)) selector_ref ≡ true) }
+            selector_ref_fits (branches (nodes_in self.now)) selector_ref ≡ true) }
         ensures selector_ref { option_map (selector_view (nodes_in self.now)) result
             ≡ slice_get (stage_at (nodes_in self.now) segment).selectors number }
     {
@@ -319,10 +319,10 @@ impl Checked {
     #[inline]
     pub fn only_selector(&self, segment: Part) -> Option<SelectorRef<'_>>
         requires within { number_of segment < length (nodes_in self.now) }
-        requires is { IsOfKind is_segment (nodes_in self.now) segment }
-        ensures is { IfSome result (λ only. stage_at (nodes_in self.now) segment
+        requires kind { IsOfKind is_segment (nodes_in self.now) segment }
+        ensures found { IfSome result (λ only. stage_at (nodes_in self.now) segment
             ≡ record { kind = child; selectors = selector_view (nodes_in self.now) only ∷ [] }) }
-        ensures each { (only : tree.Selector) → stage_at (nodes_in self.now) segment
+        ensures complete { (only : tree.Selector) → stage_at (nodes_in self.now) segment
             ≡ record { kind = child; selectors = only ∷ [] } → IsSome result }
     {
         match self.node(segment) {
@@ -346,10 +346,10 @@ impl Checked {
     fn only_bracketed(&self, selectors: &[Part]) -> Option<SelectorRef<'_>>
         requires within { parts_bound selectors.now ≤ length (nodes_in self.now) }
         requires are { AreOfKind is_selector (nodes_in self.now) selectors.now }
-        ensures is { IfSome result (λ only.
+        ensures found { IfSome result (λ only.
             selectors_list (selectors_at (nodes_in self.now) selectors.now)
             ≡ selector_view (nodes_in self.now) only ∷ []) }
-        ensures each { (only : tree.Selector) →
+        ensures complete { (only : tree.Selector) →
             selectors_list (selectors_at (nodes_in self.now) selectors.now) ≡ only ∷ []
             → IsSome result }
     {

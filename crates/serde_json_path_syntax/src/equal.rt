@@ -1,7 +1,7 @@
 //! Equality of finished queries.
 
 ghost use Rattle.std.specs.Prelude.{◌≡◌, ◌<◌, ◌≤◌, ◌↔◌, IsTrue, true, length};
-ghost use Rattle.serde_json_path_syntax.specs.Words.{pointwise, argument_of, argument_parts, basic_of, basic_parts, comparable_of, comparable_parts, held_view, piece_at, pieces, pieces_named, segment_of, segment_parts, selector_of, selector_parts, argument_fits, basic_fits, comparable_fits, literal_fits, segment_fits, selector_fits, parts_bound, nodes_in, number_of, tree_of, slice_view};
+ghost use Rattle.serde_json_path_syntax.specs.Words.{pointwise, argument_of, argument_parts, basic_of, basic_parts, comparable_of, comparable_parts, held_view, branch_at, branches, branches_named, segment_of, segment_parts, selector_of, selector_parts, argument_fits, basic_fits, comparable_fits, literal_fits, segment_fits, selector_fits, parts_bound, nodes_in, number_of, tree_of, slice_view};
 ghost use Rattle.serde_json_path_syntax.specs.SameTree as trees;
 
 use crate::checked::Checked;
@@ -40,9 +40,9 @@ impl Eq for Checked {
 fn same_parts(mine: &Checked, lefts: &[Part], theirs: &Checked, rights: &[Part]) -> bool
     requires left_within { parts_bound lefts.now ≤ length (nodes_in mine.now) }
     requires right_within { parts_bound rights.now ≤ length (nodes_in theirs.now) }
-    ensures { result ≡ pointwise trees.same_piece
-        (pieces_named (pieces (nodes_in mine.now)) lefts.now)
-        (pieces_named (pieces (nodes_in theirs.now)) rights.now) }
+    ensures { result ≡ pointwise trees.same_branch
+        (branches_named (branches (nodes_in mine.now)) lefts.now)
+        (branches_named (branches (nodes_in theirs.now)) rights.now) }
 {
     if lefts.len() != rights.len() {
         return false;
@@ -61,9 +61,9 @@ fn same_parts(mine: &Checked, lefts: &[Part], theirs: &Checked, rights: &[Part])
 fn same_part(mine: &Checked, left: Part, theirs: &Checked, right: Part) -> bool
     requires left_within { number_of left < length (nodes_in mine.now) }
     requires right_within { number_of right < length (nodes_in theirs.now) }
-    ensures { result ≡ trees.same_piece
-        (piece_at (nodes_in mine.now) (number_of left))
-        (piece_at (nodes_in theirs.now) (number_of right)) }
+    ensures { result ≡ trees.same_branch
+        (branch_at (nodes_in mine.now) (number_of left))
+        (branch_at (nodes_in theirs.now) (number_of right)) }
 {
     match (mine.node(left), theirs.node(right)) {
         (
@@ -113,11 +113,11 @@ fn same_part(mine: &Checked, left: Part, theirs: &Checked, right: Part) -> bool
 #[tactic(auto, using(crate::proofs::Equality::of_kinds))]
 fn same_segment(mine: &Checked, left: &Segment, theirs: &Checked, right: &Segment) -> bool
     requires left_within { parts_bound (segment_parts left.now) ≤ length (nodes_in mine.now) }
-    requires left_fits { segment_fits (pieces (nodes_in mine.now)) left.now ≡ true }
+    requires left_fits { segment_fits (branches (nodes_in mine.now)) left.now ≡ true }
     requires right_within { parts_bound (segment_parts right.now) ≤ length (nodes_in theirs.now) }
-    requires right_fits { segment_fits (pieces (nodes_in theirs.now)) right.now ≡ true }
-    ensures { result ≡ trees.same_segment (segment_of (pieces (nodes_in mine.now)) left.now)
-        (segment_of (pieces (nodes_in theirs.now)) right.now) }
+    requires right_fits { segment_fits (branches (nodes_in theirs.now)) right.now ≡ true }
+    ensures { result ≡ trees.same_segment (segment_of (branches (nodes_in mine.now)) left.now)
+        (segment_of (branches (nodes_in theirs.now)) right.now) }
 {
     match (left, right) {
         (Segment::DotName(name), Segment::DotName(other)) => name == other,
@@ -134,11 +134,11 @@ fn same_segment(mine: &Checked, left: &Segment, theirs: &Checked, right: &Segmen
 #[tactic(auto, using(crate::proofs::Equality::of_kinds))]
 fn same_selector(mine: &Checked, left: &Selector, theirs: &Checked, right: &Selector) -> bool
     requires left_within { parts_bound (selector_parts left.now) ≤ length (nodes_in mine.now) }
-    requires left_fits { selector_fits (pieces (nodes_in mine.now)) left.now ≡ true }
+    requires left_fits { selector_fits (branches (nodes_in mine.now)) left.now ≡ true }
     requires right_within { parts_bound (selector_parts right.now) ≤ length (nodes_in theirs.now) }
-    requires right_fits { selector_fits (pieces (nodes_in theirs.now)) right.now ≡ true }
-    ensures { result ≡ trees.same_selector (selector_of (pieces (nodes_in mine.now)) left.now)
-        (selector_of (pieces (nodes_in theirs.now)) right.now) }
+    requires right_fits { selector_fits (branches (nodes_in theirs.now)) right.now ≡ true }
+    ensures { result ≡ trees.same_selector (selector_of (branches (nodes_in mine.now)) left.now)
+        (selector_of (branches (nodes_in theirs.now)) right.now) }
 {
     match (left, right) {
         (Selector::Name(name), Selector::Name(other)) => name == other,
@@ -155,11 +155,11 @@ fn same_selector(mine: &Checked, left: &Selector, theirs: &Checked, right: &Sele
 #[tactic(auto, using(crate::proofs::Equality::of_kinds))]
 fn same_basic(mine: &Checked, left: &Basic, theirs: &Checked, right: &Basic) -> bool
     requires left_within { parts_bound (basic_parts left.now) ≤ length (nodes_in mine.now) }
-    requires left_fits { basic_fits (pieces (nodes_in mine.now)) left.now ≡ true }
+    requires left_fits { basic_fits (branches (nodes_in mine.now)) left.now ≡ true }
     requires right_within { parts_bound (basic_parts right.now) ≤ length (nodes_in theirs.now) }
-    requires right_fits { basic_fits (pieces (nodes_in theirs.now)) right.now ≡ true }
-    ensures { result ≡ trees.same_basic (basic_of (pieces (nodes_in mine.now)) left.now)
-        (basic_of (pieces (nodes_in theirs.now)) right.now) }
+    requires right_fits { basic_fits (branches (nodes_in theirs.now)) right.now ≡ true }
+    ensures { result ≡ trees.same_basic (basic_of (branches (nodes_in mine.now)) left.now)
+        (basic_of (branches (nodes_in theirs.now)) right.now) }
 {
     match (left, right) {
         (
@@ -193,12 +193,12 @@ fn same_basic(mine: &Checked, left: &Basic, theirs: &Checked, right: &Basic) -> 
 #[tactic(auto, using(crate::proofs::Equality::of_kinds))]
 fn same_comparable(mine: &Checked, left: &Comparable, theirs: &Checked, right: &Comparable) -> bool
     requires left_within { parts_bound (comparable_parts left.now) ≤ length (nodes_in mine.now) }
-    requires left_fits { comparable_fits (pieces (nodes_in mine.now)) left.now ≡ true }
+    requires left_fits { comparable_fits (branches (nodes_in mine.now)) left.now ≡ true }
     requires right_within { parts_bound (comparable_parts right.now)
         ≤ length (nodes_in theirs.now) }
-    requires right_fits { comparable_fits (pieces (nodes_in theirs.now)) right.now ≡ true }
-    ensures { result ≡ trees.same_comparable (comparable_of (pieces (nodes_in mine.now)) left.now)
-        (comparable_of (pieces (nodes_in theirs.now)) right.now) }
+    requires right_fits { comparable_fits (branches (nodes_in theirs.now)) right.now ≡ true }
+    ensures { result ≡ trees.same_comparable (comparable_of (branches (nodes_in mine.now)) left.now)
+        (comparable_of (branches (nodes_in theirs.now)) right.now) }
 {
     match (left, right) {
         (Comparable::Literal(literal), Comparable::Literal(other)) => same_literal(literal, other),
@@ -215,11 +215,11 @@ fn same_comparable(mine: &Checked, left: &Comparable, theirs: &Checked, right: &
 #[tactic(auto, using(crate::proofs::Equality::of_kinds))]
 fn same_argument(mine: &Checked, left: &Argument, theirs: &Checked, right: &Argument) -> bool
     requires left_within { parts_bound (argument_parts left.now) ≤ length (nodes_in mine.now) }
-    requires left_fits { argument_fits (pieces (nodes_in mine.now)) left.now ≡ true }
+    requires left_fits { argument_fits (branches (nodes_in mine.now)) left.now ≡ true }
     requires right_within { parts_bound (argument_parts right.now) ≤ length (nodes_in theirs.now) }
-    requires right_fits { argument_fits (pieces (nodes_in theirs.now)) right.now ≡ true }
-    ensures { result ≡ trees.same_argument (argument_of (pieces (nodes_in mine.now)) left.now)
-        (argument_of (pieces (nodes_in theirs.now)) right.now) }
+    requires right_fits { argument_fits (branches (nodes_in theirs.now)) right.now ≡ true }
+    ensures { result ≡ trees.same_argument (argument_of (branches (nodes_in mine.now)) left.now)
+        (argument_of (branches (nodes_in theirs.now)) right.now) }
 {
     match (left, right) {
         (Argument::Literal(literal), Argument::Literal(other)) => same_literal(literal, other),

@@ -114,7 +114,7 @@ impl Literal {
 
     /// The literal as a tree holds it.
     pub(crate) fn held(self) -> LiteralValue
-        ensures is { held_view result ≡ literal_view self }
+        ensures means { held_view result ≡ literal_view self }
         ensures fits { literal_fits result ≡ true }
     {
         match self {
@@ -141,7 +141,7 @@ impl LiteralValue {
 
     /// A copy of the literal. An error comes only where memory is refused.
     pub(crate) fn try_clone(&self) -> Result<LiteralValue, AllocError>
-        ensures is { IfOk result (λ copy. held_view copy ≡ held_view self.now) }
+        ensures means { IfOk result (λ copy. held_view copy ≡ held_view self.now) }
         ensures fits { IfOk result (λ copy. literal_fits copy ≡ literal_fits self.now) }
     {
         match self {

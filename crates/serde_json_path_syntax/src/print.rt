@@ -1,8 +1,8 @@
 //! Printed paths: a query as the text that is read back as it.
 
 ghost use Rattle.std.specs.Prelude.{◌≡◌, ◌<◌, ◌≤◌, ◌++◌, Some, codes, length, map, option_map, true};
-ghost use Rattle.serde_json_path_syntax.specs.Words.{WritesOnOk, AreOfKind, IsOfKind, argument_of, argument_parts, basic_of, basic_parts, comparable_of, comparable_parts, piece_at, pieces, pieces_named, segments_at, argument_fits, basic_fits, comparable_fits, is_segment, is_selector, parts_bound, nodes_in, number_of, tree_of, argument_text, basic_text, comparable_text, joined, piece_text, query_kind_text, query_text, segments_text, sign_text, opening_text};
-ghost use Rattle.serde_json_path_syntax.specs.Flat.{kind_view as query_kind_view};
+ghost use Rattle.serde_json_path_syntax.specs.Words.{WritesOnOk, AreOfKind, IsOfKind, argument_of, argument_parts, basic_of, basic_parts, comparable_of, comparable_parts, branch_at, branches, branches_named, segments_at, argument_fits, basic_fits, comparable_fits, is_segment, is_selector, parts_bound, nodes_in, number_of, tree_of, argument_text, basic_text, comparable_text, joined, branch_text, query_kind_text, query_text, segments_text, sign_text, opening_text};
+ghost use Rattle.serde_json_path_syntax.specs.Flat.{query_kind_view};
 
 mod literals;
 mod openings;
@@ -62,10 +62,10 @@ fn write_segment<W: Write>(
     start: Option<QueryKind>,
 ) -> fmt::Result
     requires within { number_of segment < length (nodes_in tree.now) }
-    requires is { IsOfKind is_segment (nodes_in tree.now) segment }
+    requires kind { IsOfKind is_segment (nodes_in tree.now) segment }
     ensures { WritesOnOk W.write_str_gives f.old result
         (sign_text (option_map query_kind_view start)
-        ++ piece_text (piece_at (nodes_in tree.now) (number_of segment))) f.new }
+        ++ branch_text (branch_at (nodes_in tree.now) (number_of segment))) f.new }
 {
     match tree.node(segment) {
         Node::Segment { kind, segment } => match segment {
@@ -101,7 +101,7 @@ fn write_selectors<W: Write>(
     requires are { AreOfKind is_selector (nodes_in tree.now) selectors.now }
     ensures { WritesOnOk W.write_str_gives f.old result
         (opening_text opening ++ joined (codes ", ")
-        (map piece_text (pieces_named (pieces (nodes_in tree.now)) selectors.now))) f.new }
+        (map branch_text (branches_named (branches (nodes_in tree.now)) selectors.now))) f.new }
 {
     let [first, others @ ..] = selectors else {
         return f.write_str(opening.text());
@@ -124,10 +124,10 @@ fn write_selector<W: Write>(
     opening: Opening,
 ) -> fmt::Result
     requires within { number_of selector < length (nodes_in tree.now) }
-    requires is { IsOfKind is_selector (nodes_in tree.now) selector }
+    requires kind { IsOfKind is_selector (nodes_in tree.now) selector }
     ensures { WritesOnOk W.write_str_gives f.old result
         (opening_text opening
-        ++ piece_text (piece_at (nodes_in tree.now) (number_of selector))) f.new }
+        ++ branch_text (branch_at (nodes_in tree.now) (number_of selector))) f.new }
 {
     match tree.node(selector) {
         Node::Selector(selector) => match selector {
@@ -162,7 +162,7 @@ fn write_selector<W: Write>(
 fn write_part<W: Write>(f: &mut Formatter<W>, tree: &Checked, part: Part) -> fmt::Result
     requires within { number_of part < length (nodes_in tree.now) }
     ensures { WritesOnOk W.write_str_gives f.old result
-        (piece_text (piece_at (nodes_in tree.now) (number_of part))) f.new }
+        (branch_text (branch_at (nodes_in tree.now) (number_of part))) f.new }
 {
     match tree.node(part) {
         Node::Query { kind, segments } => write_path(f, tree, *kind, segments.as_slice()),
@@ -199,7 +199,7 @@ fn write_joined<W: Write>(
     requires within { parts_bound parts.now ≤ length (nodes_in tree.now) }
     ensures { WritesOnOk W.write_str_gives f.old result
         (joined separator.now
-        (map piece_text (pieces_named (pieces (nodes_in tree.now)) parts.now))) f.new }
+        (map branch_text (branches_named (branches (nodes_in tree.now)) parts.now))) f.new }
 {
     let [first, others @ ..] = parts else {
         return Ok(());
@@ -218,9 +218,9 @@ fn write_joined<W: Write>(
 #[inline(always)]
 fn write_basic<W: Write>(f: &mut Formatter<W>, tree: &Checked, basic: &Basic) -> fmt::Result
     requires within { parts_bound (basic_parts basic.now) ≤ length (nodes_in tree.now) }
-    requires fits { basic_fits (pieces (nodes_in tree.now)) basic.now ≡ true }
+    requires fits { basic_fits (branches (nodes_in tree.now)) basic.now ≡ true }
     ensures { WritesOnOk W.write_str_gives f.old result
-        (basic_text (basic_of (pieces (nodes_in tree.now)) basic.now)) f.new }
+        (basic_text (basic_of (branches (nodes_in tree.now)) basic.now)) f.new }
 {
     match basic {
         Basic::Paren(inner) => {
@@ -265,9 +265,9 @@ fn write_comparable<W: Write>(
     comparable: &Comparable,
 ) -> fmt::Result
     requires within { parts_bound (comparable_parts comparable.now) ≤ length (nodes_in tree.now) }
-    requires fits { comparable_fits (pieces (nodes_in tree.now)) comparable.now ≡ true }
+    requires fits { comparable_fits (branches (nodes_in tree.now)) comparable.now ≡ true }
     ensures { WritesOnOk W.write_str_gives f.old result
-        (comparable_text (comparable_of (pieces (nodes_in tree.now)) comparable.now)) f.new }
+        (comparable_text (comparable_of (branches (nodes_in tree.now)) comparable.now)) f.new }
 {
     match comparable {
         Comparable::Literal(literal) => write_literal(f, literal),
@@ -286,9 +286,9 @@ fn write_argument<W: Write>(
     argument: &Argument,
 ) -> fmt::Result
     requires within { parts_bound (argument_parts argument.now) ≤ length (nodes_in tree.now) }
-    requires fits { argument_fits (pieces (nodes_in tree.now)) argument.now ≡ true }
+    requires fits { argument_fits (branches (nodes_in tree.now)) argument.now ≡ true }
     ensures { WritesOnOk W.write_str_gives f.old result
-        (argument_text (argument_of (pieces (nodes_in tree.now)) argument.now)) f.new }
+        (argument_text (argument_of (branches (nodes_in tree.now)) argument.now)) f.new }
 {
     match argument {
         Argument::Literal(literal) => write_literal(f, literal),

@@ -1,7 +1,7 @@
 //! Singular queries (RFC 9535, section 2.3.5.1).
 
 ghost use Rattle.std.specs.Prelude.{◌<◌, ◌≤◌, ◌↔◌, IsTrue, [], ◌∷◌, length};
-ghost use Rattle.serde_json_path_syntax.specs.Words.{IsOfKind, is_query, part_query, pieces, segment_parts, segment_of, segments_at, selector_at, parts_bound};
+ghost use Rattle.serde_json_path_syntax.specs.Words.{IsOfKind, is_query, part_query, branches, segment_parts, segment_of, segments_at, selector_at, parts_bound};
 ghost use Rattle.serde_json_path_syntax.specs.Tree as tree;
 
 use crate::arena::Arena;
@@ -11,7 +11,7 @@ use crate::node::{Node, Part, Segment, SegmentKind, Selector};
 #[tactic(auto, using(crate::proofs::Tree::NamedParts::within_get))]
 pub(crate) fn is_singular(arena: &Arena, query: Part) -> bool
     requires within { query.number < length arena.now.nodes.items }
-    requires is { IsOfKind is_query arena.now.nodes.items query }
+    requires kind { IsOfKind is_query arena.now.nodes.items query }
     ensures { IsTrue result ↔ tree.IsSingular (part_query arena.now.nodes.items query) }
 {
     for segment in arena.segments(query) {
@@ -41,7 +41,7 @@ fn is_singular_segment(arena: &Arena, segment: Part) -> bool
 fn selects_one(arena: &Arena, segment: &Segment) -> bool
     requires { parts_bound (segment_parts segment.now) ≤ length arena.now.nodes.items }
     ensures { IsTrue result
-        ↔ tree.IsSingularSegment (segment_of (pieces arena.now.nodes.items) segment.now) }
+        ↔ tree.IsSingularSegment (segment_of (branches arena.now.nodes.items) segment.now) }
 {
     match segment {
         Segment::DotName(_) => true,

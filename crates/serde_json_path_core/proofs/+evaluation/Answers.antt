@@ -1,5 +1,5 @@
 use Rattle.std.proofs.Common.{◌≡◌, ◌+◌, length, map, take, [], drop, option_map, get_or, true, false, MatchOption, None, refl, sym, subst, ap, ◌∙◌, arith, ◌∷◌, ◌++◌, ◌⊎◌, inl, inr, rules, append_assoc, Option, Some, List, slice_get, ◌<◌}
-use Rattle.serde_json_path_core.proofs.Words.{slice_get_within, get_or_default, map-append, common_steps, option_map_or, length-set, ∥∥₁_map, iter_rest, Data, view, Located, node_value, Passes, child, descendant, cursor_left, segment_kind_view, segment_in, segments_at, piece_at, basic_at, comparable_at, call_at, part_query, pieces, operator_view, term_view, StandsIn, Sound, IsTypedAnd, AreTypedArguments, calls_in_and, name_of, arguments_of, nodes_of, top_of, frame_view, frames_view, admitted, rest_of, work, IsStack, IsStackIn, IsInside, selector_view, stage_at, stages_at, child_view, values_from, Bor, Value, IsIn, within_get, within_bound, below_length, past_length, signatures_of, params_of, Step, EndsIn, AllStandIn, FunctionSet, LogicalOr, filter, or_at, kind_view, query_of, set_of}
+use Rattle.serde_json_path_core.proofs.Words.{slice_get_within, get_or_default, map-append, common_steps, option_map_or, length-set, ∥∥₁_map, iter_rest, Data, view, Located, node_value, Passes, child, descendant, cursor_left, segment_kind_view, segment_in, segments_at, branch_at, basic_at, comparable_at, call_at, part_query, branches, operator_view, term_view, StandsIn, Sound, IsTypedAnd, AreTypedArguments, calls_in_and, name_of, arguments_of, nodes_of, top_of, frame_view, frames_view, admitted, rest_of, work, IsStack, IsStackIn, IsInside, selector_view, stage_at, stages_at, child_view, values_from, Bor, Value, IsIn, within_get, within_bound, below_length, past_length, signatures_of, params_of, Step, EndsIn, AllStandIn, FunctionSet, LogicalOr, filter, or_at, kind_view, query_of, set_of}
 use Rattle.serde_json_path_core.specs.declared.child.Child.{Child}
 use Rattle.serde_json_path_core.specs.Inside.Evaluates.{IsKept}
 use Rattle.serde_json_path_core.specs.Inside.Computed as computed
@@ -12,24 +12,24 @@ use Rattle.serde_json_path_core.proofs.Walks.Chains.{left_stands, entered-inside
 use Rattle.serde_json_path_core.proofs.Sound.{argument-calls, next-argument, sound-relation, sound-segment, sound-selector, sound-and, sound-basic, typed-arguments, parameters-known}
 use Rattle.serde_json_path_core.proofs.Walks.Turns.{sees_replaced, Came, came-dropped, came-entered, came-kept, came-node, came-start, came-turned, drop-some, drop-none, missing}
 use Rattle.serde_json_path_core.proofs.Walks.SingleChildren.{first-of-values}
-use Rattle.serde_json_path_core.proofs.+evaluation.Goals.{evaluation::frame::Frame::next_task-In-Some, evaluation::frame::Frame::next_task-In_default, evaluation::frame::Frame::next_task-After-next_admitted, evaluation::stack::find_next-After-next_task}
+use Rattle.serde_json_path_core.proofs.+evaluation.Goals.{evaluation::frame::Frame::next_arrival-In-Some, evaluation::frame::Frame::next_arrival-In_default, evaluation::frame::Frame::next_arrival-After-next_admitted, evaluation::stack::find_next-After-next_arrival}
 use Rattle.serde_json_path_core.proofs.+evaluation.Goals as goal
 
 -- ---- frames
 
 -- the selector of that number is the one at work
-at_work : (g : _) (t : _) (c : evaluation::frame::Frame::next_task-In-Some g t)
+at_work : (g : _) (t : _) (c : evaluation::frame::Frame::next_arrival-In-Some g t)
     → slice_get (stage_at (nodes_of c.args.scope.now) c.args.segment).selectors c.loop-selector_ref.self.selector ≡ Some (selector_view (nodes_of c.args.scope.now) c.in-Some.selector_ref)
 at_work g t c = sym (ap (option_map (selector_view (nodes_of c.args.scope.now))) (sym c.in-Some.is) ∙ c.selector_ref.ensures.selector_ref)
 
 -- no selector is left
-none_at_work : (g : _) (t : _) (c : evaluation::frame::Frame::next_task-In_default g t) → drop c.loop-selector_ref.self.selector (stage_at (nodes_of c.args.scope.now) c.args.segment).selectors ≡ []
+none_at_work : (g : _) (t : _) (c : evaluation::frame::Frame::next_arrival-In_default g t) → drop c.loop-selector_ref.self.selector (stage_at (nodes_of c.args.scope.now) c.args.segment).selectors ≡ []
 none_at_work g t c =
     let stage = stage_at (nodes_of c.args.scope.now) c.args.segment in
     drop-none stage.selectors c.loop-selector_ref.self.selector (missing (selector_view (nodes_of c.args.scope.now)) c.selector_ref.result _ c.in_default.not-Some c.selector_ref.ensures.selector_ref)
 
 -- the selector at work passes children that it does not admit
-skipped : (g : _) (t : _) (c : evaluation::frame::Frame::next_task-After-next_admitted g t) → slice_get (stage_at (nodes_of c.args.scope.now) c.args.segment).selectors c.loop-selector_ref.self.selector ≡ Some (selector_view (nodes_of c.args.scope.now) c.in-Some.selector_ref)
+skipped : (g : _) (t : _) (c : evaluation::frame::Frame::next_arrival-After-next_admitted g t) → slice_get (stage_at (nodes_of c.args.scope.now) c.args.segment).selectors c.loop-selector_ref.self.selector ≡ Some (selector_view (nodes_of c.args.scope.now) c.in-Some.selector_ref)
     → Passes (set_of c.args.scope.now) (top_of c.args.scope.now) (stage_at (nodes_of c.args.scope.now) c.args.segment) (frame_view c.args.self.now)
     (at_selector (frame_view c.loop-selector_ref.self) c.loop-selector_ref.self.selector (cursor_left c.next_admitted.new.cursor))
 skipped g t c here =
@@ -40,73 +40,73 @@ skipped g t c here =
     passes-skipped (set_of scope) (top_of scope) stage (frame_view c.args.self.now) mid sel (drop (mid.selector + 1) stage.selectors) (cursor_left c.next_admitted.new.cursor)
     c.loop-selector_ref.invariant.1 (drop-some stage.selectors mid.selector sel here) c.next_admitted.ensures.skips
 
-pub evaluation::frame::Frame::next_task-next_admitted-requires : goal.evaluation::frame::Frame::next_task-next_admitted-requires
-evaluation::frame::Frame::next_task-next_admitted-requires g t c =
+pub evaluation::frame::Frame::next_arrival-next_admitted-requires : goal.evaluation::frame::Frame::next_arrival-next_admitted-requires
+evaluation::frame::Frame::next_arrival-next_admitted-requires g t c =
     let scope = c.args.scope.now in
     let same = c.loop-selector_ref.invariant.1.0 in
-    let here = at_work g t (goal.at.evaluation::frame::Frame::next_task-next_admitted-requires g t c).In-Some in
-    let sound = sound-selector (set_of scope) (query_of scope) (segment_in (piece_at (nodes_of scope) c.args.segment.number)) c.loop-selector_ref.self.selector _ here c.requires.sound.1 in
+    let here = at_work g t (goal.at.evaluation::frame::Frame::next_arrival-next_admitted-requires g t c).In-Some in
+    let sound = sound-selector (set_of scope) (query_of scope) (segment_in (branch_at (nodes_of scope) c.args.segment.number)) c.loop-selector_ref.self.selector _ here c.requires.sound.1 in
     let inside = left_stands (top_of scope) (frame_view c.loop-selector_ref.self) (∥∥₁_map c.requires.inside (λ h. (subst (StandsIn (top_of scope)) (sym same.1) h.0, same.3 h.1))) in
     search rules
 
-pub evaluation::frame::Frame::next_task-loop-selector_ref-smaller : goal.evaluation::frame::Frame::next_task-loop-selector_ref-smaller
-evaluation::frame::Frame::next_task-loop-selector_ref-smaller g t c =
+pub evaluation::frame::Frame::next_arrival-loop-selector_ref-smaller : goal.evaluation::frame::Frame::next_arrival-loop-selector_ref-smaller
+evaluation::frame::Frame::next_arrival-loop-selector_ref-smaller g t c =
     let stage = stage_at (nodes_of c.args.scope.now) c.args.segment in
-    let within = slice_get_within stage.selectors c.loop-selector_ref.self.selector _ (at_work g t (goal.at.evaluation::frame::Frame::next_task-loop-selector_ref-smaller g t c).In-Some) in
+    let within = slice_get_within stage.selectors c.loop-selector_ref.self.selector _ (at_work g t (goal.at.evaluation::frame::Frame::next_arrival-loop-selector_ref-smaller g t c).In-Some) in
     omega arith
 
-pub evaluation::frame::Frame::next_task-loop-selector_ref-preserved : goal.evaluation::frame::Frame::next_task-loop-selector_ref-preserved
-evaluation::frame::Frame::next_task-loop-selector_ref-preserved g t c =
+pub evaluation::frame::Frame::next_arrival-loop-selector_ref-preserved : goal.evaluation::frame::Frame::next_arrival-loop-selector_ref-preserved
+evaluation::frame::Frame::next_arrival-loop-selector_ref-preserved g t c =
     let scope = c.args.scope.now in
     let stage = stage_at (nodes_of scope) c.args.segment in
     let sel = selector_view (nodes_of scope) c.in-Some.selector_ref in
     let mid = frame_view c.loop-selector_ref.self in
     let left = cursor_left c.next_admitted.new.cursor in
-    let here = drop-some stage.selectors mid.selector sel (at_work g t (goal.at.evaluation::frame::Frame::next_task-loop-selector_ref-preserved g t c).In-Some) in
+    let here = drop-some stage.selectors mid.selector sel (at_work g t (goal.at.evaluation::frame::Frame::next_arrival-loop-selector_ref-preserved g t c).In-Some) in
     let none : admitted (set_of scope) (top_of scope) sel mid.left ≡ [] = c.next_admitted.ensures.skips.0 ∙ found-none _ _ _ (ap (option_map child_view) c.in-None.is) c.in_ok-child.ensures.found in
     (c.loop-selector_ref.invariant.0, passes-over (set_of scope) (top_of scope) stage (frame_view c.args.self.now) mid sel (cursor_left c.open-self.result) c.loop-selector_ref.invariant.1 here none c.open-self.ensures)
 
-pub evaluation::frame::Frame::next_task-returns-in_err-child-clause-passes : goal.evaluation::frame::Frame::next_task-returns-in_err-child-clause-passes
-evaluation::frame::Frame::next_task-returns-in_err-child-clause-passes g t c =
-    let at = goal.at.evaluation::frame::Frame::next_task-returns-in_err-child-clause-passes g t c in
+pub evaluation::frame::Frame::next_arrival-returns-in_err-child-clause-passes : goal.evaluation::frame::Frame::next_arrival-returns-in_err-child-clause-passes
+evaluation::frame::Frame::next_arrival-returns-in_err-child-clause-passes g t c =
+    let at = goal.at.evaluation::frame::Frame::next_arrival-returns-in_err-child-clause-passes g t c in
     skipped g t at.After-next_admitted (at_work g t at.In-Some)
 
-pub evaluation::frame::Frame::next_task-returns-in-Some-2-clause-passes : goal.evaluation::frame::Frame::next_task-returns-in-Some-2-clause-passes
-evaluation::frame::Frame::next_task-returns-in-Some-2-clause-passes g t c =
-    let at = goal.at.evaluation::frame::Frame::next_task-returns-in-Some-2-clause-passes g t c in
+pub evaluation::frame::Frame::next_arrival-returns-in-Some-2-clause-passes : goal.evaluation::frame::Frame::next_arrival-returns-in-Some-2-clause-passes
+evaluation::frame::Frame::next_arrival-returns-in-Some-2-clause-passes g t c =
+    let at = goal.at.evaluation::frame::Frame::next_arrival-returns-in-Some-2-clause-passes g t c in
     skipped g t at.After-next_admitted (at_work g t at.In-Some)
 
-pub evaluation::frame::Frame::next_task-returns-in-Some-2-clause-found : goal.evaluation::frame::Frame::next_task-returns-in-Some-2-clause-found
-evaluation::frame::Frame::next_task-returns-in-Some-2-clause-found g t c =
+pub evaluation::frame::Frame::next_arrival-returns-in-Some-2-clause-found : goal.evaluation::frame::Frame::next_arrival-returns-in-Some-2-clause-found
+evaluation::frame::Frame::next_arrival-returns-in-Some-2-clause-found g t c =
     let scope = c.args.scope.now in
     let stage = stage_at (nodes_of scope) c.args.segment in
     let sel = selector_view (nodes_of scope) c.in-Some.selector_ref in
     let mid = frame_view c.loop-selector_ref.self in
     let left = cursor_left c.next_admitted.new.cursor in
-    let here = drop-some stage.selectors mid.selector sel (at_work g t (goal.at.evaluation::frame::Frame::next_task-returns-in-Some-2-clause-found g t c).In-Some) in
+    let here = drop-some stage.selectors mid.selector sel (at_work g t (goal.at.evaluation::frame::Frame::next_arrival-returns-in-Some-2-clause-found g t c).In-Some) in
     at-onward (set_of scope) (top_of scope) stage (at_selector mid mid.selector left) sel (drop (mid.selector + 1) stage.selectors) (child_view c.in-Some-2.child) here
     (found-some _ _ _ (child_view c.in-Some-2.child) (ap (option_map child_view) c.in-Some-2.is) c.in_ok-child.ensures.found)
 
-pub evaluation::frame::Frame::next_task-returns-in-Child-clause-found : goal.evaluation::frame::Frame::next_task-returns-in-Child-clause-found
-evaluation::frame::Frame::next_task-returns-in-Child-clause-found g t c =
+pub evaluation::frame::Frame::next_arrival-returns-in-Child-clause-found : goal.evaluation::frame::Frame::next_arrival-returns-in-Child-clause-found
+evaluation::frame::Frame::next_arrival-returns-in-Child-clause-found g t c =
     let scope = c.args.scope.now in
     let stage = stage_at (nodes_of scope) c.args.segment in
-    let here = none_at_work g t (goal.at.evaluation::frame::Frame::next_task-returns-in-Child-clause-found g t c).In_default in
+    let here = none_at_work g t (goal.at.evaluation::frame::Frame::next_arrival-returns-in-Child-clause-found g t c).In_default in
     done (set_of scope) (top_of scope) stage (frame_view c.loop-selector_ref.self) here
     (λ kind. let no : child ≡ descendant = sym (ap segment_kind_view c.in-Child.is) ∙ c.segment_kind.ensures ∙ kind in absurd cc)
 
-pub evaluation::frame::Frame::next_task-returns-in-None-peek-clause-found : goal.evaluation::frame::Frame::next_task-returns-in-None-peek-clause-found
-evaluation::frame::Frame::next_task-returns-in-None-peek-clause-found g t c =
+pub evaluation::frame::Frame::next_arrival-returns-in-None-peek-clause-found : goal.evaluation::frame::Frame::next_arrival-returns-in-None-peek-clause-found
+evaluation::frame::Frame::next_arrival-returns-in-None-peek-clause-found g t c =
     let scope = c.args.scope.now in
     let stage = stage_at (nodes_of scope) c.args.segment in
-    let here = none_at_work g t (goal.at.evaluation::frame::Frame::next_task-returns-in-None-peek-clause-found g t c).In_default in
+    let here = none_at_work g t (goal.at.evaluation::frame::Frame::next_arrival-returns-in-None-peek-clause-found g t c).In_default in
     done (set_of scope) (top_of scope) stage (frame_view c.loop-selector_ref.self) here (λ kind. c.in-None-peek.ensures)
 
-pub evaluation::frame::Frame::next_task-returns-in-Some-peek-clause-found : goal.evaluation::frame::Frame::next_task-returns-in-Some-peek-clause-found
-evaluation::frame::Frame::next_task-returns-in-Some-peek-clause-found g t c =
+pub evaluation::frame::Frame::next_arrival-returns-in-Some-peek-clause-found : goal.evaluation::frame::Frame::next_arrival-returns-in-Some-peek-clause-found
+evaluation::frame::Frame::next_arrival-returns-in-Some-peek-clause-found g t c =
     let scope = c.args.scope.now in
     let stage = stage_at (nodes_of scope) c.args.segment in
-    let here = none_at_work g t (goal.at.evaluation::frame::Frame::next_task-returns-in-Some-peek-clause-found g t c).In_default in
+    let here = none_at_work g t (goal.at.evaluation::frame::Frame::next_arrival-returns-in-Some-peek-clause-found g t c).In_default in
     at-downward (set_of scope) (top_of scope) stage (frame_view c.loop-selector_ref.self) (child_view c.in-Some-peek.child) here (sym c.segment_kind.ensures ∙ ap segment_kind_view c.in-Descendant.is)
     c.in-Some-peek.ensures
 
@@ -179,8 +179,8 @@ evaluation::frame::next_holding-any_holds-requires g t c =
 
 -- ---- the stack
 
-pub evaluation::stack::find_next-next_task-requires : goal.evaluation::stack::find_next-next_task-requires
-evaluation::stack::find_next-next_task-requires g t c =
+pub evaluation::stack::find_next-next_arrival-requires : goal.evaluation::stack::find_next-next_arrival-requires
+evaluation::stack::find_next-next_arrival-requires g t c =
     let scope = c.args.scope.now in
     let nodes = nodes_of scope in
     let frames = c.loop-last.frames in
@@ -197,7 +197,7 @@ evaluation::stack::find_next-next_task-requires g t c =
     let within = below_length _ _ look.0 in
     let number = ap (λ f. (frame_view f).segment) same in
     let below = within_bound c.args.segments.now seen.segment segment within look.1 in
-    let sound = sound-segment (set_of scope) (query_of scope) (pieces nodes) c.args.segments.now seen.segment segment within look.1 c.requires.sound in
+    let sound = sound-segment (set_of scope) (query_of scope) (branches nodes) c.args.segments.now seen.segment segment within look.1 c.requires.sound in
     let views = (sees_replaced items n old old long c.index_mut.ensures.value).0 in
     let inside : ∥ IsInside (top_of scope) (frame_view old) ∥₁ =
     ∥∥₁_map c.requires.inside (λ h. stack-inside (top_of scope) h.0 (frames_view (take n items)) (frame_view old) h.1 (subst (IsStack h.0) views (c.loop-last.invariant.2 h.0 h.2))) in
@@ -214,9 +214,9 @@ evaluation::stack::find_next-returns-in-None-clause-found g t c =
           (ap (λ f. (frame_view f).value) (c.index.ensures ∙ get_or_default items c.in-Some.last _ _ (omega arith) ∙ sym c.index-in-None.ensures)),
     )
 
-came_by : (g : _) (t : _) (c : evaluation::stack::find_next-After-next_task g t)
+came_by : (g : _) (t : _) (c : evaluation::stack::find_next-After-next_arrival g t)
     → Came (set_of c.args.scope.now) (top_of c.args.scope.now) (nodes_of c.args.scope.now) c.args.segments.now
-    c.loop-last.frames.items c.in-Some.last c.index.result.now c.index_mut.result.now c.next_task.new.self c.in-Some-get.segment.now
+    c.loop-last.frames.items c.in-Some.last c.index.result.now c.index_mut.result.now c.next_arrival.new.self c.in-Some-get.segment.now
 came_by g t c =
     let some = c.in-Some.ensures in
     let len = c.len.ensures ∙ c.loop-last.frames.ok.0 in
@@ -227,48 +227,48 @@ came_by g t c =
       old_is = c.index_mut.ensures.value;
       within = below_length _ _ look.0;
       at = look.1;
-      passes = c.next_task.ensures.passes;
+      passes = c.next_arrival.ensures.passes;
     }
 
-pub evaluation::stack::find_next-returns-in_err-next_task-in-Some-get-clause-kept : goal.evaluation::stack::find_next-returns-in_err-next_task-in-Some-get-clause-kept
-evaluation::stack::find_next-returns-in_err-next_task-in-Some-get-clause-kept g t c =
-    let came = came_by g t (goal.at.evaluation::stack::find_next-returns-in_err-next_task-in-Some-get-clause-kept g t c).After-next_task in
+pub evaluation::stack::find_next-returns-in_err-next_arrival-in-Some-get-clause-kept : goal.evaluation::stack::find_next-returns-in_err-next_arrival-in-Some-get-clause-kept
+evaluation::stack::find_next-returns-in_err-next_arrival-in-Some-get-clause-kept g t c =
+    let came = came_by g t (goal.at.evaluation::stack::find_next-returns-in_err-next_arrival-in-Some-get-clause-kept g t c).After-next_arrival in
     came-kept came _ c.loop-last.invariant
 
 pub evaluation::stack::find_next-returns-in_err-enter-in-Some-2-clause-kept : goal.evaluation::stack::find_next-returns-in_err-enter-in-Some-2-clause-kept
 evaluation::stack::find_next-returns-in_err-enter-in-Some-2-clause-kept g t c =
-    let came = came_by g t (goal.at.evaluation::stack::find_next-returns-in_err-enter-in-Some-2-clause-kept g t c).After-next_task in
+    let came = came_by g t (goal.at.evaluation::stack::find_next-returns-in_err-enter-in-Some-2-clause-kept g t c).After-next_arrival in
     subst (IsKept c.args.scope.now c.args.segments.now (frames_view c.args.frames.now.items)) (ap frames_view (sym c.in_err-enter-in-Some-2.ensures.unchanged)) (came-kept came _ c.loop-last.invariant)
 
-pub evaluation::stack::find_next-returns-then-task-segments-clause-kept : goal.evaluation::stack::find_next-returns-then-task-segments-clause-kept
-evaluation::stack::find_next-returns-then-task-segments-clause-kept g t c =
-    let came = came_by g t (goal.at.evaluation::stack::find_next-returns-then-task-segments-clause-kept g t c).After-next_task in
+pub evaluation::stack::find_next-returns-then-arrival-segments-clause-kept : goal.evaluation::stack::find_next-returns-then-arrival-segments-clause-kept
+evaluation::stack::find_next-returns-then-arrival-segments-clause-kept g t c =
+    let came = came_by g t (goal.at.evaluation::stack::find_next-returns-then-arrival-segments-clause-kept g t c).After-next_arrival in
     came-kept came _ c.loop-last.invariant
 
-pub evaluation::stack::find_next-returns-then-task-segments-clause-found : goal.evaluation::stack::find_next-returns-then-task-segments-clause-found
-evaluation::stack::find_next-returns-then-task-segments-clause-found g t c =
-    let came = came_by g t (goal.at.evaluation::stack::find_next-returns-then-task-segments-clause-found g t c).After-next_task in
-    (omega (arith, length-set c.loop-last.frames.items c.in-Some.last c.next_task.new.self), came-node came c.in-Some-2.is c.in_ok-next_task-in-Some-get.ensures.found (omega arith))
+pub evaluation::stack::find_next-returns-then-arrival-segments-clause-found : goal.evaluation::stack::find_next-returns-then-arrival-segments-clause-found
+evaluation::stack::find_next-returns-then-arrival-segments-clause-found g t c =
+    let came = came_by g t (goal.at.evaluation::stack::find_next-returns-then-arrival-segments-clause-found g t c).After-next_arrival in
+    (omega (arith, length-set c.loop-last.frames.items c.in-Some.last c.next_arrival.new.self), came-node came c.in-Some-2.is c.in_ok-next_arrival-in-Some-get.ensures.found (omega arith))
 
 pub evaluation::stack::find_next-loop-last-smaller-in-None-2 : goal.evaluation::stack::find_next-loop-last-smaller-in-None-2
 evaluation::stack::find_next-loop-last-smaller-in-None-2 g t c =
-    let came = came_by g t (goal.at.evaluation::stack::find_next-loop-last-smaller-in-None-2 g t c).After-next_task in
-    (came-dropped came c.in-None-2.is c.in_ok-next_task-in-Some-get.ensures.found c.truncate.ensures.items).1
+    let came = came_by g t (goal.at.evaluation::stack::find_next-loop-last-smaller-in-None-2 g t c).After-next_arrival in
+    (came-dropped came c.in-None-2.is c.in_ok-next_arrival-in-Some-get.ensures.found c.truncate.ensures.items).1
 
 pub evaluation::stack::find_next-loop-last-preserved-in-None-2 : goal.evaluation::stack::find_next-loop-last-preserved-in-None-2
 evaluation::stack::find_next-loop-last-preserved-in-None-2 g t c =
-    let came = came_by g t (goal.at.evaluation::stack::find_next-loop-last-preserved-in-None-2 g t c).After-next_task in
-    came-turned came _ _ c.loop-last.invariant (came-dropped came c.in-None-2.is c.in_ok-next_task-in-Some-get.ensures.found c.truncate.ensures.items)
+    let came = came_by g t (goal.at.evaluation::stack::find_next-loop-last-preserved-in-None-2 g t c).After-next_arrival in
+    came-turned came _ _ c.loop-last.invariant (came-dropped came c.in-None-2.is c.in_ok-next_arrival-in-Some-get.ensures.found c.truncate.ensures.items)
 
 pub evaluation::stack::find_next-loop-last-smaller : goal.evaluation::stack::find_next-loop-last-smaller
 evaluation::stack::find_next-loop-last-smaller g t c =
-    let came = came_by g t (goal.at.evaluation::stack::find_next-loop-last-smaller g t c).After-next_task in
-    (came-entered came c.in-Some-2.is c.in_ok-next_task-in-Some-get.ensures.found (omega arith) c.in_ok-enter-in-Some-2.ensures.ok).1
+    let came = came_by g t (goal.at.evaluation::stack::find_next-loop-last-smaller g t c).After-next_arrival in
+    (came-entered came c.in-Some-2.is c.in_ok-next_arrival-in-Some-get.ensures.found (omega arith) c.in_ok-enter-in-Some-2.ensures.ok).1
 
 pub evaluation::stack::find_next-loop-last-preserved : goal.evaluation::stack::find_next-loop-last-preserved
 evaluation::stack::find_next-loop-last-preserved g t c =
-    let came = came_by g t (goal.at.evaluation::stack::find_next-loop-last-preserved g t c).After-next_task in
-    came-turned came _ _ c.loop-last.invariant (came-entered came c.in-Some-2.is c.in_ok-next_task-in-Some-get.ensures.found (omega arith) c.in_ok-enter-in-Some-2.ensures.ok)
+    let came = came_by g t (goal.at.evaluation::stack::find_next-loop-last-preserved g t c).After-next_arrival in
+    came-turned came _ _ c.loop-last.invariant (came-entered came c.in-Some-2.is c.in_ok-next_arrival-in-Some-get.ensures.found (omega arith) c.in_ok-enter-in-Some-2.ensures.ok)
 
 -- ---- queries in expressions
 
@@ -306,8 +306,8 @@ filter::query::all_from-values-init g t c =
       inside = ∣ entered-inside (top_of scope) (view c.args.value.now) all frames c.requires.inside c.in_ok-frames.ensures ∣₁;
     }
 
-pub filter::query::all_from-pass_found-requires : goal.filter::query::all_from-pass_found-requires
-filter::query::all_from-pass_found-requires g t c = (found-some _ _ c.in_ok-node.field-0 c.in-Some.node c.in-Some.is c.in_ok-node.ensures.found).0
+pub filter::query::all_from-pass_node-requires : goal.filter::query::all_from-pass_node-requires
+filter::query::all_from-pass_node-requires g t c = (found-some _ _ c.in_ok-node.field-0 c.in-Some.node c.in-Some.is c.in_ok-node.ensures.found).0
 
 pub filter::query::all_from-values-smaller : goal.filter::query::all_from-values-smaller
 filter::query::all_from-values-smaller g t c =
@@ -315,7 +315,7 @@ filter::query::all_from-values-smaller g t c =
     let all = stages_at (nodes_of scope) c.args.segments.now in
     let node = c.in-Some.node in
     let at = found-some _ _ c.in_ok-node.field-0 node c.in-Some.is c.in_ok-node.ensures.found in
-    let fewer = subst (λ left. work all left < work all (frames_view c.find_next.new.frames.items)) (sym c.pass_found.ensures) at.1.1 in
+    let fewer = subst (λ left. work all left < work all (frames_view c.find_next.new.frames.items)) (sym c.pass_node.ensures) at.1.1 in
     let less = c.find_next.ensures.kept.1 in
     omega arith
 
@@ -325,14 +325,14 @@ filter::query::all_from-values-preserved g t c =
     let all = stages_at (nodes_of scope) c.args.segments.now in
     let node = c.in-Some.node in
     let at = found-some _ _ c.in_ok-node.field-0 node c.in-Some.is c.in_ok-node.ensures.found in
-    let left = map (λ (n : Located). n.value) (rest_of (set_of scope) (top_of scope) all (frames_view c.pass_found.new.frames.items)) in
+    let left = map (λ (n : Located). n.value) (rest_of (set_of scope) (top_of scope) all (frames_view c.pass_node.new.frames.items)) in
     let found = map node_value c.values.found.items in
     record {
       values =
           c.values.invariant.values
-          ∙ rw (c.find_next.ensures.kept.0, at.1.0, sym c.pass_found.ensures, c.in_ok-push.ensures.items, map-append node_value c.values.found.items (node.value ∷ []))
+          ∙ rw (c.find_next.ensures.kept.0, at.1.0, sym c.pass_node.ensures, c.in_ok-push.ensures.items, map-append node_value c.values.found.items (node.value ∷ []))
           (sym (append_assoc found (view node.value.now ∷ []) left));
-      inside = ∥∥₁_map c.values.invariant.inside (λ h. (h.0, h.1, subst (IsStack h.0) (sym c.pass_found.ensures) (at.1.2 h.0 (c.find_next.ensures.kept.2 h.0 h.2))));
+      inside = ∥∥₁_map c.values.invariant.inside (λ h. (h.0, h.1, subst (IsStack h.0) (sym c.pass_node.ensures) (at.1.2 h.0 (c.find_next.ensures.kept.2 h.0 h.2))));
     }
 
 pub filter::query::first-returns-in-None : goal.filter::query::first-returns-in-None
@@ -355,7 +355,7 @@ filter::logic::any_holds-and_holds-requires g t c =
     let parts = c.args.operands.now in
     let i = c.loop-operand.operand-index in
     let below = within_get parts i (record { number = 0 }) c.loop-operand-test.true in
-    let sound = sound-and (set_of scope) (query_of scope) (pieces (nodes_of scope)) parts i (record { number = 0 }) c.loop-operand-test.true c.requires.sound in
+    let sound = sound-and (set_of scope) (query_of scope) (branches (nodes_of scope)) parts i (record { number = 0 }) c.loop-operand-test.true c.requires.sound in
     search rules
 
 pub filter::logic::and_holds-basic_holds-requires : goal.filter::logic::and_holds-basic_holds-requires
@@ -365,7 +365,7 @@ filter::logic::and_holds-basic_holds-requires g t c =
     let i = c.loop-part.part-index in
     let below = within_get parts i (record { number = 0 }) c.loop-part-test.true in
     let sound =
-    sound-basic (set_of scope) (query_of scope) (pieces (nodes_of scope)) parts i (record { number = 0 }) c.loop-part-test.true
+    sound-basic (set_of scope) (query_of scope) (branches (nodes_of scope)) parts i (record { number = 0 }) c.loop-part-test.true
     (c.and_parts-part-items.ensures.are, subst (Sound scope IsTypedAnd calls_in_and) c.and_parts-part-items.ensures.tree c.requires.sound.1) in
     search rules
 
@@ -397,13 +397,13 @@ filter::call::answer-loop-argument-init g t c =
 pub filter::call::answer-argument_as-requires : goal.filter::call::answer-argument_as-requires
 filter::call::answer-argument_as-requires g t c =
     let scope = c.args.scope.now in
-    let next = next-argument (query_of scope) (pieces (nodes_of scope)) (iter_rest c.loop-argument.argument-iterator.a) c.in-Some.argument.now (iter_rest c.next.new.self.a) (search rules) (c.loop-argument.invariant.are, c.loop-argument.invariant.sound.1) in
+    let next = next-argument (query_of scope) (branches (nodes_of scope)) (iter_rest c.loop-argument.argument-iterator.a) c.in-Some.argument.now (iter_rest c.next.new.self.a) (search rules) (c.loop-argument.invariant.are, c.loop-argument.invariant.sound.1) in
     search rules
 
 pub filter::call::answer-loop-argument-preserved : goal.filter::call::answer-loop-argument-preserved
 filter::call::answer-loop-argument-preserved g t c =
     let scope = c.args.scope.now in
-    let next = next-argument (query_of scope) (pieces (nodes_of scope)) (iter_rest c.loop-argument.argument-iterator.a) c.in-Some.argument.now (iter_rest c.next.new.self.a) (search rules) (c.loop-argument.invariant.are, c.loop-argument.invariant.sound.1) in
+    let next = next-argument (query_of scope) (branches (nodes_of scope)) (iter_rest c.loop-argument.argument-iterator.a) c.in-Some.argument.now (iter_rest c.next.new.self.a) (search rules) (c.loop-argument.invariant.are, c.loop-argument.invariant.sound.1) in
     record {
       below = grind (arith, common_steps);
       are = next.1.0;
@@ -423,7 +423,7 @@ filter::call::answer-returns-clause-computes g t c =
     let kinds = iter_rest c.loop-argument.argument-iterator.b in
     let given = map term_view c.loop-argument.given.items in
     let over : (length parts ≡ 0) ⊎ (length kinds ≡ 0) = elim c.in-None.ensures.steps [ inl h ↦ inl h.1.0 | inr h ↦ inr h.1.0 ] in
-    let all = given-all F (top_of scope) (pieces (nodes_of scope)) parts kinds v given _ over c.loop-argument.invariant.means in
+    let all = given-all F (top_of scope) (branches (nodes_of scope)) parts kinds v given _ over c.loop-argument.invariant.means in
     record {
       means = answered F (top_of scope) asked name v given c.call.result c.requires.sound.1.0 c.called_name-name.ensures all c.call.ensures.means;
       refused =

@@ -1,5 +1,5 @@
 use Rattle.std.proofs.Common.{◌≡◌, ◌+◌, ◌-◌, ◌*◌, ◌≤◌, ◌++◌, drop, length, map, max}
-use Rattle.serde_json_path_core.proofs.Words.{AreOfKind, is_argument, iter_rest, view, Located, node_value, kind_of_term, term_view, arguments_of, calls_in_arguments, name_of, AreTypedArguments, params_of, and_at, ands_in, arguments_in, call_at, pieces, pieces_named, segments_at, parts_bound, selector_bound, cursor_left, rest_of, work, IsStackIn, Passes, values_from, stage_at, stages_at, Sound, nodes_of, top_of, frame_view, frames_view, kind_view, form_bound, any_holds, IsKept, set_of}
+use Rattle.serde_json_path_core.proofs.Words.{AreOfKind, is_argument, iter_rest, view, Located, node_value, kind_of_term, term_view, arguments_of, calls_in_arguments, name_of, AreTypedArguments, params_of, and_at, ands_in, arguments_in, call_at, branches, branches_named, segments_at, parts_bound, selector_bound, cursor_left, rest_of, work, IsStackIn, Passes, values_from, stage_at, stages_at, Sound, nodes_of, top_of, frame_view, frames_view, kind_view, form_bound, any_holds, IsKept, set_of}
 use Rattle.serde_json_path_core.specs.Inside.Computed as computed
 use Rattle.serde_json_path_core.specs.Inside.Evaluates.{Skips}
 use Rattle.serde_json_path_syntax.specs.declared.selector_ref.SelectorRef.TheVariants.{Filter}
@@ -62,8 +62,8 @@ decreases-filter::call::result_as g l = 8 * l.query.number + 7
 abbrev pub decreases-evaluation::stack::find_next : goal.decreases-evaluation::stack::find_next
 decreases-evaluation::stack::find_next g l = 8 * parts_bound l.segments.now + 4
 
-abbrev pub decreases-evaluation::frame::Frame::next_task : goal.decreases-evaluation::frame::Frame::next_task
-decreases-evaluation::frame::Frame::next_task g l = 8 * l.segment.number + 6
+abbrev pub decreases-evaluation::frame::Frame::next_arrival : goal.decreases-evaluation::frame::Frame::next_arrival
+decreases-evaluation::frame::Frame::next_arrival g l = 8 * l.segment.number + 6
 
 abbrev pub decreases-evaluation::frame::next_admitted : goal.decreases-evaluation::frame::next_admitted
 decreases-evaluation::frame::next_admitted g l = 8 * selector_bound l.selector_ref + 3
@@ -81,14 +81,14 @@ invariant-filter::logic::any_holds-loop-operand g l =
 abbrev pub invariant-filter::logic::and_holds-loop-part : goal.invariant-filter::logic::and_holds-loop-part
 invariant-filter::logic::and_holds-loop-part g l =
     computed.all_true (set_of l.fn.scope) (top_of l.fn.scope) (and_at (nodes_of l.fn.scope) l.fn.expression) (view l.fn.current)
-    ≡ computed.all_true (set_of l.scope) (top_of l.scope) (ands_in (pieces_named (pieces (nodes_of l.scope)) (drop l.part-index l.part-items))) (view l.current)
+    ≡ computed.all_true (set_of l.scope) (top_of l.scope) (ands_in (branches_named (branches (nodes_of l.scope)) (drop l.part-index l.part-items))) (view l.current)
 
-abbrev pub invariant-evaluation::frame::Frame::next_task-loop-selector_ref : goal.invariant-evaluation::frame::Frame::next_task-loop-selector_ref
-invariant-evaluation::frame::Frame::next_task-loop-selector_ref g l =
+abbrev pub invariant-evaluation::frame::Frame::next_arrival-loop-selector_ref : goal.invariant-evaluation::frame::Frame::next_arrival-loop-selector_ref
+invariant-evaluation::frame::Frame::next_arrival-loop-selector_ref g l =
     (l.self.segment ≡ l.fn.self.segment) × Passes (set_of l.scope) (top_of l.scope) (stage_at (nodes_of l.scope) l.segment) (frame_view l.fn.self) (frame_view l.self)
 
-abbrev pub decreases-evaluation::frame::Frame::next_task-loop-selector_ref : goal.decreases-evaluation::frame::Frame::next_task-loop-selector_ref
-decreases-evaluation::frame::Frame::next_task-loop-selector_ref g l = length (stage_at (nodes_of l.scope) l.segment).selectors - l.self.selector
+abbrev pub decreases-evaluation::frame::Frame::next_arrival-loop-selector_ref : goal.decreases-evaluation::frame::Frame::next_arrival-loop-selector_ref
+decreases-evaluation::frame::Frame::next_arrival-loop-selector_ref g l = length (stage_at (nodes_of l.scope) l.segment).selectors - l.self.selector
 
 abbrev pub invariant-evaluation::frame::next_passing-loop-child : goal.invariant-evaluation::frame::next_passing-loop-child
 invariant-evaluation::frame::next_passing-loop-child g l = Skips l.scope (Filter l.fn.test) (cursor_left l.fn.cursor) (cursor_left l.cursor)
@@ -125,7 +125,7 @@ invariant-filter::call::answer-loop-argument g l =
     let call = call_at (nodes_of l.scope) l.fn.call in
     let parts = iter_rest l.argument-iterator.a in
     let kinds = map kind_view (iter_rest l.argument-iterator.b) in
-    let left = arguments_in (pieces_named (pieces (nodes_of l.scope)) parts) in
+    let left = arguments_in (branches_named (branches (nodes_of l.scope)) parts) in
     let given = map term_view l.given.items in
     record {
       below : parts_bound parts ≤ l.fn.call.number;

@@ -1,6 +1,6 @@
 -- A call of a set answers what is computed, and is refused for its pattern only where it goes by one.
 use Rattle.std.proofs.Common.{◌≡◌, ◌⊎◌, ℕ, List, [], ◌∷◌, ◌++◌, length, map, inl, inr, Result, Ok, Err, IfOk, IfErr, refl, sym, ap, subst, ◌∙◌}
-use Rattle.serde_json_path_core.proofs.Words.{append-nil, Data, Query, Call, call, Term, FunctionSet, term_view, params_of, IsTypedCall, AreTypedArguments, CallsByPattern, StandsIn, IsSound, arguments_of, calls_from, name_of, answer, arguments, Piece, arguments_in, pieces_named, Part, kind_view}
+use Rattle.serde_json_path_core.proofs.Words.{append-nil, Data, Query, Call, call, Term, FunctionSet, term_view, params_of, IsTypedCall, AreTypedArguments, CallsByPattern, StandsIn, IsSound, arguments_of, calls_from, name_of, answer, arguments, Branch, arguments_in, branches_named, Part, kind_view}
 use Rattle.serde_json_path_functions.specs.Patterns.{MayRefuse}
 use Rattle.serde_json_path_functions.specs.declared.error.QueryError.{QueryError}
 use Rattle.serde_json_path_functions.specs.declared.error.QueryError.TheVariants.{Pattern}
@@ -12,15 +12,15 @@ use Rattle.serde_json_path_core.proofs.Meaning.Derived.{arguments_right}
 
 module _ (F : FunctionSet) (top : Data) where
   -- where no argument is left, or no parameter, nothing is left to give
-  none-left : (ps : List Piece) (parts : List Part) (kinds : List FunctionArgType) (v : Data) → (length parts ≡ 0) ⊎ (length kinds ≡ 0)
-      → arguments F top (arguments_in (pieces_named ps parts)) (map kind_view kinds) v ≡ []
+  none-left : (ps : List Branch) (parts : List Part) (kinds : List FunctionArgType) (v : Data) → (length parts ≡ 0) ⊎ (length kinds ≡ 0)
+      → arguments F top (arguments_in (branches_named ps parts)) (map kind_view kinds) v ≡ []
   none-left ps [] kinds v h = refl
   none-left ps (part ∷ parts) [] v h = refl
   none-left ps (part ∷ parts) (kind ∷ kinds) v h = absurd (elim h [ inl e ↦ cc | inr e ↦ cc ])
 
   -- then what is given are all arguments
-  pub given-all : (ps : List Piece) (parts : List Part) (kinds : List FunctionArgType) (v : Data) (given all : List Term) → (length parts ≡ 0) ⊎ (length kinds ≡ 0)
-      → all ≡ given ++ arguments F top (arguments_in (pieces_named ps parts)) (map kind_view kinds) v → given ≡ all
+  pub given-all : (ps : List Branch) (parts : List Part) (kinds : List FunctionArgType) (v : Data) (given all : List Term) → (length parts ≡ 0) ⊎ (length kinds ≡ 0)
+      → all ≡ given ++ arguments F top (arguments_in (branches_named ps parts)) (map kind_view kinds) v → given ≡ all
   given-all ps parts kinds v given all h e = sym (e ∙ ap (λ more. given ++ more) (none-left ps parts kinds v h) ∙ append-nil given)
 
   pub answered : {E : Type 0} (c : Call) (name : List ℕ) (v : Data) (given : List Term) (r : Result FunctionValue E) → IsTypedCall F.signature c → name ≡ name_of c

@@ -1,6 +1,6 @@
 -- What the code looks up: names of a map in order, operands, and known cases.
 use Rattle.std.proofs.Common.{◌≡◌, Option, Some, None, MatchOption, Result, Ok, Err, IfErr, subst, List, ◌∷◌, Bool, true, false, ap, [], String, Global, Less, string_cmp, string_bytes, ◌<◌, ◌≤◌, length, slice_index_or, ◌&&◌, ◌||◌, refl, ◌∙◌, arith, ℕ, get_or, ℤ, option_and_then, option_map, Equal, nat_cmp, is_eq, sym}
-use Rattle.serde_json_path_core.proofs.Words.{AllByRecursion, keys_of, members_view, Entry, in_order, Data, FunctionSet, LogicalOr, no_or, or, no_and, and, relation, Comparable, Operator, and_in, ands_in, basic_in, ors_in, piece_in, pieces_named, Piece, Part, compare_sides, compared, is_true, slice_cmp, is_at, lookup, is_eq-slice_cmp, bytes_eq-Decides, object, array, view, items_view, Value, view-lookup, get_item_within, get_item_past, items_len-items_view, Step, by_name, by_position, child_by, item_at, position_in}
+use Rattle.serde_json_path_core.proofs.Words.{AllByRecursion, keys_of, members_view, Entry, in_order, Data, FunctionSet, LogicalOr, no_or, or, no_and, and, relation, Comparable, Operator, and_in, ands_in, basic_in, ors_in, branch_in, branches_named, Branch, Part, compare_sides, compared, is_true, slice_cmp, is_at, lookup, is_eq-slice_cmp, bytes_eq-Decides, object, array, view, items_view, Value, view-lookup, get_item_within, get_item_past, items_len-items_view, Step, by_name, by_position, child_by, item_at, position_in}
 use Rattle.std.specs.List.Sorted.{IsStrictlySortedBy}
 use Rattle.serde_json_path_core.proofs.Meaning.ChildSteps.{IsBelow, AreRising, in_order-rising}
 
@@ -38,13 +38,13 @@ single (p ∷ []) d low high = refl
 single _ d low high = absurd (omega arith)
 
 -- an expression of one operand of `||` with one operand of `&&`, which is a comparison
-pub one-comparison : (ps : List Piece) (e : LogicalOr) (ors ands : List Part) (d : Part) (x : Comparable) (op : Operator) (y : Comparable)
+pub one-comparison : (ps : List Branch) (e : LogicalOr) (ors ands : List Part) (d : Part) (x : Comparable) (op : Operator) (y : Comparable)
     → 1 ≤ length ors → length ors < 2 → 1 ≤ length ands → length ands < 2
-    → e ≡ ors_in (pieces_named ps ors) → and_in (piece_in ps (slice_index_or ors 0 d).number) ≡ ands_in (pieces_named ps ands)
-    → basic_in (piece_in ps (slice_index_or ands 0 d).number) ≡ relation x op y → e ≡ or (and (relation x op y) no_and) no_or
+    → e ≡ ors_in (branches_named ps ors) → and_in (branch_in ps (slice_index_or ors 0 d).number) ≡ ands_in (branches_named ps ands)
+    → basic_in (branch_in ps (slice_index_or ands 0 d).number) ≡ relation x op y → e ≡ or (and (relation x op y) no_and) no_or
 one-comparison ps e ors ands d x op y some_or one_or some_and one_and is_or is_and is_basic =
-    is_or ∙ ap (λ parts. ors_in (pieces_named ps parts)) (single ors d some_or one_or)
-    ∙ ap (λ a. or a no_or) (is_and ∙ ap (λ parts. ands_in (pieces_named ps parts)) (single ands d some_and one_and) ∙ ap (λ b. and b no_and) is_basic)
+    is_or ∙ ap (λ parts. ors_in (branches_named ps parts)) (single ors d some_or one_or)
+    ∙ ap (λ a. or a no_or) (is_and ∙ ap (λ parts. ands_in (branches_named ps parts)) (single ands d some_and one_and) ∙ ap (λ b. and b no_and) is_basic)
 
 alone : (b : Bool) → ((b && true) || false) ≡ b
 alone true = refl

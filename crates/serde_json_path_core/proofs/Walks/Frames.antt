@@ -1,10 +1,10 @@
--- Frames of a walk: their tasks, and what they pass.
+-- Frames of a walk: their arrivals, and what they pass.
 use Rattle.std.proofs.Common.{◌≡◌, ℕ, ◌+◌, List, [], ◌∷◌, ◌++◌, map, flat_map, refl, ap, ◌∙◌, sym, append_assoc, drop, Some, inl, inr, subst}
-use Rattle.serde_json_path_core.proofs.Words.{map-append, Data, Step, SegmentKind, child, descendant, Selector, candidates, lower, opened, tasks, child_at, FunctionSet, name, wildcard, index, slice, Stage, AreChildrenOf, Frame, admitted, unfiltered, EndsIn, Skips, IsAtAdmitted, Passes, IsDone, IsAtTask, by_name, in_append}
+use Rattle.serde_json_path_core.proofs.Words.{map-append, Data, Step, SegmentKind, child, descendant, Selector, candidates, lower, opened, arrivals, child_at, FunctionSet, name, wildcard, index, slice, Stage, AreChildrenOf, Frame, admitted, unfiltered, EndsIn, Skips, IsAtAdmitted, Passes, IsDone, IsAtArrival, by_name, in_append}
 use Rattle.serde_json_path_core.proofs.Meaning.ChildSteps.{in_children, in_child_by, in_item_at}
 use Rattle.serde_json_path_core.proofs.Meaning.SlicePositions.{in_sliced}
 
--- ---- the tasks of a frame, a step at a time
+-- ---- the arrivals of a frame, a step at a time
 
 module _ (admit : Selector → List (Step × Data) → List (Step × Data)) (number : ℕ) (kind : SegmentKind) (v : Data) where
   -- a child for the next segment, and one for this segment
@@ -18,34 +18,34 @@ module _ (admit : Selector → List (Step × Data) → List (Step × Data)) (num
   all_of sels = flat_map (λ s. admit s (candidates s v)) sels
 
   -- where a segment begins
-  pub next_opened : (sels : List Selector) → map onward (all_of sels) ++ map downward (lower kind v) ≡ tasks admit number kind sels (opened kind sels v) v
-  next_opened [] = elim kind as (λ k. map downward (lower k v) ≡ tasks admit number k [] (opened k [] v) v) [ child ↦ refl | descendant ↦ refl ]
+  pub next_opened : (sels : List Selector) → map onward (all_of sels) ++ map downward (lower kind v) ≡ arrivals admit number kind sels (opened kind sels v) v
+  next_opened [] = elim kind as (λ k. map downward (lower k v) ≡ arrivals admit number k [] (opened k [] v) v) [ child ↦ refl | descendant ↦ refl ]
   next_opened (sel ∷ more) = refl
 
   -- the selector at work passes some that it admits
   pub skips_over : (sels : List Selector) (sel : Selector) (more : List Selector) (cs ds front : List (Step × Data))
-      → sels ≡ sel ∷ more → admit sel cs ≡ front ++ admit sel ds → tasks admit number kind sels cs v ≡ map onward front ++ tasks admit number kind sels ds v
+      → sels ≡ sel ∷ more → admit sel cs ≡ front ++ admit sel ds → arrivals admit number kind sels cs v ≡ map onward front ++ arrivals admit number kind sels ds v
   skips_over sels sel more cs ds front e a =
       rw (e, a, append_assoc front (admit sel ds) (all_of more), map-append onward front (admit sel ds ++ all_of more))
       (append_assoc (map onward front) (map onward (admit sel ds ++ all_of more)) (map downward (lower kind v)))
 
   -- the next selector begins, past what this one still admits
   pub turns_over : (sels : List Selector) (sel : Selector) (more : List Selector) (cs ds : List (Step × Data))
-      → sels ≡ sel ∷ more → ds ≡ opened kind more v → tasks admit number kind sels cs v ≡ map onward (admit sel cs) ++ tasks admit number kind more ds v
+      → sels ≡ sel ∷ more → ds ≡ opened kind more v → arrivals admit number kind sels cs v ≡ map onward (admit sel cs) ++ arrivals admit number kind more ds v
   turns_over sels sel more cs ds e d =
       rw (e, d, map-append onward (admit sel cs) (all_of more), sym (next_opened more))
       (append_assoc (map onward (admit sel cs)) (map onward (all_of more)) (map downward (lower kind v)))
 
   -- after the last selector, a child to go down to
   pub goes_down : (sels : List Selector) (cs ds : List (Step × Data)) (c : Step × Data)
-      → kind ≡ descendant → sels ≡ [] → cs ≡ c ∷ ds → tasks admit number kind sels cs v ≡ downward c ∷ tasks admit number kind sels ds v
+      → kind ≡ descendant → sels ≡ [] → cs ≡ c ∷ ds → arrivals admit number kind sels cs v ≡ downward c ∷ arrivals admit number kind sels ds v
   goes_down sels cs ds c k e a =
       rw (k, e, a) refl
 
   -- after the last selector there is nothing left
-  pub is_done : (sels : List Selector) (cs : List (Step × Data)) → sels ≡ [] → (kind ≡ descendant → cs ≡ []) → tasks admit number kind sels cs v ≡ []
+  pub is_done : (sels : List Selector) (cs : List (Step × Data)) → sels ≡ [] → (kind ≡ descendant → cs ≡ []) → arrivals admit number kind sels cs v ≡ []
   is_done sels cs e h =
-      rw e (elim kind as (λ k. (k ≡ descendant → cs ≡ []) → tasks admit number k [] cs v ≡ []) [ child ↦ λ g. refl | descendant ↦ λ g. ap (map downward) (g refl) ] h)
+      rw e (elim kind as (λ k. (k ≡ descendant → cs ≡ []) → arrivals admit number k [] cs v ≡ []) [ child ↦ λ g. refl | descendant ↦ λ g. ap (map downward) (g refl) ] h)
 
 -- ---- ends of lists
 
@@ -92,7 +92,7 @@ module _ (F : FunctionSet) (top : Data) (stage : Stage) where
       let more = drop (mid.selector + 1) stage.selectors in (
         (before.0.0, before.0.1, before.0.2, λ h. subst (AreChildrenOf mid.value) (sym is) (opened-of stage.kind more mid.value)),
         before.1 ∙ turns_over (admitted F top) mid.segment stage.kind mid.value (drop mid.selector stage.selectors) sel more mid.left left here is
-            ∙ ap (λ cs. map (onward (admitted F top) mid.segment stage.kind mid.value) cs ++ tasks (admitted F top) mid.segment stage.kind more left mid.value) none,
+            ∙ ap (λ cs. map (onward (admitted F top) mid.segment stage.kind mid.value) cs ++ arrivals (admitted F top) mid.segment stage.kind more left mid.value) none,
         ends-trans _ _ _ before.2
             (map (onward unfiltered mid.segment stage.kind mid.value) mid.left, turns_over unfiltered mid.segment stage.kind mid.value (drop mid.selector stage.selectors) sel more mid.left left here is),
       )
@@ -109,7 +109,7 @@ module _ (F : FunctionSet) (top : Data) (stage : Stage) where
 
   -- the first child that is left is one that the selector at work admits
   pub at-onward : (p : Frame) (sel : Selector) (more : List Selector) (c : Step × Data)
-      → drop p.selector stage.selectors ≡ sel ∷ more → IsAtAdmitted F top sel p.left (Some c) → IsAtTask F top stage p (Some (p.segment + 1, c))
+      → drop p.selector stage.selectors ≡ sel ∷ more → IsAtAdmitted F top sel p.left (Some c) → IsAtArrival F top stage p (Some (p.segment + 1, c))
   at-onward p sel more c here at = (
     (refl, refl, refl, λ h. end-of p.value (c ∷ []) (drop 1 p.left) (subst (AreChildrenOf p.value) at.0 h)),
     skips_over (admitted F top) p.segment stage.kind p.value (drop p.selector stage.selectors) sel more p.left (drop 1 p.left) (c ∷ []) here at.1,
@@ -119,7 +119,7 @@ module _ (F : FunctionSet) (top : Data) (stage : Stage) where
 
   -- after the last selector, the first child that is left is one to go down to
   pub at-downward : (p : Frame) (c : Step × Data) → drop p.selector stage.selectors ≡ [] → stage.kind ≡ descendant → p.left ≡ c ∷ drop 1 p.left
-      → IsAtTask F top stage p (Some (p.segment, c))
+      → IsAtArrival F top stage p (Some (p.segment, c))
   at-downward p c here kind is = (
     (refl, refl, refl, λ h. end-of p.value (c ∷ []) (drop 1 p.left) (subst (AreChildrenOf p.value) is h)),
     goes_down (admitted F top) p.segment stage.kind p.value (drop p.selector stage.selectors) p.left (drop 1 p.left) c kind here is,

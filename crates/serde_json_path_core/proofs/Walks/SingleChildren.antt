@@ -1,5 +1,5 @@
 -- A query goes down by segments that select one child at most: the values that it selects stay.
-use Rattle.serde_json_path_core.proofs.Words.{IfSome, option_map_or, append-nil, drop_more, length-drop, take-append-drop, take_all, flat_map-map, map-map, Data, Step, Located, FunctionSet, Query, query, kind_of, segments_of, Segments, no_segments, segment, SegmentKind, child, descendant, Segment, Selector, stage_at, stage_of, Stage, piece_at, segment_in, segment_kind_in, segments_at, Node, Part, flat_map-same, map-flat_map, chosen, descents, itself, placed, reached, results, results_from, start_of, beneath, first_value, admitted, candidates, AreChildrenOf, EndsIn, IsIn, child_at, SelectOnly, candidate_values, single_view, values_from, dot_name, index, long_hand, name, no_selectors, selector, are_singular, is_single}
+use Rattle.serde_json_path_core.proofs.Words.{IfSome, option_map_or, append-nil, drop_more, length-drop, take-append-drop, take_all, flat_map-map, map-map, Data, Step, Located, FunctionSet, Query, query, kind_of, segments_of, Segments, no_segments, segment, SegmentKind, child, descendant, Segment, Selector, stage_at, stage_of, Stage, branch_at, segment_in, segment_kind_in, segments_at, Node, Part, flat_map-same, map-flat_map, chosen, descents, itself, placed, reached, results, results_from, start_of, beneath, first_value, admitted, candidates, AreChildrenOf, EndsIn, IsIn, child_at, SelectOnly, candidate_values, single_view, values_from, dot_name, index, long_hand, name, no_selectors, selector, are_singular, is_single}
 use Rattle.std.proofs.Common.{◌≡◌, ℕ, ◌+◌, ◌<◌, List, [], ◌∷◌, ◌++◌, ◌-◌, ◌≤◌, map, take, drop, flat_map, length, get_or, arith, subst, inl, Option, Some, None, option_to_list, slice_get, slice_index_or, true, refl, sym, ap, ◌∙◌}
 use Rattle.std.proofs.lemmas.List.Concat.{flat_map_single}
 use Rattle.serde_json_path_core.proofs.Walks.Frames.{candidates-of}
@@ -47,7 +47,7 @@ singular_stage _ _ more h = absurd cc
 pub next-singular : (nodes : List Node) (parts : List Part) (i : ℕ) (part : Part) → i < length parts → part ≡ get_or parts i part → are_singular (segments_at nodes (drop i parts)) ≡ true
     → (sel : Selector) × (stage_at nodes part ≡ record { kind = child; selectors = sel ∷ [] }) × (is_single sel ≡ true) × (are_singular (segments_at nodes (drop (i + 1) parts)) ≡ true)
 next-singular nodes parts i part within is h =
-    singular_stage (segment_kind_in (piece_at nodes part.number)) (segment_in (piece_at nodes part.number)) (segments_at nodes (drop (i + 1) parts))
+    singular_stage (segment_kind_in (branch_at nodes part.number)) (segment_in (branch_at nodes part.number)) (segments_at nodes (drop (i + 1) parts))
     (subst (λ ps. are_singular (segments_at nodes ps) ≡ true) (drop_more parts i part within ∙ ap (λ p. p ∷ drop (i + 1) parts) (sym is)) h)
 
 -- it is that of a name or an index, if this is the selector
@@ -109,7 +109,7 @@ module _ (F : FunctionSet) (top : Data) where
   goes_down nodes parts i part v s found within is stage selects =
       let more = segments_at nodes (drop (i + 1) parts) in
       ap (λ ps. values_from F top (segments_at nodes ps) v) (drop_more parts i part within ∙ ap (λ p. p ∷ drop (i + 1) parts) (sym is))
-      ∙ values-only (segment_kind_in (piece_at nodes part.number)) (segment_in (piece_at nodes part.number)) more v (single_view s) stage (plain s)
+      ∙ values-only (segment_kind_in (branch_at nodes part.number)) (segment_in (branch_at nodes part.number)) more v (single_view s) stage (plain s)
       ∙ sym (flat_map-map (values_from F top more) (λ (c : Step × Data). c.1) (candidates (single_view s) v))
       ∙ ap (flat_map (values_from F top more)) (sym selects)
       ∙ child_only more found
@@ -129,7 +129,7 @@ pub select-only : (nodes : List Node) (parts : List Part) (d : Part) (sel : Sele
     → stage_at nodes (slice_index_or parts 0 d) ≡ record { kind = child; selectors = sel ∷ [] }
     → ((F : FunctionSet) (top : Data) (cs : List (Step × Data)) → admitted F top sel cs ≡ cs) → SelectOnly nodes parts sel
 select-only nodes (part ∷ []) d sel some one is all =
-    λ F top v. values-only F top (segment_kind_in (piece_at nodes part.number)) (segment_in (piece_at nodes part.number)) no_segments v sel is (all F top) ∙ flat_map_single (λ (c : Step × Data). c.1) (candidates sel v)
+    λ F top v. values-only F top (segment_kind_in (branch_at nodes part.number)) (segment_in (branch_at nodes part.number)) no_segments v sel is (all F top) ∙ flat_map_single (λ (c : Step × Data). c.1) (candidates sel v)
 select-only nodes _ d sel some one is all = absurd (omega arith)
 
 -- the same of a name or an index, if the selector is one

@@ -1,6 +1,6 @@
 -- Stacks of frames: what is left of a walk, and the stack with which one begins.
 use Rattle.std.proofs.Common.{◌≡◌, ℕ, ◌+◌, List, [], ◌∷◌, ◌++◌, map, drop, flat_map, Option, Some, refl, ap, ◌∙◌, sym, append_assoc, ◌<◌, ◌≤◌, length, true, arith, length-append, None}
-use Rattle.serde_json_path_core.proofs.Words.{flat_map-append, append-nil, drop-drop, flat_map-map, Step, Located, SegmentKind, child, descendant, Selector, name, wildcard, beneath, children, descents, placed, reached, Stage, Frame, candidates, lower, entered, frame_tasks, is_leaf, here, stack_path, visit, visit_rest, visit_place, visit_stack, admitted, unfiltered, rest_of, work, flat_map-same, flat_map-flat_map, FunctionSet, Data, Query, query, kind_of, segments_of, Segments, no_segments, segment, Segment, dot_name, dot_wildcard, long_hand, Selectors, no_selectors, selector, filter, start_of, results, results_from, chosen, chosen_by, selected, selectors_of, selectors_list, stages, array, object}
+use Rattle.serde_json_path_core.proofs.Words.{flat_map-append, append-nil, drop-drop, flat_map-map, Step, Located, SegmentKind, child, descendant, Selector, name, wildcard, beneath, children, descents, placed, reached, Stage, Frame, candidates, lower, entered, frame_arrivals, is_leaf, here, stack_path, visit, visit_rest, visit_place, visit_stack, admitted, unfiltered, rest_of, work, flat_map-same, flat_map-flat_map, FunctionSet, Data, Query, query, kind_of, segments_of, Segments, no_segments, segment, Segment, dot_name, dot_wildcard, long_hand, Selectors, no_selectors, selector, filter, start_of, results, results_from, chosen, chosen_by, selected, selectors_of, selectors_list, stages, array, object}
 use Rattle.serde_json_path_core.proofs.Meaning.Descents.{below_child, descents_are}
 use Rattle.serde_json_path_core.proofs.Walks.Frames.{next_opened}
 
@@ -39,8 +39,8 @@ module _ (admit : Selector → List (Step × Data) → List (Step × Data)) {A :
   abbrev made : List Stage → Located → List A
   made = visit admit before leaf
 
-  abbrev of_task : List Step → ℕ × (Step × Data) → List A
-  of_task above x = made (drop x.0 all) (placed above x.1)
+  abbrev of_arrival : List Step → ℕ × (Step × Data) → List A
+  of_arrival above x = made (drop x.0 all) (placed above x.1)
 
   abbrev of_stack : List Frame → List A
   of_stack = visit_stack admit before leaf all []
@@ -51,7 +51,7 @@ module _ (admit : Selector → List (Step × Data) → List (Step × Data)) {A :
 
   -- where a segment begins
   begins : (number : ℕ) (stage : Stage) (more : List Stage) (n : Located) → stage ∷ more ≡ drop number all
-      → made (stage ∷ more) n ≡ before ++ flat_map (of_task n.location) (map (λ c. (number + 1, c)) (picks stage.selectors n.value) ++ map (λ c. (number, c)) (lower stage.kind n.value))
+      → made (stage ∷ more) n ≡ before ++ flat_map (of_arrival n.location) (map (λ c. (number + 1, c)) (picks stage.selectors n.value) ++ map (λ c. (number, c)) (lower stage.kind n.value))
   begins number stage more n e =
       let xs = picks stage.selectors n.value in
       let ys = lower stage.kind n.value in
@@ -73,43 +73,43 @@ module _ (admit : Selector → List (Step × Data) → List (Step × Data)) {A :
       ∙ ap (λ s. visit_rest admit before leaf all s (here (stack_path [] ps) p) p ++ of_stack ps) d
       ∙ ap (λ location. leaf (located location p.value) ++ of_stack ps) (sym (stack_path-last [] ps p))
 
-  -- the last frame has some tasks left, and then no more
+  -- the last frame has some arrivals left, and then no more
   pub drops : (ps : List Frame) (p : Frame) (stage : Stage) (more : List Stage) → drop p.segment all ≡ stage ∷ more
-      → of_stack (ps ++ p ∷ []) ≡ flat_map (of_task (here (stack_path [] ps) p)) (frame_tasks admit stage p) ++ of_stack ps
+      → of_stack (ps ++ p ∷ []) ≡ flat_map (of_arrival (here (stack_path [] ps) p)) (frame_arrivals admit stage p) ++ of_stack ps
   drops ps p stage more d = of_stack-last [] ps p ∙ ap (λ s. visit_rest admit before leaf all s (here (stack_path [] ps) p) p ++ of_stack ps) d
 
-  -- a frame where a task begins
+  -- a frame where a arrival begins
   pub enters : (step : Option Step) (number : ℕ) (stages : List Stage) (n : Located) → stages ≡ drop number all
       → made stages n ≡ before ++ visit_rest admit before leaf all stages n.location (entered step number stages n.value)
   enters step number [] n e = refl
   enters step number (stage ∷ more) n e =
-      begins number stage more n e ∙ ap (λ ts. before ++ flat_map (of_task n.location) ts) (next_opened admit number stage.kind n.value stage.selectors)
+      begins number stage more n e ∙ ap (λ ts. before ++ flat_map (of_arrival n.location) ts) (next_opened admit number stage.kind n.value stage.selectors)
 
-  -- the last frame passes some of its tasks
+  -- the last frame passes some of its arrivals
   pub passes : (ps : List Frame) (p m : Frame) (stage : Stage) (more : List Stage) (front : List (ℕ × (Step × Data)))
-      → drop p.segment all ≡ stage ∷ more → frame_tasks admit stage p ≡ front ++ frame_tasks admit stage m
+      → drop p.segment all ≡ stage ∷ more → frame_arrivals admit stage p ≡ front ++ frame_arrivals admit stage m
       → m.step ≡ p.step → m.segment ≡ p.segment
-      → of_stack (ps ++ p ∷ []) ≡ flat_map (of_task (here (stack_path [] ps) p)) front ++ of_stack (ps ++ m ∷ [])
+      → of_stack (ps ++ p ∷ []) ≡ flat_map (of_arrival (here (stack_path [] ps) p)) front ++ of_stack (ps ++ m ∷ [])
   passes ps p m stage more front d t ms mk =
-      let tasks = of_task (here (stack_path [] ps) p) in
-      let kept = frame_tasks admit stage m in
-      rw (drops ps p stage more d, t, flat_map-append tasks front kept, append_assoc (flat_map tasks front) (flat_map tasks kept) (of_stack ps), drops ps m stage more (ap (λ j. drop j all) mk ∙ d), ms) refl
+      let arrivals = of_arrival (here (stack_path [] ps) p) in
+      let kept = frame_arrivals admit stage m in
+      rw (drops ps p stage more d, t, flat_map-append arrivals front kept, append_assoc (flat_map arrivals front) (flat_map arrivals kept) (of_stack ps), drops ps m stage more (ap (λ j. drop j all) mk ∙ d), ms) refl
 
-  -- the last frame moves on, past some tasks, to a child
+  -- the last frame moves on, past some arrivals, to a child
   pub moves : (ps : List Frame) (p m : Frame) (stage : Stage) (more : List Stage) (front : List (ℕ × (Step × Data))) (number : ℕ) (c : Step × Data)
-      → drop p.segment all ≡ stage ∷ more → frame_tasks admit stage p ≡ front ++ (number, c) ∷ frame_tasks admit stage m
+      → drop p.segment all ≡ stage ∷ more → frame_arrivals admit stage p ≡ front ++ (number, c) ∷ frame_arrivals admit stage m
       → m.step ≡ p.step → m.segment ≡ p.segment
-      → of_stack (ps ++ p ∷ []) ≡ flat_map (of_task (here (stack_path [] ps) p)) front ++ (before ++ of_stack ((ps ++ m ∷ []) ++ entered (Some c.0) number (drop number all) c.1 ∷ []))
+      → of_stack (ps ++ p ∷ []) ≡ flat_map (of_arrival (here (stack_path [] ps) p)) front ++ (before ++ of_stack ((ps ++ m ∷ []) ++ entered (Some c.0) number (drop number all) c.1 ∷ []))
   moves ps p m stage more front number c d t ms mk =
-      let task : ℕ × (Step × Data) = (number, c) in
+      let arrival : ℕ × (Step × Data) = (number, c) in
       let q = entered (Some c.0) number (drop number all) c.1 in
       let S = of_stack (ps ++ m ∷ []) in
       let L = here (stack_path [] ps) p in
       let Q = visit_place admit before leaf all (L ++ c.0 ∷ []) q in
-      let passed = flat_map (of_task L) front in
+      let passed = flat_map (of_arrival L) front in
       let begun = enters (Some c.0) number (drop number all) (placed L c) refl in
       let last = of_stack-last [] (ps ++ m ∷ []) q in
-      passes ps p m stage more (front ++ task ∷ []) d (t ∙ sym (append_assoc front (task ∷ []) (frame_tasks admit stage m))) ms mk
+      passes ps p m stage more (front ++ arrival ∷ []) d (t ∙ sym (append_assoc front (arrival ∷ []) (frame_arrivals admit stage m))) ms mk
       ∙ rw (flat_map-append, append-nil, begun, append_assoc passed (before ++ Q) S, append_assoc before Q S, last, stack_path-last, ms) refl
 
 -- ---- leaves
@@ -128,9 +128,9 @@ leaf-lower : (F : FunctionSet) (top : Data) (kind : SegmentKind) (v : Data) → 
 leaf-lower F top child v h = refl
 leaf-lower F top descendant v h = leaf-admits F top wildcard v h
 
--- a frame where a segment begins at a leaf has no task
+-- a frame where a segment begins at a leaf has no arrival
 pub leaf-done : (F : FunctionSet) (top : Data) (step : Option Step) (number : ℕ) (stage : Stage) (more : List Stage) (v : Data) → is_leaf v ≡ true
-    → frame_tasks (admitted F top) stage (entered step number (stage ∷ more) v) ≡ []
+    → frame_arrivals (admitted F top) stage (entered step number (stage ∷ more) v) ≡ []
 leaf-done F top step number stage more v h =
     rw (sym (next_opened (admitted F top) number stage.kind v stage.selectors), leaf-picks F top stage.selectors v h, leaf-lower F top stage.kind v h) refl
 
@@ -150,9 +150,9 @@ work-fewer all ps p =
     let frames = length-append ps (p ∷ []) in
     omega arith
 
--- whatever tasks the last frame passes, there is no more work
+-- whatever arrivals the last frame passes, there is no more work
 pub work-held : (all : List Stage) (ps : List Frame) (p m : Frame) (stage : Stage) (more : List Stage) (front : List (ℕ × (Step × Data))) → drop p.segment all ≡ stage ∷ more
-    → frame_tasks unfiltered stage p ≡ front ++ frame_tasks unfiltered stage m → m.step ≡ p.step → m.segment ≡ p.segment
+    → frame_arrivals unfiltered stage p ≡ front ++ frame_arrivals unfiltered stage m → m.step ≡ p.step → m.segment ≡ p.segment
     → work all (ps ++ m ∷ []) ≤ work all (ps ++ p ∷ [])
 work-held all ps p m stage more front d t ms mk =
     let past = work-past all (ps ++ p ∷ []) (ps ++ m ∷ []) _ (passes unfiltered (0 ∷ 0 ∷ []) (λ n. 0 ∷ []) all ps p m stage more front d t ms mk) in
@@ -162,12 +162,12 @@ work-held all ps p m stage more front d t ms mk =
 
 -- a move is less work, whatever is passed over
 pub work-moved : (all : List Stage) (ps : List Frame) (p m : Frame) (stage : Stage) (more : List Stage) (front : List (ℕ × (Step × Data))) (number : ℕ) (c : Step × Data)
-    → drop p.segment all ≡ stage ∷ more → frame_tasks unfiltered stage p ≡ front ++ (number, c) ∷ frame_tasks unfiltered stage m
+    → drop p.segment all ≡ stage ∷ more → frame_arrivals unfiltered stage p ≡ front ++ (number, c) ∷ frame_arrivals unfiltered stage m
     → m.step ≡ p.step → m.segment ≡ p.segment → work all ((ps ++ m ∷ []) ++ entered (Some c.0) number (drop number all) c.1 ∷ []) < work all (ps ++ p ∷ [])
 work-moved all ps p m stage more front number c d t ms mk =
     let q = entered (Some c.0) number (drop number all) c.1 in
     let marked = moves unfiltered {A = ℕ} (0 ∷ 0 ∷ []) (λ n. 0 ∷ []) all ps p m stage more front number c d t ms mk in
-    let passed = flat_map (of_task unfiltered {A = ℕ} (0 ∷ 0 ∷ []) (λ n. 0 ∷ []) all (here (stack_path [] ps) p)) front in
+    let passed = flat_map (of_arrival unfiltered {A = ℕ} (0 ∷ 0 ∷ []) (λ n. 0 ∷ []) all (here (stack_path [] ps) p)) front in
     let past = work-past all (ps ++ p ∷ []) ((ps ++ m ∷ []) ++ q ∷ []) (passed ++ 0 ∷ 0 ∷ []) (marked ∙ sym (append_assoc passed (0 ∷ 0 ∷ []) (marks all ((ps ++ m ∷ []) ++ q ∷ [])))) in
     let two = length-append passed (0 ∷ 0 ∷ []) in
     let before = length-append ps (p ∷ []) in

@@ -1,10 +1,10 @@
 -- Turns of a walk: what the last frame comes to.
 use Rattle.std.proofs.Common.{◌≡◌, ℕ, ◌+◌, ◌<◌, List, [], ◌∷◌, ◌++◌, take, set, length, get_or, refl, ap, ◌∙◌, sym, arith, zero, suc, ◌≤◌, drop, slice_get, option_map, Option, Some, None, slice_index_or, inl, inr, ◌-◌, subst, length-append}
-use Rattle.serde_json_path_core.proofs.Words.{frame_view, frames_view, Frame, last_passed, passed, get_or_append_left, take_all, length-set, map-append, drop_all, drop_more, none-some, slice_get_read, slice_get_past, Piece, Node, Part, piece_in, pieces, pieces_named, segment_in, segment_kind_in, segments_in, stage_of, stages, stage_at, stages_at, append-nil, take-append_seam, Data, Step, FunctionSet, Stage, admitted, entered, entering, is_leaf, rest_of, stack_path, work, IsAtStart, IsStack, ComesTo, IsAtNode, IsDone, Passes, cases_Bool, get_or_default, view, IsAtTask, task_view, set-append_left, take_more, take_more_set, take-set, get_or_from_slice_get, slice_get_cases, slice_get_within, IsKept}
+use Rattle.serde_json_path_core.proofs.Words.{frame_view, frames_view, Frame, last_passed, passed, get_or_append_left, take_all, length-set, map-append, drop_all, drop_more, none-some, slice_get_read, slice_get_past, Branch, Node, Part, branch_in, branches, branches_named, segment_in, segment_kind_in, segments_in, stage_of, stages, stage_at, stages_at, append-nil, take-append_seam, Data, Step, FunctionSet, Stage, admitted, entered, entering, is_leaf, rest_of, stack_path, work, IsAtStart, IsStack, ComesTo, IsAtNode, IsDone, Passes, cases_Bool, get_or_default, view, IsAtArrival, arrival_view, set-append_left, take_more, take_more_set, take-set, get_or_from_slice_get, slice_get_cases, slice_get_within, IsKept}
 use Rattle.serde_json_path_core.specs.declared.evaluation.frame.Frame as declared
 use Rattle.serde_json_path_core.proofs.Walks.Chains.{begun-of, chain-split, stack-held, stack-moved}
 use Rattle.serde_json_path_core.proofs.Walks.Stacks.{drops, gives, leaf-done, located, moves, passes, stack_path-last, work-fewer, work-held, work-moved}
-use Rattle.serde_json_path_core.specs.declared.evaluation.frame.Task.{Task}
+use Rattle.serde_json_path_core.specs.declared.evaluation.frame.Arrival.{Arrival}
 use Rattle.serde_json_path_core.proofs.Steps.Lookups.{found-none, found-some}
 
 -- ---- the last of so many frames
@@ -24,7 +24,7 @@ passes-last [] p = refl
 passes-last (q ∷ []) p = refl
 passes-last (q ∷ r ∷ rs) p = ap (λ more. q ∷ more) (passes-last (r ∷ rs) p)
 
--- where the last one is replaced by one that is seen as it, past a task
+-- where the last one is replaced by one that is seen as it, past a arrival
 pub sees_passed : (items : List declared.Frame) (n : ℕ) (old new : declared.Frame) → length items ≡ n + 1 → old ≡ get_or items n old → frame_view new ≡ passed (frame_view old)
     → frames_view (set items n new) ≡ last_passed (frames_view items)
 sees_passed items n old new long is e =
@@ -48,9 +48,9 @@ pub drop-none : {A : Type 0} (xs : List A) (i : ℕ) → slice_get xs i ≡ None
 drop-none xs i e = elim (slice_get_cases xs i).1 [ inl within ↦ absurd (none-some within.0 (sym e ∙ within.2)) | inr past ↦ drop_all i xs past.0 ]
 
 -- the stages of so many parts, one by one
-stages-get : (ps : List Piece) (parts : List Part) (i : ℕ)
-    → slice_get (stages (segments_in (pieces_named ps parts))) i
-    ≡ option_map (λ (part : Part). stage_of (segment_kind_in (piece_in ps part.number)) (segment_in (piece_in ps part.number))) (slice_get parts i)
+stages-get : (ps : List Branch) (parts : List Part) (i : ℕ)
+    → slice_get (stages (segments_in (branches_named ps parts))) i
+    ≡ option_map (λ (part : Part). stage_of (segment_kind_in (branch_in ps part.number)) (segment_in (branch_in ps part.number))) (slice_get parts i)
 stages-get ps [] i = refl
 stages-get ps (part ∷ parts) zero = refl
 stages-get ps (part ∷ parts) (suc i) = stages-get ps parts i
@@ -58,10 +58,10 @@ stages-get ps (part ∷ parts) (suc i) = stages-get ps parts i
 pub stages-from : (nodes : List Node) (parts : List Part) (i : ℕ) (part : Part) → i < length parts → part ≡ slice_index_or parts i part
     → drop i (stages_at nodes parts) ≡ stage_at nodes part ∷ drop (i + 1) (stages_at nodes parts)
 stages-from nodes parts i part lt e =
-    drop-some (stages_at nodes parts) i (stage_at nodes part) (stages-get (pieces nodes) parts i ∙ ap (option_map (stage_at nodes)) (slice_get_read parts _ i part refl lt e))
+    drop-some (stages_at nodes parts) i (stage_at nodes part) (stages-get (branches nodes) parts i ∙ ap (option_map (stage_at nodes)) (slice_get_read parts _ i part refl lt e))
 
 pub stages-past : (nodes : List Node) (parts : List Part) (i : ℕ) → length parts ≤ i → drop i (stages_at nodes parts) ≡ []
-stages-past nodes parts i le = drop-none (stages_at nodes parts) i (stages-get (pieces nodes) parts i ∙ ap (option_map (stage_at nodes)) (slice_get_past parts i le))
+stages-past nodes parts i le = drop-none (stages_at nodes parts) i (stages-get (branches nodes) parts i ∙ ap (option_map (stage_at nodes)) (slice_get_past parts i le))
 
 -- where a value is seen nowhere, there is none
 pub missing : {A B : Type 0} (see : A → B) (found : Option A) (o : Option B) → ((x : A) → found ≡ Some x → ⊥) → option_map see found ≡ o → o ≡ None
@@ -92,16 +92,16 @@ module _ (F : FunctionSet) (top : Data) (all : List Stage) where
   pub turn-kept : (a b : List Frame) → IsTurn a b → IsKept F top all a b
   turn-kept a b turn = (turn.0, (let less = turn.1 in omega arith), turn.2)
 
-  -- the last frame passes no task
+  -- the last frame passes no arrival
   pub held : (ps : List Frame) (p m : Frame) (stage : Stage) (more : List Stage) → drop p.segment all ≡ stage ∷ more → Passes F top stage p m → IsKept F top all (ps ++ p ∷ []) (ps ++ m ∷ [])
   held ps p m stage more d pass =
       (passes (admitted F top) [] (λ n. n ∷ []) all ps p m stage more [] d pass.1 pass.0.0 pass.0.2, work-held all ps p m stage more pass.2.0 d pass.2.1 pass.0.0 pass.0.2, λ start h. stack-held start ps p m h pass.0)
 
-  -- the last frame has no task left, and is dropped
+  -- the last frame has no arrival left, and is dropped
   pub turn-dropped : (ps : List Frame) (p : Frame) (stage : Stage) (more : List Stage) → drop p.segment all ≡ stage ∷ more → IsDone F top stage p → IsTurn (ps ++ p ∷ []) ps
   turn-dropped ps p stage more d done = (drops (admitted F top) [] (λ n. n ∷ []) all ps p stage more d ∙ rw done refl, work-fewer all ps p, λ start h. (chain-split (IsAtStart start) ps p h).0)
 
-  -- the last frame passes a task, for which there is a frame
+  -- the last frame passes a arrival, for which there is a frame
   moved : (ps : List Frame) (p m : Frame) (stage : Stage) (more : List Stage) (number : ℕ) (c : Step × Data) → drop p.segment all ≡ stage ∷ more → ComesTo F top stage p (number, c) m
       → IsTurn (ps ++ p ∷ []) ((ps ++ m ∷ []) ++ entered (Some c.0) number (drop number all) c.1 ∷ [])
   moved ps p m stage more number c d comes = (
@@ -110,7 +110,7 @@ module _ (F : FunctionSet) (top : Data) (all : List Stage) where
     λ start h. stack-moved start ps p m (entered (Some c.0) number (drop number all) c.1) c.0 h comes.0 refl (comes.3 (chain-split (IsAtStart start) ps p h).1) (begun-of (drop number all) c.1),
   )
 
-  -- the last frame passes a task, where a segment is to be applied
+  -- the last frame passes a arrival, where a segment is to be applied
   pub turn-entered : (ps : List Frame) (p : Frame) (stage : Stage) (more : List Stage) (number : ℕ) (c : Step × Data) (next : Stage) (others : List Stage)
       → drop p.segment all ≡ stage ∷ more → ComesTo F top stage p (number, c) (passed p) → drop number all ≡ next ∷ others → IsTurn (ps ++ p ∷ []) (entering all (ps ++ p ∷ []) (number, c))
   turn-entered ps p stage more number c next others d comes inner =
@@ -147,10 +147,10 @@ module _ (F : FunctionSet) (top : Data) (all : List Stage) where
         λ start h. (chain-split (IsAtStart start) ps p h).0,
       )
 
--- ---- what comes of the last of a walk's frames once its next task was looked for
+-- ---- what comes of the last of a walk's frames once its next arrival was looked for
 
 module _ (F : FunctionSet) (top : Data) (nodes : List Node) (segments : List Part) where
-  -- the last frame, of that number, is at that segment, and has passed no task
+  -- the last frame, of that number, is at that segment, and has passed no arrival
   pub record Came (items : List declared.Frame) (n : ℕ) (seen old new : declared.Frame) (segment : Part) : Type 0 where
     pub long : length items ≡ n + 1
     pub seen_is : seen ≡ get_or items n seen
@@ -193,29 +193,29 @@ module _ {F : FunctionSet} {top : Data} {nodes : List Node} {segments : List Par
   pub came-turned : (start next : List Frame) → IsKept F top all start (frames_view items) → IsTurn F top all (frames_view items) next → IsKept F top all start next
   came-turned start next kept turn = kept-trans F top all _ _ _ kept (turn-kept F top all _ _ turn)
 
-  -- it has no task left
-  pub came-dropped : {found : Option Task} → found ≡ None → IsAtTask F top (stage_at nodes segment) (frame_view new) (option_map task_view found)
+  -- it has no arrival left
+  pub came-dropped : {found : Option Arrival} → found ≡ None → IsAtArrival F top (stage_at nodes segment) (frame_view new) (option_map arrival_view found)
       → {left : List declared.Frame} → left ≡ take n (set items n new) → IsTurn F top all (frames_view items) (frames_view left)
   came-dropped none at {left} is =
-      let done = found-none _ _ _ (ap (option_map task_view) none) at in
+      let done = found-none _ _ _ (ap (option_map arrival_view) none) at in
       let front : left ≡ take n items = is ∙ take-set items n new in
       kept-turn F top all _ _ _ passing (rw views.1 (rw front (turn-dropped F top all (frames_view (take n items)) (frame_view new) (stage_at nodes segment) _ new_stage done)))
 
-  -- its next task is at another segment
-  pub came-entered : {found : Option Task} {task : Task} → found ≡ Some task → IsAtTask F top (stage_at nodes segment) (frame_view new) (option_map task_view found)
-      → task.segment < length segments → {frames : List Frame} → frames ≡ entering all (frames_view (set items n new)) (task_view task) → IsTurn F top all (frames_view items) frames
-  came-entered {found} {task} some here below is =
-      let at = found-some _ _ _ (task_view task) (ap (option_map task_view) some) here in
-      let next = inner F top nodes segments task.segment below in
+  -- its next arrival is at another segment
+  pub came-entered : {found : Option Arrival} {arrival : Arrival} → found ≡ Some arrival → IsAtArrival F top (stage_at nodes segment) (frame_view new) (option_map arrival_view found)
+      → arrival.segment < length segments → {frames : List Frame} → frames ≡ entering all (frames_view (set items n new)) (arrival_view arrival) → IsTurn F top all (frames_view items) frames
+  came-entered {found} {arrival} some here below is =
+      let at = found-some _ _ _ (arrival_view arrival) (ap (option_map arrival_view) some) here in
+      let next = inner F top nodes segments arrival.segment below in
       kept-turn F top all _ _ _ passing
-      (rw is (rw views.1 (turn-entered F top all (frames_view (take n items)) (frame_view new) (stage_at nodes segment) _ task.segment (task_view task).1 next.0 next.1 new_stage at next.2)))
+      (rw is (rw views.1 (turn-entered F top all (frames_view (take n items)) (frame_view new) (stage_at nodes segment) _ arrival.segment (arrival_view arrival).1 next.0 next.1 new_stage at next.2)))
 
-  -- its next task is a node
-  pub came-node : {found : Option Task} {task : Task} → found ≡ Some task → IsAtTask F top (stage_at nodes segment) (frame_view new) (option_map task_view found)
-      → length segments ≤ task.segment → IsAtNode F top all (frames_view (set items n new)) (Some (task_view task).1.0) (task_view task).1.1
-  came-node {found} {task} some here past =
-      let at = found-some _ _ _ (task_view task) (ap (option_map task_view) some) here in
-      rw views.1 (at-child F top all (frames_view (take n items)) (frame_view new) (stage_at nodes segment) _ task.segment (task_view task).1 new_stage at (stages-past nodes segments task.segment past))
+  -- its next arrival is a node
+  pub came-node : {found : Option Arrival} {arrival : Arrival} → found ≡ Some arrival → IsAtArrival F top (stage_at nodes segment) (frame_view new) (option_map arrival_view found)
+      → length segments ≤ arrival.segment → IsAtNode F top all (frames_view (set items n new)) (Some (arrival_view arrival).1.0) (arrival_view arrival).1.1
+  came-node {found} {arrival} some here past =
+      let at = found-some _ _ _ (arrival_view arrival) (ap (option_map arrival_view) some) here in
+      rw views.1 (at-child F top all (frames_view (take n items)) (frame_view new) (stage_at nodes segment) _ arrival.segment (arrival_view arrival).1 new_stage at (stages-past nodes segments arrival.segment past))
 
 module _ (F : FunctionSet) (top : Data) (nodes : List Node) (segments : List Part) where
   -- the last frame is past the last segment

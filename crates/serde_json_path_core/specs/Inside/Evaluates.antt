@@ -1,6 +1,6 @@
 -- The words of the functions that evaluate: what is asked of a part, and what it computes to where `@` is a value.
 use Rattle.std.specs.Prelude.{◌≡◌, ℕ, ◌<◌, List, length, map, Bool, true, Option, Result, IfOk, IfErr}
-use Rattle.serde_json_path_core.specs.Imports.{Data, QueryError, Pattern, Step, Located, Kind, Signature, Term, Call, calls_of, calls_in_segments, calls_in_segment, calls_in_selector, calls_in_or, calls_in_and, calls_in_basic, calls_in_comparable, calls_from, calls_in_argument, IsTyped, AreTypedSegments, IsTypedSegment, IsTypedSelector, IsTypedOr, IsTypedAnd, IsTypedBasic, IsTypedComparable, IsTypedCall, IsTypedArgument, AreOfKind, IsOfKind, is_query, is_segment, is_or, is_and, is_basic, is_comparable, is_call, is_argument, selector_ref_fits, Part, SelectorRef, or_at, and_at, basic_at, comparable_at, call_at, argument_at, part_query, segment_at, segments_at, ors_in, pieces, pieces_named, selector_view, stage_at, stages_at}
+use Rattle.serde_json_path_core.specs.Imports.{Data, QueryError, Pattern, Step, Located, Kind, Signature, Term, Call, calls_of, calls_in_segments, calls_in_segment, calls_in_selector, calls_in_or, calls_in_and, calls_in_basic, calls_in_comparable, calls_from, calls_in_argument, IsTyped, AreTypedSegments, IsTypedSegment, IsTypedSelector, IsTypedOr, IsTypedAnd, IsTypedBasic, IsTypedComparable, IsTypedCall, IsTypedArgument, AreOfKind, IsOfKind, is_query, is_segment, is_or, is_and, is_basic, is_comparable, is_call, is_argument, selector_ref_fits, Part, SelectorRef, or_at, and_at, basic_at, comparable_at, call_at, argument_at, part_query, segment_at, segments_at, ors_in, branches, branches_named, selector_view, stage_at, stages_at}
 use Rattle.serde_json_path_core.specs.Inside.Rest as advances
 use Rattle.serde_json_path_core.specs.Compared.{Compared}
 use Rattle.serde_json_path_core.specs.PatternCalls.{StandsIn}
@@ -27,14 +27,14 @@ abbrev pub SoundSegment : {F : Type 0} {g : _} → Scope F g → Part → Type 0
 SoundSegment scope part = IsOfKind is_segment (nodes_of scope) part × Sound scope IsTypedSegment calls_in_segment (segment_at (nodes_of scope) part)
 
 abbrev pub SoundSelector : {F : Type 0} {g : _} → Scope F g → SelectorRef → Type 0
-SoundSelector scope selector = (selector_ref_fits (pieces (nodes_of scope)) selector ≡ true) × Sound scope IsTypedSelector calls_in_selector (selector_view (nodes_of scope) selector)
+SoundSelector scope selector = (selector_ref_fits (branches (nodes_of scope)) selector ≡ true) × Sound scope IsTypedSelector calls_in_selector (selector_view (nodes_of scope) selector)
 
 abbrev pub SoundOr : {F : Type 0} {g : _} → Scope F g → Part → Type 0
 SoundOr scope part = IsOfKind is_or (nodes_of scope) part × Sound scope IsTypedOr calls_in_or (or_at (nodes_of scope) part)
 
 -- the same of the operands of `||`
 abbrev pub SoundOperands : {F : Type 0} {g : _} → Scope F g → List Part → Type 0
-SoundOperands scope parts = AreOfKind is_and (nodes_of scope) parts × Sound scope IsTypedOr calls_in_or (ors_in (pieces_named (pieces (nodes_of scope)) parts))
+SoundOperands scope parts = AreOfKind is_and (nodes_of scope) parts × Sound scope IsTypedOr calls_in_or (ors_in (branches_named (branches (nodes_of scope)) parts))
 
 abbrev pub SoundAnd : {F : Type 0} {g : _} → Scope F g → Part → Type 0
 SoundAnd scope part = IsOfKind is_and (nodes_of scope) part × Sound scope IsTypedAnd calls_in_and (and_at (nodes_of scope) part)
@@ -77,7 +77,7 @@ or_holds scope part v = computed.is_true (set_of scope) (top_of scope) (or_at (n
 
 -- whether one of the operands of `||` does
 abbrev pub any_holds : {F : Type 0} {g : _} → Scope F g → List Part → Data → Bool
-any_holds scope parts v = computed.is_true (set_of scope) (top_of scope) (ors_in (pieces_named (pieces (nodes_of scope)) parts)) v
+any_holds scope parts v = computed.is_true (set_of scope) (top_of scope) (ors_in (branches_named (branches (nodes_of scope)) parts)) v
 
 abbrev pub and_holds : {F : Type 0} {g : _} → Scope F g → Part → Data → Bool
 and_holds scope part v = computed.all_true (set_of scope) (top_of scope) (and_at (nodes_of scope) part) v
@@ -122,13 +122,13 @@ Skips scope selector old new = advances.Skips (set_of scope) (top_of scope) (sel
 abbrev pub IsAtAdmitted : {F : Type 0} {g : _} → Scope F g → SelectorRef → List (Step × Data) → Option (Step × Data) → Type 0
 IsAtAdmitted scope selector left found = advances.IsAtAdmitted (set_of scope) (top_of scope) (selector_view (nodes_of scope) selector) left found
 
--- the frame has passed some children, but no task
+-- the frame has passed some children, but no arrival
 abbrev pub Passes : {F : Type 0} {g : _} → Scope F g → Part → Frame → Frame → Type 0
 Passes scope segment old new = advances.Passes (set_of scope) (top_of scope) (stage_at (nodes_of scope) segment) old new
 
--- the first child that is left at the frame is its next task, if there is one
-abbrev pub IsAtTask : {F : Type 0} {g : _} → Scope F g → Part → Frame → Option (ℕ × (Step × Data)) → Type 0
-IsAtTask scope segment p found = advances.IsAtTask (set_of scope) (top_of scope) (stage_at (nodes_of scope) segment) p found
+-- the first child that is left at the frame is its next arrival, if there is one
+abbrev pub IsAtArrival : {F : Type 0} {g : _} → Scope F g → Part → Frame → Option (ℕ × (Step × Data)) → Type 0
+IsAtArrival scope segment p found = advances.IsAtArrival (set_of scope) (top_of scope) (stage_at (nodes_of scope) segment) p found
 
 -- the walk has come to a node, at that step from the last frame, with that value
 abbrev pub IsAtNode : {F : Type 0} {g : _} → Scope F g → List Part → List Frame → Option Step → Data → Type 0

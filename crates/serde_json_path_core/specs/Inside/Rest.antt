@@ -72,9 +72,9 @@ is_leaf (array items) = false
 is_leaf (object of) = false
 is_leaf _ = true
 
--- the frames once the last one has passed a task: with a frame for it, unless it is at a leaf
+-- the frames once the last one has passed a arrival: with a frame for it, unless it is at a leaf
 abbrev pub entering : List Stage → List Frame → ℕ × (Step × Data) → List Frame
-entering all ps task = last_passed ps ++ cond (is_leaf task.1.1) [] (entered (Some task.1.0) task.0 (drop task.0 all) task.1.1 ∷ [])
+entering all ps arrival = last_passed ps ++ cond (is_leaf arrival.1.1) [] (entered (Some arrival.1.0) arrival.0 (drop arrival.0 all) arrival.1.1 ∷ [])
 
 -- the children to go down to, where these selectors are left
 abbrev pub lower_left : SegmentKind → List Selector → List (Step × Data) → Data → List (Step × Data)
@@ -108,11 +108,11 @@ module _ (admit : Selector → List (Step × Data) → List (Step × Data)) wher
   picks_left (sel ∷ more) cs v = admit sel cs ++ flat_map (λ s. admit s (candidates s v)) more
 
   -- the children still to go to, each with the number of the segment that is applied there
-  abbrev pub tasks : ℕ → SegmentKind → List Selector → List (Step × Data) → Data → List (ℕ × (Step × Data))
-  tasks number kind sels cs v = map (λ c. (number + 1, c)) (picks_left sels cs v) ++ map (λ c. (number, c)) (lower_left kind sels cs v)
+  abbrev pub arrivals : ℕ → SegmentKind → List Selector → List (Step × Data) → Data → List (ℕ × (Step × Data))
+  arrivals number kind sels cs v = map (λ c. (number + 1, c)) (picks_left sels cs v) ++ map (λ c. (number, c)) (lower_left kind sels cs v)
 
-  abbrev pub frame_tasks : Stage → Frame → List (ℕ × (Step × Data))
-  frame_tasks stage p = tasks p.segment stage.kind (drop p.selector stage.selectors) p.left p.value
+  abbrev pub frame_arrivals : Stage → Frame → List (ℕ × (Step × Data))
+  frame_arrivals stage p = arrivals p.segment stage.kind (drop p.selector stage.selectors) p.left p.value
 
   -- `before` for each visit of a value, and `leaf` for each node that is given
   module _ {A : Type 0} (before : List A) (leaf : Located → List A) where
@@ -125,7 +125,7 @@ module _ (admit : Selector → List (Step × Data) → List (Step × Data)) wher
     -- the same of a frame where the first of these stages has done part of its work
     abbrev pub visit_rest : List Stage → List Stage → List Step → Frame → List A
     visit_rest all [] above p = leaf (record { location = above; value = p.value })
-    visit_rest all (stage ∷ more) above p = flat_map (λ (x : ℕ × (Step × Data)). visit (drop x.0 all) (placed above x.1)) (frame_tasks stage p)
+    visit_rest all (stage ∷ more) above p = flat_map (λ (x : ℕ × (Step × Data)). visit (drop x.0 all) (placed above x.1)) (frame_arrivals stage p)
 
     abbrev pub visit_place : List Stage → List Step → Frame → List A
     visit_place all above p = visit_rest all (drop p.segment all) above p
@@ -201,26 +201,26 @@ module _ (F : FunctionSet) (top : Data) where
       (admitted F top sel left ≡ [])
       (λ c. (left ≡ c ∷ drop 1 left) × (admitted F top sel left ≡ c ∷ admitted F top sel (drop 1 left)))
 
-  -- the frame has passed some children, but no task
+  -- the frame has passed some children, but no arrival
   abbrev pub Passes : Stage → Frame → Frame → Type 0
   Passes stage old new =
-      IsSameFrame old new × (frame_tasks (admitted F top) stage old ≡ frame_tasks (admitted F top) stage new)
-      × EndsIn (frame_tasks unfiltered stage old) (frame_tasks unfiltered stage new)
+      IsSameFrame old new × (frame_arrivals (admitted F top) stage old ≡ frame_arrivals (admitted F top) stage new)
+      × EndsIn (frame_arrivals unfiltered stage old) (frame_arrivals unfiltered stage new)
 
-  -- the frame has come to its next task and passed it
+  -- the frame has come to its next arrival and passed it
   abbrev pub ComesTo : Stage → Frame → ℕ × (Step × Data) → Frame → Type 0
-  ComesTo stage old task new =
-      IsSameFrame old new × (frame_tasks (admitted F top) stage old ≡ task ∷ frame_tasks (admitted F top) stage new)
-      × EndsIn (frame_tasks unfiltered stage old) (task ∷ frame_tasks unfiltered stage new)
-      × (IsOfValue old → child_at old.value task.1.0 ≡ Some task.1.1)
+  ComesTo stage old arrival new =
+      IsSameFrame old new × (frame_arrivals (admitted F top) stage old ≡ arrival ∷ frame_arrivals (admitted F top) stage new)
+      × EndsIn (frame_arrivals unfiltered stage old) (arrival ∷ frame_arrivals unfiltered stage new)
+      × (IsOfValue old → child_at old.value arrival.1.0 ≡ Some arrival.1.1)
 
-  -- the frame has no task left
+  -- the frame has no arrival left
   abbrev pub IsDone : Stage → Frame → Type 0
-  IsDone stage old = frame_tasks (admitted F top) stage old ≡ []
+  IsDone stage old = frame_arrivals (admitted F top) stage old ≡ []
 
-  -- the first child that is left at the frame is its next task, if there is one
-  abbrev pub IsAtTask : Stage → Frame → Option (ℕ × (Step × Data)) → Type 0
-  IsAtTask stage p found = MatchOption found (IsDone stage p) (λ task. ComesTo stage p task (passed p))
+  -- the first child that is left at the frame is its next arrival, if there is one
+  abbrev pub IsAtArrival : Stage → Frame → Option (ℕ × (Step × Data)) → Type 0
+  IsAtArrival stage p found = MatchOption found (IsDone stage p) (λ arrival. ComesTo stage p arrival (passed p))
 
   module _ (all : List Stage) where
     -- nothing is given, and there is no more work than before

@@ -10,7 +10,7 @@ use Rattle.serde_json_path_core.specs.declared.evaluation.cursor.MembersLeft.{Me
 use Rattle.serde_json_path_core.specs.declared.evaluation.cursor.Cursor.TheVariants.{Items, Members, One, Slice}
 use Rattle.serde_json_path_core.specs.Inside.Rest.{Frame}
 use Rattle.serde_json_path_core.specs.declared.evaluation.frame.Frame as declared
-use Rattle.serde_json_path_core.specs.declared.evaluation.frame.Task.{Task}
+use Rattle.serde_json_path_core.specs.declared.evaluation.frame.Arrival.{Arrival}
 
 -- ---- the program's values as the definitions see them
 
@@ -51,5 +51,5 @@ frame_view p = record { step = option_map step_view p.step; value = view p.value
 abbrev pub frames_view : List declared.Frame → List Frame
 frames_view frames = map frame_view frames
 
-abbrev pub task_view : Task → ℕ × (Step × Data)
-task_view task = (task.segment, child_view task.child)
+abbrev pub arrival_view : Arrival → ℕ × (Step × Data)
+arrival_view arrival = (arrival.segment, child_view arrival.child)

@@ -1,7 +1,7 @@
 //! Frames of a walk: a frame is a value at which one segment is being applied.
 
 ghost use Rattle.std.specs.Prelude.{◌≡◌, ◌+◌, ◌<◌, ◌≤◌, ◌^◌, [], ◌∷◌, None, Some, IfOk, IfErr, drop, length, option_map};
-ghost use Rattle.serde_json_path_core.specs.Inside.Words.{view, step_view, nodes_in, parts_bound, selector_bound, AreOfKind, IsOfKind, is_segment, IsAtAdmitted, IsAtTask, Passes, Skips, SoundOr, SoundSegment, SoundSelector, MayRefuse, nodes_of, top_of, child_view, cursor_left, frame_view, frames_view, task_view, candidates, entered, opened, begun, passed, IsInside, AllStandIn, selector_view, stage_at, stages_at, Pattern};
+ghost use Rattle.serde_json_path_core.specs.Inside.Words.{view, step_view, nodes_in, parts_bound, selector_bound, AreOfKind, IsOfKind, is_segment, IsAtAdmitted, IsAtArrival, Passes, Skips, SoundOr, SoundSegment, SoundSelector, MayRefuse, nodes_of, top_of, child_view, cursor_left, frame_view, frames_view, arrival_view, candidates, entered, opened, begun, passed, IsInside, AllStandIn, selector_view, stage_at, stages_at, Pattern};
 
 use crate::child::{Child, item, member};
 use crate::evaluation::cursor::Cursor;
@@ -29,7 +29,7 @@ pub(crate) struct Frame<'b> {
 
 /// A child, and the segment to apply at it next.
 #[derive(Clone, Copy)]
-pub(crate) struct Task<'b> {
+pub(crate) struct Arrival<'b> {
     pub(crate) segment: usize,
     pub(crate) child: Child<'b>,
 }
@@ -51,7 +51,7 @@ fn choose<'b>(query: &Checked, selector_ref: SelectorRef<'_>, value: &'b Value) 
 /// The children for one selector of a segment; after the last selector, those to go down to.
 fn open<'b>(query: &Checked, segment: Part, selector: usize, value: &'b Value) -> Cursor<'b>
     requires within { segment.number < length (nodes_in query.now) }
-    requires is { IsOfKind is_segment (nodes_in query.now) segment }
+    requires kind { IsOfKind is_segment (nodes_in query.now) segment }
     ensures { cursor_left result
         ≡ opened (stage_at (nodes_in query.now) segment).kind
         (drop selector (stage_at (nodes_in query.now) segment).selectors) (view value.now) }
@@ -101,27 +101,27 @@ impl<'b> Frame<'b> {
         }
     }
 
-    /// Comes to the next task, if one is left, and does not pass it. Whatever the answer, no task is passed.
+    /// Comes to the next arrival, if one is left, and does not pass it. Whatever the answer, no arrival is passed.
     #[cycle(evaluation)]
-    pub(crate) fn next_task<F: Functions>(
+    pub(crate) fn next_arrival<F: Functions>(
         &mut self,
         scope: &Scope<'_, 'b, F>,
         segment: Part,
-    ) -> Result<Option<Task<'b>>, QueryError>
+    ) -> Result<Option<Arrival<'b>>, QueryError>
         requires within { segment.number < length (nodes_of scope.now) }
         requires number { self.old.segment + 1 < 2 ^ 64 }
         requires sound { SoundSegment scope.now segment }
         requires inside { ∥ IsInside (top_of scope.now) (frame_view self.old) ∥₁ }
         ensures passes { Passes scope.now segment (frame_view self.old) (frame_view self.new) }
         ensures found { IfOk result (λ found.
-            IsAtTask scope.now segment (frame_view self.new) (option_map task_view found)) }
+            IsAtArrival scope.now segment (frame_view self.new) (option_map arrival_view found)) }
         ensures refused { IfErr result (λ e. e ≡ Pattern → MayRefuse scope.now) }
     {
         // Looked up at each node: a frame that keeps it costs more than this look.
         while let Some(selector_ref) = scope.query.selector_ref(segment, self.selector) {
             match next_admitted(scope, selector_ref, &mut self.cursor)? {
                 Some(child) => {
-                    return Ok(Some(Task {
+                    return Ok(Some(Arrival {
                         segment: self.segment + 1,
                         child,
                     }));
@@ -136,7 +136,7 @@ impl<'b> Frame<'b> {
             SegmentKind::Child => Ok(None),
             SegmentKind::Descendant => match self.cursor.peek() {
                 None => Ok(None),
-                Some(child) => Ok(Some(Task {
+                Some(child) => Ok(Some(Arrival {
                     segment: self.segment,
                     child,
                 })),
@@ -144,7 +144,7 @@ impl<'b> Frame<'b> {
         }
     }
 
-    /// Passes the task that it has come to.
+    /// Passes the arrival that it has come to.
     pub(crate) fn pass(&mut self)
         ensures { frame_view self.new ≡ passed (frame_view self.old) }
     {

@@ -28,9 +28,9 @@ pub(crate) struct Reached<'q, 'b> {
 /// A name or an index; `None` for any other selector.
 #[inline(always)]
 fn name_or_index(selector_ref: SelectorRef<'_>) -> Option<SingleSelector<'_>>
-    ensures is { (nodes : List Node) → IfSome result (λ single.
+    ensures found { (nodes : List Node) → IfSome result (λ single.
         selector_view nodes selector_ref.entry ≡ single_view single) }
-    ensures each { (nodes : List Node) → is_single (selector_view nodes selector_ref.entry) ≡ true
+    ensures complete { (nodes : List Node) → is_single (selector_view nodes selector_ref.entry) ≡ true
         → IsSome result }
 {
     match selector_ref {
@@ -44,10 +44,10 @@ fn name_or_index(selector_ref: SelectorRef<'_>) -> Option<SingleSelector<'_>>
 #[inline(always)]
 fn single_selector(query: &Checked, segment: Part) -> Option<SingleSelector<'_>>
     requires within { segment.number < length (nodes_in query.now) }
-    requires is { IsOfKind is_segment (nodes_in query.now) segment }
-    ensures is { IfSome result (λ single. stage_at (nodes_in query.now) segment
+    requires kind { IsOfKind is_segment (nodes_in query.now) segment }
+    ensures found { IfSome result (λ single. stage_at (nodes_in query.now) segment
         ≡ record { kind = child; selectors = single_view single ∷ [] }) }
-    ensures each { (only : Selector) → stage_at (nodes_in query.now) segment
+    ensures complete { (only : Selector) → stage_at (nodes_in query.now) segment
         ≡ record { kind = child; selectors = only ∷ [] } → is_single only ≡ true → IsSome result }
 {
     match query.only_selector(segment) {

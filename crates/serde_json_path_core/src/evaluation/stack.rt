@@ -1,10 +1,10 @@
 //! The stack of a walk's frames, and how it reaches the next node.
 
 ghost use Rattle.std.specs.Prelude.{◌≡◌, ◌<◌, ◌≤◌, [], ◌++◌, None, Ok, IfOk, IfErr, OnOk, OnErr, MatchOption, length, option_map, option_to_list};
-ghost use Rattle.serde_json_path_core.specs.Inside.Words.{view, located, step_view, nodes_in, parts_bound, AreOfKind, is_segment, IsAtNode, IsKept, SoundSegments, MayRefuse, nodes_of, top_of, entering, is_leaf, last_passed, stack_path, without_node, IsStackIn, stages_at, frames_view, task_view, Memory, Pattern};
+ghost use Rattle.serde_json_path_core.specs.Inside.Words.{view, located, step_view, nodes_in, parts_bound, AreOfKind, is_segment, IsAtNode, IsKept, SoundSegments, MayRefuse, nodes_of, top_of, entering, is_leaf, last_passed, stack_path, without_node, IsStackIn, stages_at, frames_view, arrival_view, Memory, Pattern};
 
 use crate::child::Child;
-use crate::evaluation::frame::{Frame, Task};
+use crate::evaluation::frame::{Frame, Arrival};
 use crate::evaluation::scope::Scope;
 use serde_json::Value;
 use serde_json_path_functions::{Functions, QueryError};
@@ -13,7 +13,7 @@ use serde_json_path_syntax::{Checked, Part};
 
 /// The node that a walk has come to, and has not passed.
 #[derive(Clone, Copy)]
-pub(crate) struct Found<'b> {
+pub(crate) struct FoundNode<'b> {
     /// The step to it from the last frame; `None` if the last frame is at the node itself, as in a query without segments.
     pub(crate) step: Option<PathElement<'b>>,
     /// The node.
@@ -25,7 +25,7 @@ pub(crate) struct Found<'b> {
 pub(crate) fn located_at<'b>(
     mut steps: Vec<PathElement<'b>>,
     frames: &[Frame<'b>],
-    found: Found<'b>,
+    found: FoundNode<'b>,
 ) -> Result<LocatedNode<'b>, QueryError>
     ensures node { IfOk result (λ node. located node ≡ record {
       location = stack_path [] (frames_view frames.now) ++ option_to_list (option_map step_view found.entry.step);
@@ -46,7 +46,7 @@ pub(crate) fn located_at<'b>(
     Ok(LocatedNode::new(NormalizedPath::from_steps(steps), found.value))
 }
 
-/// Passes the next task of the last frame.
+/// Passes the next arrival of the last frame.
 #[tactic(auto, using(crate::proofs::Walks::Turns::sees_passed))]
 fn pass_last<'b>(frames: &mut Vec<Frame<'b>>)
     requires { 0 < length frames.old.items }
@@ -57,7 +57,7 @@ fn pass_last<'b>(frames: &mut Vec<Frame<'b>>)
 }
 
 /// Passes the node that a walk has come to.
-pub(crate) fn pass_found<'b>(frames: &mut Vec<Frame<'b>>, found: Found<'b>)
+pub(crate) fn pass_node<'b>(frames: &mut Vec<Frame<'b>>, found: FoundNode<'b>)
     requires { 0 < length frames.old.items }
     ensures { frames_view frames.new.items
         ≡ without_node (frames_view frames.old.items) (option_map step_view found.entry.step) }
@@ -75,30 +75,30 @@ fn is_leaf(value: &Value) -> bool
     !matches!(value, Value::Array(_) | Value::Object(_))
 }
 
-/// Passes the task that the last frame has come to, with a frame for it unless nothing can come of it. If memory is
+/// Passes the arrival that the last frame has come to, with a frame for it unless nothing can come of it. If memory is
 /// refused, nothing changes.
 fn enter<'b>(
     query: &Checked,
     segments: &[Part],
     frames: &mut Vec<Frame<'b>>,
-    task: Task<'b>,
+    arrival: Arrival<'b>,
 ) -> Result<(), QueryError>
     requires within { parts_bound segments.now ≤ length (nodes_in query.now) }
     requires are { AreOfKind is_segment (nodes_in query.now) segments.now }
     requires some { 0 < length frames.old.items }
     ensures ok { OnOk result (frames_view frames.new.items
         ≡ entering (stages_at (nodes_in query.now) segments.now)
-        (frames_view frames.old.items) (task_view task.entry)) }
+        (frames_view frames.old.items) (arrival_view arrival.entry)) }
     ensures unchanged { OnErr result (frames.new.items ≡ frames.old.items) }
     ensures refused { IfErr result (λ e. e ≡ Memory) }
 {
-    if is_leaf(task.child.value) {
+    if is_leaf(arrival.child.value) {
         pass_last(frames);
         return Ok(());
     }
     let last = frames.len() - 1;
-    let Child { step, value } = task.child;
-    frames.push(Frame::at(query, segments, Some(step), task.segment, value))?;
+    let Child { step, value } = arrival.child;
+    frames.push(Frame::at(query, segments, Some(step), arrival.segment, value))?;
     frames[last].pass();
     Ok(())
 }
@@ -110,7 +110,7 @@ pub(crate) fn find_next<'b, F: Functions>(
     scope: &Scope<'_, 'b, F>,
     segments: &[Part],
     frames: &mut Vec<Frame<'b>>,
-) -> Result<Option<Found<'b>>, QueryError>
+) -> Result<Option<FoundNode<'b>>, QueryError>
     requires below { parts_bound segments.now ≤ length (nodes_of scope.now) }
     requires sound { SoundSegments scope.now segments.now }
     requires inside { ∥ IsStackIn (top_of scope.now) (frames_view frames.old.items) ∥₁ }
@@ -125,21 +125,21 @@ pub(crate) fn find_next<'b, F: Functions>(
     while let Some(last) = frames.len().checked_sub(1) {
         match segments.get(frames[last].segment) {
             None => {
-                return Ok(Some(Found {
+                return Ok(Some(FoundNode {
                     step: None,
                     value: frames[last].value,
                 }));
             }
-            Some(segment) => match frames[last].next_task(scope, *segment)? {
+            Some(segment) => match frames[last].next_arrival(scope, *segment)? {
                 None => frames.truncate(last),
-                Some(task) => {
-                    if task.segment >= segments.len() {
-                        return Ok(Some(Found {
-                            step: Some(task.child.step),
-                            value: task.child.value,
+                Some(arrival) => {
+                    if arrival.segment >= segments.len() {
+                        return Ok(Some(FoundNode {
+                            step: Some(arrival.child.step),
+                            value: arrival.child.value,
                         }));
                     }
-                    enter(scope.query, segments, frames, task)?;
+                    enter(scope.query, segments, frames, arrival)?;
                 }
             },
         }

@@ -7,7 +7,7 @@ ghost use Rattle.serde_json_path_core.specs.Inside.Views.{frames_view};
 use crate::evaluation::frame::Frame;
 use crate::evaluation::scope::Scope;
 use crate::evaluation::sink::{Sink, Taken};
-use crate::evaluation::stack::{find_next, located_at, pass_found};
+use crate::evaluation::stack::{find_next, located_at, pass_node};
 use serde_json_path_functions::{Functions, QueryError};
 use serde_json_path_nodes::{LocatedNode, LocatedNodeList, PathElement};
 
@@ -106,7 +106,7 @@ impl<'q, 'b, F: Functions> Walk<'q, 'b, F> {
             None => Ok(None),
             Some(found) => {
                 let node = located_at(steps, self.frames.as_slice(), found)?;
-                pass_found(&mut self.frames, found);
+                pass_node(&mut self.frames, found);
                 Ok(Some(node))
             }
         }

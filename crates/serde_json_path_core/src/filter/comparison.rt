@@ -90,7 +90,7 @@ fn query_form<'x, 'q: 'x, 'b: 'x, F: Functions>(
     requires within { query.number < length (nodes_of scope.now) }
     requires sound { SoundQuery scope.now query }
     requires singular { is_singular (part_query (nodes_of scope.now) query) ≡ true }
-    ensures is { (v : Data) → plain_compared scope.now result v
+    ensures means { (v : Data) → plain_compared scope.now result v
         ≡ first_compared (values_at scope.now query v) }
     ensures sound { SoundPlain scope.now result }
 {
@@ -115,7 +115,7 @@ pub(crate) fn form_of<'x, 'q: 'x, 'b: 'x, F: Functions>(
 ) -> SideForm<'x>
     requires within { comparable.number < length (nodes_of scope.now) }
     requires sound { SoundComparable scope.now comparable }
-    ensures is { (v : Data) → compared_by scope.now result v ≡ compared_at scope.now comparable v }
+    ensures means { (v : Data) → compared_by scope.now result v ≡ compared_at scope.now comparable v }
     ensures below { form_bound result ≤ comparable.number }
     ensures sound { SoundForm scope.now result }
 {

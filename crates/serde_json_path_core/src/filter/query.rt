@@ -7,7 +7,7 @@ use crate::evaluation::child_values::child_values;
 use crate::evaluation::frame::first_frames;
 use crate::evaluation::scope::Scope;
 use crate::evaluation::single_children::{Reached, go_down, is_wildcard};
-use crate::evaluation::stack::{find_next, pass_found};
+use crate::evaluation::stack::{find_next, pass_node};
 use crate::evaluation::start;
 use serde_json::Value;
 use serde_json_path_functions::{Functions, QueryError};
@@ -91,7 +91,7 @@ pub(crate) fn all_from<'x, 'b: 'x, F: Functions>(
     let mut frames = first_frames(scope.alloc, scope.query, segments, value)?;
     let mut found: Vec<&'x Value> = Vec::new(scope.alloc);
     'values: while let Some(node) = find_next(scope, segments, &mut frames)? {
-        pass_found(&mut frames, node);
+        pass_node(&mut frames, node);
         let value: &'x Value = node.value;
         found.push(value)?;
     }

@@ -2,7 +2,7 @@
 
 ghost use Rattle.std.specs.Prelude.{◌≡◌, ℕ, List, [], IfOk};
 ghost use Rattle.serde_json_path_syntax.specs.Parts.{IsPart, calls_in, signatures_of};
-ghost use Rattle.serde_json_path_syntax.specs.Piece.{a_selector};
+ghost use Rattle.serde_json_path_syntax.specs.Branch.{a_selector};
 ghost use Rattle.serde_json_path_syntax.specs.Tree.{name};
 
 use crate::rows::Table;
@@ -40,7 +40,7 @@ fn two_names(
 ) -> Result<Checked, Fail>
     requires first { (k : List ℕ) × IsPart builder first (a_selector (name k)) }
     requires second { (k : List ℕ) × IsPart builder second (a_selector (name k)) }
-    requires silent { calls_in builder ≡ [] }
+    requires no_calls { calls_in builder ≡ [] }
     ensures { IfOk result (λ query. signatures_of query ≡ []) }
 {
     let selectors = Parts::from(vec![in alloc; first, second]?);

@@ -1,7 +1,7 @@
 -- The words of contracts of private functions: a reader of a text, what is read at a level, and
 -- that what a function of the parser returned is what reading gives.
 use Rattle.std.specs.Prelude.{ℕ, true, false, List, codes, bytes_eq, Option, Some, None, if◌then◌else◌, ◌≡◌, ◌+◌, ◌≤◌, max, drop, length, ◌-◌, ◌++◌, Result, Ok, Err}
-use Rattle.serde_json_path_parser.specs.Imports.{Literal, truth, null, Selector, Query, LogicalOr, query, root, SegmentKind, Segments, Segment, Call, Arguments, Argument, logical_argument, chars, Signature, FunctionSet, Fits, names_of, calls_in_segments, calls_in_selectors, calls_from, calls_in_arguments, calls_in_argument, parts_in, literal_view, Piece, a_segment, calls_in_piece, IsPart, ArePartsOf, AreSelectorsOf, AreArgumentsOf, KeepsTrees, calls_in, signatures_of, tree_of, result_kind, AreCalled, AreDeclared, names_in, kind_view, FunctionArgType, Part, Parts, SyntaxBuilder, Checked}
+use Rattle.serde_json_path_parser.specs.Imports.{Literal, truth, null, Selector, Query, LogicalOr, query, root, SegmentKind, Segments, Segment, Call, Arguments, Argument, logical_argument, chars, Signature, FunctionSet, Fits, names_of, calls_in_segments, calls_in_selectors, calls_from, calls_in_arguments, calls_in_argument, parts_in, literal_view, Branch, a_segment, calls_in_branch, IsPart, ArePartsOf, AreSelectorsOf, AreArgumentsOf, KeepsTrees, calls_in, signatures_of, tree_of, result_kind, AreCalled, AreDeclared, names_in, kind_view, FunctionArgType, Part, Parts, SyntaxBuilder, Checked}
 use Rattle.serde_json_path_parser.specs.Source.{Observed}
 use Rattle.serde_json_path_parser.specs.Inside.Looking.{up_to_second}
 use Rattle.serde_json_path_parser.specs.declared.source.PathSource.{Ghosts}
@@ -10,7 +10,7 @@ use Rattle.serde_json_path_parser.specs.declared.parser.Parser.{Parser}
 use Rattle.serde_json_path_parser.specs.Parsed.{Parsed, past_blanks, byte_count}
 use Rattle.serde_json_path_parser.specs.Filters as filters
 use Rattle.serde_json_path_parser.specs.Filters.{Deeper, alone}
-use Rattle.serde_json_path_syntax.specs.Piece as piece
+use Rattle.serde_json_path_syntax.specs.Branch as branch
 use Rattle.serde_json_path_parser.specs.declared.error.Refusal.{Refusal}
 use Rattle.serde_json_path_parser.specs.declared.error.Failure.{Failure}
 use Rattle.serde_json_path_parser.specs.declared.error.Failure.TheVariants as failures
@@ -68,7 +68,7 @@ module _ {F : Type 0} (set : F → FunctionSet) where
   abbrev pub deeper : Parser F → Deeper
   deeper l = filters.level (signatures l) l.depth
 
-  -- a piece as it is read at a level
+  -- a branch as it is read at a level
   abbrev pub at_level : {A : Type 0} → Parser F → ((List ℕ → Option Signature) → Deeper → A) → A
   at_level l read = read (signatures l) (deeper l)
 
@@ -103,12 +103,12 @@ MakesSo {A = A} Is Grown (Ok x) reader read =
     (a : A) × Is x a × (read ≡ Ok (a, left reader)) × Grown a
 MakesSo Is Grown (Err e) reader read = Fails e read
 
--- The part that was made stands, as such a piece, for what reading gives.
-abbrev pub Makes : {A S : Type 0} {g : Ghosts S} → (List ℕ → Option Signature) → (A → Piece)
+-- The part that was made stands, as such a branch, for what reading gives.
+abbrev pub Makes : {A S : Type 0} {g : Ghosts S} → (List ℕ → Option Signature) → (A → Branch)
     → SyntaxBuilder → SyntaxBuilder → Result Part Failure → Reader S g → Parsed A → Type 0
-Makes signature piece old new =
-    MakesSo (λ part x. IsPart new part (piece x))
-    (λ x. Grows signature old new (calls_in_piece (piece x)))
+Makes signature branch old new =
+    MakesSo (λ part x. IsPart new part (branch x))
+    (λ x. Grows signature old new (calls_in_branch (branch x)))
 
 -- What was built since some earlier time made the first calls before the builder grew, and makes
 -- the others now.
@@ -119,21 +119,21 @@ GrowsFrom signature old new first calls =
 
 -- The same, out of a part that makes these calls.
 abbrev pub MakesFrom : {A S : Type 0} {g : Ghosts S} → (List ℕ → Option Signature) → List Call
-    → (A → Piece) → SyntaxBuilder → SyntaxBuilder → Result Part Failure → Reader S g → Parsed A
+    → (A → Branch) → SyntaxBuilder → SyntaxBuilder → Result Part Failure → Reader S g → Parsed A
     → Type 0
-MakesFrom signature first piece old new =
-    MakesSo (λ part x. IsPart new part (piece x))
-    (λ x. GrowsFrom signature old new first (calls_in_piece (piece x)))
+MakesFrom signature first branch old new =
+    MakesSo (λ part x. IsPart new part (branch x))
+    (λ x. GrowsFrom signature old new first (calls_in_branch (branch x)))
 
 -- A part was made out of one that makes these calls, and makes no others.
-abbrev pub MakesOf : {A S : Type 0} {g : Ghosts S} → List Call → (A → Piece) → SyntaxBuilder
+abbrev pub MakesOf : {A S : Type 0} {g : Ghosts S} → List Call → (A → Branch) → SyntaxBuilder
     → Result Part Failure → Reader S g → Parsed A → Type 0
-MakesOf calls piece new =
-    MakesSo (λ part x. IsPart new part (piece x)) (λ x. calls ≡ calls_in_piece (piece x))
+MakesOf calls branch new =
+    MakesSo (λ part x. IsPart new part (branch x)) (λ x. calls ≡ calls_in_branch (branch x))
 
--- a segment's piece
-abbrev pub segment_piece : SegmentKind × Segment → Piece
-segment_piece s = a_segment s.0 s.1
+-- a segment's branch
+abbrev pub segment_branch : SegmentKind × Segment → Branch
+segment_branch s = a_segment s.0 s.1
 
 -- The tree is that of the segments that reading gives, and the signatures are those of the names
 -- that it calls.
@@ -148,9 +148,9 @@ abbrev pub IsOperandOf : (List ℕ → Option Signature) → SyntaxBuilder → o
     → Type 0
 IsOperandOf signature builder (the_operands.Literal l) x = x ≡ a_literal (literal_view l)
 IsOperandOf signature builder (the_operands.Query part) x =
-    (q : Query) × (x ≡ a_query q) × IsPart builder part (piece.a_query q)
+    (q : Query) × (x ≡ a_query q) × IsPart builder part (branch.a_query q)
 IsOperandOf signature builder (the_operands.Call part kind) x =
-    (c : Call) × (x ≡ a_call c) × IsPart builder part (piece.a_call c)
+    (c : Call) × (x ≡ a_call c) × IsPart builder part (branch.a_call c)
     × (result_kind signature c ≡ Some (kind_view kind))
 
 -- The argument is the one that reading gives.
@@ -159,7 +159,7 @@ abbrev pub IsArgumentOf : (List ℕ → Option Signature) → SyntaxBuilder → 
 IsArgumentOf signature builder (the_arguments.Operand o) x =
     (y : Operand) × (x ≡ alone y) × IsOperandOf signature builder o y
 IsArgumentOf signature builder (the_arguments.Logical part) x =
-    (e : LogicalOr) × (x ≡ logical_argument e) × IsPart builder part (piece.an_or e)
+    (e : LogicalOr) × (x ≡ logical_argument e) × IsPart builder part (branch.an_or e)
 
 module _ {S : Type 0} {g : Ghosts S} (signature : List ℕ → Option Signature) (old new : SyntaxBuilder) where
   -- The parts that were made stand for the selectors that reading gives.
@@ -186,7 +186,7 @@ module _ {S : Type 0} {g : Ghosts S} (signature : List ℕ → Option Signature)
   -- The call is the one that reading gives, and its result is of that type.
   abbrev pub MakesCall : Result (Part × FunctionArgType) Failure → Reader S g → Parsed Call → Type 0
   MakesCall =
-      MakesSo (λ call c. IsPart new call.0 (piece.a_call c)
+      MakesSo (λ call c. IsPart new call.0 (branch.a_call c)
       × (result_kind signature c ≡ Some (kind_view call.1)))
       (λ c. Grows signature old new (calls_from c))
 

@@ -2,7 +2,7 @@
 
 ghost use Rattle.std.specs.Prelude.{◌≡◌, ◌==◌, ◌<◌, ℕ, List, length, true, Option};
 ghost use Rattle.serde_json_path_parser.specs.Inside.Words.{KeepsParts, SyntaxBuilder, a_query, a_comparable, a_basic, Signature, read_query, read_operand, read_comparable, read_named, read_test, read_text, Makes, MakesOf, MakesOperand, IsOperandOf, IsNear, MovesTo, at_level, signatures, left, begins, is_small_letter, IsQuote, calls_in_operand};
-ghost use Rattle.serde_json_path_syntax.specs.Flat.{kind_view};
+ghost use Rattle.serde_json_path_syntax.specs.Flat.{query_kind_view};
 ghost use Rattle.serde_json_path_parser.specs.Operands as operands;
 
 use crate::error::{Context, Failure, ParseErrorKind as Kind};
@@ -60,7 +60,7 @@ impl<F: Functions> Parser<'_, F> {
         ensures moves { MovesTo result reader.old reader.new }
         ensures gives { Makes (signatures F.set self.now) a_query builder.old builder.new
             result reader.new
-            (at_level F.set self.now read_query (kind_view kind) (left reader.old)) }
+            (at_level F.set self.now read_query (query_kind_view kind) (left reader.old)) }
     {
         reader.take_char();
         let (parts, _rest) = self.parse_segments(builder, reader, Context::LongHand)?;

@@ -24,7 +24,7 @@ pub(crate) fn parse_path<S: PathSource, F: Functions>(
     ensures moves { MovesTo result reader.old reader.new }
     ensures gives { IsQueryAsRead (F.set functions.now) result
         (read_path (F.set functions.now).signature (left reader.old)) }
-    ensures spares { IfErr result (λ stop.
+    ensures needs_no_memory { IfErr result (λ stop.
         opens_after_root (left reader.old) ≡ false → IsRefused stop) }
 {
     if !reader.sees(b'$') {

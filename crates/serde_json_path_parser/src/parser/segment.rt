@@ -1,7 +1,7 @@
 //! Segments.
 
 ghost use Rattle.std.specs.Prelude.{◌≡◌, true, ℕ, List, Option, IfErr, false};
-ghost use Rattle.serde_json_path_parser.specs.Inside.Words.{segment_kind_view, Signature, Makes, MakesSegments, segment_piece, MovesTo, IsRefused, read_filter, signatures, left, begins, opens, read_bracket, after_dot, read_dotted, of_kind, read_segment, read_segments, opens_next};
+ghost use Rattle.serde_json_path_parser.specs.Inside.Words.{segment_kind_view, Signature, Makes, MakesSegments, segment_branch, MovesTo, IsRefused, read_filter, signatures, left, begins, opens, read_bracket, after_dot, read_dotted, of_kind, read_segment, read_segments, opens_next};
 
 use crate::error::{Context, Failure, ParseErrorKind as Kind};
 use crate::parser::Parser;
@@ -24,7 +24,7 @@ fn parse_dotted<S: PathSource>(
 ) -> Result<Part, Failure>
     ensures moves { MovesTo result reader.old reader.new }
     ensures gives { (signature : List ℕ → Option Signature)
-        → Makes signature segment_piece builder.old builder.new result reader.new
+        → Makes signature segment_branch builder.old builder.new result reader.new
         (of_kind (segment_kind_view kind) (read_dotted context (left reader.old))) }
 {
     if reader.sees(b'*') {
@@ -55,7 +55,7 @@ impl<F: Functions> Parser<'_, F> {
         kind: SegmentKind,
     ) -> Result<Part, Failure>
         ensures moves { MovesTo result reader.old reader.new }
-        ensures gives { Makes (signatures F.set self.now) segment_piece builder.old builder.new
+        ensures gives { Makes (signatures F.set self.now) segment_branch builder.old builder.new
             result reader.new
             (of_kind (segment_kind_view kind)
             (read_bracket (read_filter F.set self.now) (left reader.old))) }
@@ -78,7 +78,7 @@ impl<F: Functions> Parser<'_, F> {
     ) -> Result<Part, Failure>
         requires { begins opens (left reader.old) ≡ true }
         ensures moves { MovesTo result reader.old reader.new }
-        ensures gives { Makes (signatures F.set self.now) segment_piece builder.old builder.new
+        ensures gives { Makes (signatures F.set self.now) segment_branch builder.old builder.new
             result reader.new
             (read_segment (read_filter F.set self.now) context (left reader.old)) }
     {
@@ -112,7 +112,7 @@ impl<F: Functions> Parser<'_, F> {
         ensures gives { MakesSegments (signatures F.set self.now) builder.old builder.new
             result reader.new
             (read_segments (read_filter F.set self.now) context (left reader.old)) }
-        ensures spares { IfErr result (λ stop.
+        ensures needs_no_memory { IfErr result (λ stop.
             opens_next (left reader.old) ≡ false → IsRefused stop) }
     {
         let mut parts = Parts::new(self.alloc);

@@ -1,6 +1,6 @@
 -- The tree of a vector of nodes, as it grows and is copied, and that its nodes fit.
 use Rattle.std.proofs.Common.{◌≡◌, ℕ, zero, suc, ◌+◌, ◌<◌, ◌≤◌, List, [], ◌∷◌, ◌++◌, ◌↔◌, length, drop, Bool, Result, Ok, Err, IfOk, OnOk, OnErr, inl, inr, get_or, refl, sym, ap, ◌∙◌, subst, arith, length-append, true, false, if◌then◌else◌, slice_index_or, Option, Some, None}
-use Rattle.serde_json_path_syntax.proofs.Words.{common_steps, flat_map-append, append-nil, drop_more, Signature, FunctionSet, Fits, IsIn, fits, AreFitting, Piece, Part, parts_bound, called_by, calls_among, no_piece, piece_in, pieces_named, parts_in, piece_of, pieces_from, piece_at, NamesBelow, IsGrown, query_at, query_in, cases_lt, AreCopies, IsCopy}
+use Rattle.serde_json_path_syntax.proofs.Words.{common_steps, flat_map-append, append-nil, drop_more, Signature, FunctionSet, Fits, IsIn, fits, AreFitting, Branch, Part, parts_bound, called_by, calls_among, no_branch, branch_in, branches_named, parts_in, branch_of, branches_from, branch_at, NamesBelow, IsGrown, query_at, query_in, cases_lt, AreCopies, IsCopy}
 use Rattle.std.specs.declared.alloc.AllocError.{AllocError}
 use Rattle.serde_json_path_syntax.proofs.Lists.{in_append}
 use Rattle.serde_json_path_syntax.proofs.Names.Once.{fits_append}
@@ -11,33 +11,33 @@ use Rattle.serde_json_path_syntax.specs.declared.node.Selector.TheVariants as on
 use Rattle.serde_json_path_syntax.specs.declared.node.Basic.TheVariants.{Relation}
 use Rattle.serde_json_path_syntax.specs.declared.node.Comparable.TheVariants as side
 use Rattle.serde_json_path_syntax.specs.declared.node.Argument.TheVariants as given_as
-use Rattle.serde_json_path_syntax.specs.Flat.{pieces}
+use Rattle.serde_json_path_syntax.specs.Flat.{branches}
 use Rattle.std.proofs.lemmas.List.Elements.{AllZip-get_or}
 use Rattle.std.proofs.lemmas.Slice.Zip.{AllZip-long}
 
--- ---- the pieces of a growing vector of nodes: what a push makes, and what it keeps
+-- ---- the branches of a growing vector of nodes: what a push makes, and what it keeps
 
-pieces_from-push : (earlier : List Piece) (nodes : List Node) (n : Node) → pieces_from earlier (nodes ++ n ∷ []) ≡ pieces_from earlier nodes ++ piece_of (pieces_from earlier nodes) n ∷ []
-pieces_from-push earlier [] n = refl
-pieces_from-push earlier (m ∷ nodes) n = pieces_from-push (earlier ++ piece_of earlier m ∷ []) nodes n
+branches_from-push : (earlier : List Branch) (nodes : List Node) (n : Node) → branches_from earlier (nodes ++ n ∷ []) ≡ branches_from earlier nodes ++ branch_of (branches_from earlier nodes) n ∷ []
+branches_from-push earlier [] n = refl
+branches_from-push earlier (m ∷ nodes) n = branches_from-push (earlier ++ branch_of earlier m ∷ []) nodes n
 
-length-pieces_from : (earlier : List Piece) (nodes : List Node) → length (pieces_from earlier nodes) ≡ length earlier + length nodes
-length-pieces_from earlier [] = omega arith
-length-pieces_from earlier (n ∷ nodes) = length-pieces_from (earlier ++ piece_of earlier n ∷ []) nodes ∙ omega (arith, length-append earlier (piece_of earlier n ∷ []))
+length-branches_from : (earlier : List Branch) (nodes : List Node) → length (branches_from earlier nodes) ≡ length earlier + length nodes
+length-branches_from earlier [] = omega arith
+length-branches_from earlier (n ∷ nodes) = length-branches_from (earlier ++ branch_of earlier n ∷ []) nodes ∙ omega (arith, length-append earlier (branch_of earlier n ∷ []))
 
 -- what stands earlier stays
-earlier_stays : (earlier : List Piece) (nodes : List Node) (i : ℕ) (d : Piece) → i < length earlier → get_or (pieces_from earlier nodes) i d ≡ get_or earlier i d
+earlier_stays : (earlier : List Branch) (nodes : List Node) (i : ℕ) (d : Branch) → i < length earlier → get_or (branches_from earlier nodes) i d ≡ get_or earlier i d
 earlier_stays earlier [] i d h = refl
 earlier_stays earlier (n ∷ nodes) i d h =
-    earlier_stays (earlier ++ piece_of earlier n ∷ []) nodes i d (omega (arith, length-append earlier (piece_of earlier n ∷ []))) ∙ grind (arith, common_steps)
+    earlier_stays (earlier ++ branch_of earlier n ∷ []) nodes i d (omega (arith, length-append earlier (branch_of earlier n ∷ []))) ∙ grind (arith, common_steps)
 
--- what a node makes of earlier pieces, and whether it names such as its places want
-abbrev seen : List Piece → Node → Piece × Bool
-seen earlier n = (piece_of earlier n, fits earlier n)
+-- what a node makes of earlier branches, and whether it names such as its places want
+abbrev seen : List Branch → Node → Branch × Bool
+seen earlier n = (branch_of earlier n, fits earlier n)
 
--- two lists of pieces that agree below a bound look the same to a node that names numbers below it
-module _ (a b : List Piece) (bound : ℕ) (f : (i : ℕ) → i < bound → piece_in a i ≡ piece_in b i) where
-  named : (parts : List Part) → parts_bound parts ≤ bound → pieces_named a parts ≡ pieces_named b parts
+-- two lists of branches that agree below a bound look the same to a node that names numbers below it
+module _ (a b : List Branch) (bound : ℕ) (f : (i : ℕ) → i < bound → branch_in a i ≡ branch_in b i) where
+  named : (parts : List Part) → parts_bound parts ≤ bound → branches_named a parts ≡ branches_named b parts
   named [] h = refl
   named (part ∷ parts) h = rw (f part.number (omega (arith, h)), named parts (omega (arith, h)))
 
@@ -49,66 +49,66 @@ module _ (a b : List Piece) (bound : ℕ) (f : (i : ℕ) → i < bound → piece
   same (node.Argument (given_as.Query part)) h = rw (f part.number (omega (arith, h)))
   same _ h = grind (arith, f, named)
 
-  same_piece : (n : Node) → NamesBelow bound n → piece_of a n ≡ piece_of b n
-  same_piece n h = ap (λ s. s.0) (same n h)
+  same_branch : (n : Node) → NamesBelow bound n → branch_of a n ≡ branch_of b n
+  same_branch n h = ap (λ s. s.0) (same n h)
 
   pub same_fits : (n : Node) → NamesBelow bound n → fits a n ≡ fits b n
   same_fits n h = ap (λ s. s.1) (same n h)
 
-piece_from : (earlier : List Piece) (nodes : List Node) (i : ℕ) (d : Node) → ((k : ℕ) → k < length nodes → NamesBelow (length earlier + k) (get_or nodes k d)) → i < length nodes
-    → piece_in (pieces_from earlier nodes) (length earlier + i) ≡ piece_of (pieces_from earlier nodes) (get_or nodes i d)
-piece_from earlier [] i d grown h = absurd (omega arith)
-piece_from earlier (n ∷ nodes) zero d grown h =
-    let more = earlier ++ piece_of earlier n ∷ [] in
-    let long : length more ≡ length earlier + 1 = length-append earlier (piece_of earlier n ∷ []) in
-    let here : piece_in (pieces_from more nodes) (length earlier + 0) ≡ piece_in more (length earlier + 0) = earlier_stays more nodes (length earlier + 0) no_piece (omega arith) in
-    let last : piece_in more (length earlier + 0) ≡ piece_of earlier n = grind (arith, common_steps) in
-    here ∙ last ∙ same_piece earlier (pieces_from more nodes) (length earlier + 0)
-    (λ j below. let k : piece_in more j ≡ piece_in earlier j = grind (arith, common_steps) in sym k ∙ sym (earlier_stays more nodes j no_piece (omega arith))) n (grown 0 h)
-piece_from earlier (n ∷ nodes) (suc i) d grown h =
-    let more = earlier ++ piece_of earlier n ∷ [] in
-    let long : length more ≡ length earlier + 1 = length-append earlier (piece_of earlier n ∷ []) in
-    let rest = piece_from more nodes i d (λ k below. subst (λ j. NamesBelow j (get_or nodes k d)) (omega arith) (grown (suc k) (omega arith))) (omega arith) in
-    subst (λ j. piece_in (pieces_from more nodes) j ≡ piece_of (pieces_from more nodes) (get_or nodes i d)) (omega arith) rest
+branch_from : (earlier : List Branch) (nodes : List Node) (i : ℕ) (d : Node) → ((k : ℕ) → k < length nodes → NamesBelow (length earlier + k) (get_or nodes k d)) → i < length nodes
+    → branch_in (branches_from earlier nodes) (length earlier + i) ≡ branch_of (branches_from earlier nodes) (get_or nodes i d)
+branch_from earlier [] i d grown h = absurd (omega arith)
+branch_from earlier (n ∷ nodes) zero d grown h =
+    let more = earlier ++ branch_of earlier n ∷ [] in
+    let long : length more ≡ length earlier + 1 = length-append earlier (branch_of earlier n ∷ []) in
+    let here : branch_in (branches_from more nodes) (length earlier + 0) ≡ branch_in more (length earlier + 0) = earlier_stays more nodes (length earlier + 0) no_branch (omega arith) in
+    let last : branch_in more (length earlier + 0) ≡ branch_of earlier n = grind (arith, common_steps) in
+    here ∙ last ∙ same_branch earlier (branches_from more nodes) (length earlier + 0)
+    (λ j below. let k : branch_in more j ≡ branch_in earlier j = grind (arith, common_steps) in sym k ∙ sym (earlier_stays more nodes j no_branch (omega arith))) n (grown 0 h)
+branch_from earlier (n ∷ nodes) (suc i) d grown h =
+    let more = earlier ++ branch_of earlier n ∷ [] in
+    let long : length more ≡ length earlier + 1 = length-append earlier (branch_of earlier n ∷ []) in
+    let rest = branch_from more nodes i d (λ k below. subst (λ j. NamesBelow j (get_or nodes k d)) (omega arith) (grown (suc k) (omega arith))) (omega arith) in
+    subst (λ j. branch_in (branches_from more nodes) j ≡ branch_of (branches_from more nodes) (get_or nodes i d)) (omega arith) rest
 
--- the piece of a number, as its node makes it
-pub piece_at-is : (nodes : List Node) (i : ℕ) (d : Node) → IsGrown nodes → i < length nodes → piece_at nodes i ≡ piece_of (pieces nodes) (get_or nodes i d)
-unfolding pieces
-piece_at-is nodes i d grown h =
-    ap (piece_in (pieces_from [] nodes)) (omega arith) ∙ piece_from [] nodes i d (λ k below. subst (λ j. NamesBelow j (get_or nodes k d)) (omega arith) (grown k d below)) h
+-- the branch of a number, as its node makes it
+pub branch_at-is : (nodes : List Node) (i : ℕ) (d : Node) → IsGrown nodes → i < length nodes → branch_at nodes i ≡ branch_of (branches nodes) (get_or nodes i d)
+unfolding branches
+branch_at-is nodes i d grown h =
+    ap (branch_in (branches_from [] nodes)) (omega arith) ∙ branch_from [] nodes i d (λ k below. subst (λ j. NamesBelow j (get_or nodes k d)) (omega arith) (grown k d below)) h
 
 -- ---- a push
 
-pushed_is : (old new : List Node) (n : Node) (p : ℕ) → new ≡ old ++ n ∷ [] → p ≡ length old → (p < length new) × (piece_at new p ≡ piece_of (pieces old) n)
-unfolding pieces
+pushed_is : (old new : List Node) (n : Node) (p : ℕ) → new ≡ old ++ n ∷ [] → p ≡ length old → (p < length new) × (branch_at new p ≡ branch_of (branches old) n)
+unfolding branches
 pushed_is old new n p e f =
-    let long : length (pieces_from [] old) ≡ 0 + length old = length-pieces_from [] old in (
+    let long : length (branches_from [] old) ≡ 0 + length old = length-branches_from [] old in (
       omega (arith, ap length e, length-append old (n ∷ [])),
-      ap (λ nodes. piece_in (pieces_from [] nodes) p) e ∙ ap (λ made. piece_in made p) (pieces_from-push [] old n) ∙ grind (arith, common_steps),
+      ap (λ nodes. branch_in (branches_from [] nodes) p) e ∙ ap (λ made. branch_in made p) (branches_from-push [] old n) ∙ grind (arith, common_steps),
     )
 
-pub piece_at-push : (nodes : List Node) (n : Node) (i : ℕ) → i < length nodes → piece_at (nodes ++ n ∷ []) i ≡ piece_at nodes i
-unfolding pieces
-piece_at-push nodes n i h =
-    let long : length (pieces_from [] nodes) ≡ 0 + length nodes = length-pieces_from [] nodes in
-    ap (λ made. piece_in made i) (pieces_from-push [] nodes n) ∙ grind (arith, common_steps)
+pub branch_at-push : (nodes : List Node) (n : Node) (i : ℕ) → i < length nodes → branch_at (nodes ++ n ∷ []) i ≡ branch_at nodes i
+unfolding branches
+branch_at-push nodes n i h =
+    let long : length (branches_from [] nodes) ≡ 0 + length nodes = length-branches_from [] nodes in
+    ap (λ made. branch_in made i) (branches_from-push [] nodes n) ∙ grind (arith, common_steps)
 
-pushed_keeps : (old new : List Node) (n : Node) (p : ℕ) (piece : Piece) → new ≡ old ++ n ∷ [] → (p < length old) × (piece_at old p ≡ piece) → (p < length new) × (piece_at new p ≡ piece)
-pushed_keeps old new n p piece e h =
-    (let below = h.0 in omega (arith, ap length e, length-append old (n ∷ [])), ap (λ nodes. piece_at nodes p) e ∙ piece_at-push old n p h.0 ∙ h.1)
+pushed_keeps : (old new : List Node) (n : Node) (p : ℕ) (branch : Branch) → new ≡ old ++ n ∷ [] → (p < length old) × (branch_at old p ≡ branch) → (p < length new) × (branch_at new p ≡ branch)
+pushed_keeps old new n p branch e h =
+    (let below = h.0 in omega (arith, ap length e, length-append old (n ∷ [])), ap (λ nodes. branch_at nodes p) e ∙ branch_at-push old n p h.0 ∙ h.1)
 
 -- ---- a push that may be refused
 
 module _ (old new : List Node) (n : Node) where
   pub push_made : (made : Result Part AllocError) → OnOk made (new ≡ old ++ n ∷ []) → IfOk made (λ part. part.number ≡ length old)
-      → IfOk made (λ part. (part.number < length new) × (piece_at new part.number ≡ piece_of (pieces old) n))
+      → IfOk made (λ part. (part.number < length new) × (branch_at new part.number ≡ branch_of (branches old) n))
   push_made (Ok part) is number = pushed_is old new n part.number is number
   push_made (Err e) is number = tt
 
-  pub push_keeps : (made : Result Part AllocError) → OnOk made (new ≡ old ++ n ∷ []) → OnErr made (new ≡ old) → (p : ℕ) (piece : Piece)
-      → (p < length old) × (piece_at old p ≡ piece) → (p < length new) × (piece_at new p ≡ piece)
-  push_keeps (Ok part) is same p piece h = pushed_keeps old new n p piece is h
-  push_keeps (Err e) is same p piece h = subst (λ nodes. (p < length nodes) × (piece_at nodes p ≡ piece)) (sym same) h
+  pub push_keeps : (made : Result Part AllocError) → OnOk made (new ≡ old ++ n ∷ []) → OnErr made (new ≡ old) → (p : ℕ) (branch : Branch)
+      → (p < length old) × (branch_at old p ≡ branch) → (p < length new) × (branch_at new p ≡ branch)
+  push_keeps (Ok part) is same p branch h = pushed_keeps old new n p branch is h
+  push_keeps (Err e) is same p branch h = subst (λ nodes. (p < length nodes) × (branch_at nodes p ≡ branch)) (sym same) h
 
   -- the calls among the nodes
   pub push_calls : (made : Result Part AllocError) → OnOk made (new ≡ old ++ n ∷ []) → OnOk made (calls_among new ≡ calls_among old ++ called_by n)
@@ -134,40 +134,40 @@ fits_from F nodes i d h =
     subst (λ us. Fits F us ↔ (Fits F (called_by (get_or nodes i d)) × Fits F (calls_among (drop (i + 1) nodes)))) (sym (ap calls_among (drop_more nodes i d h)))
     (fits_append F (called_by (get_or nodes i d)) (calls_among (drop (i + 1) nodes)))
 
--- ---- nodes that name pieces of the right kinds still do after a push
+-- ---- nodes that name branches of the right kinds still do after a push
 
 -- one more node
-pub fitting_push : (nodes : List Node) (n : Node) → IsGrown nodes → AreFitting nodes → NamesBelow (length nodes) n → fits (pieces nodes) n ≡ true → AreFitting (nodes ++ n ∷ [])
+pub fitting_push : (nodes : List Node) (n : Node) → IsGrown nodes → AreFitting nodes → NamesBelow (length nodes) n → fits (branches nodes) n ≡ true → AreFitting (nodes ++ n ∷ [])
 fitting_push nodes n grown fitting below fit i d h =
-    let stays : (m : Node) → NamesBelow (length nodes) m → fits (pieces (nodes ++ n ∷ [])) m ≡ fits (pieces nodes) m =
-    same_fits (pieces (nodes ++ n ∷ [])) (pieces nodes) (length nodes) (piece_at-push nodes n) in
+    let stays : (m : Node) → NamesBelow (length nodes) m → fits (branches (nodes ++ n ∷ [])) m ≡ fits (branches nodes) m =
+    same_fits (branches (nodes ++ n ∷ [])) (branches nodes) (length nodes) (branch_at-push nodes n) in
     elim (cases_lt i (length nodes)) [
       | inl lt ↦
           let here : slice_index_or (nodes ++ n ∷ []) i d ≡ slice_index_or nodes i d = grind (arith, common_steps, lt) in
           let names = grown i d lt in
-          ap (fits (pieces (nodes ++ n ∷ []))) here ∙ stays (slice_index_or nodes i d) (omega (arith, names, lt)) ∙ fitting i d lt
+          ap (fits (branches (nodes ++ n ∷ []))) here ∙ stays (slice_index_or nodes i d) (omega (arith, names, lt)) ∙ fitting i d lt
       | inr ge ↦
           let last : i ≡ length nodes = omega (arith, ge, h, length-append nodes (n ∷ [])) in
           let here : slice_index_or (nodes ++ n ∷ []) i d ≡ n = grind (arith, common_steps, last) in
-          ap (fits (pieces (nodes ++ n ∷ []))) here ∙ stays n below ∙ fit
+          ap (fits (branches (nodes ++ n ∷ []))) here ∙ stays n below ∙ fit
     ]
 
 -- one more node, or none
-pub fitting_pushed : (b : Bool) (old new : List Node) (n : Node) → new ≡ (if b then old ++ n ∷ [] else old) → IsGrown old → AreFitting old → NamesBelow (length old) n → fits (pieces old) n ≡ true → AreFitting new
+pub fitting_pushed : (b : Bool) (old new : List Node) (n : Node) → new ≡ (if b then old ++ n ∷ [] else old) → IsGrown old → AreFitting old → NamesBelow (length old) n → fits (branches old) n ≡ true → AreFitting new
 fitting_pushed true old new n is grown fitting below fit = subst AreFitting (sym is) (fitting_push old n grown fitting below fit)
 fitting_pushed false old new n is grown fitting below fit = subst AreFitting (sym is) fitting
 
--- ---- nodes that are copies one by one make the same pieces and the same calls, and each names earlier ones, such as its places want
+-- ---- nodes that are copies one by one make the same branches and the same calls, and each names earlier ones, such as its places want
 
-copies_from : (olds copies : List Node) → AreCopies olds copies → (earlier : List Piece) → pieces_from earlier copies ≡ pieces_from earlier olds
+copies_from : (olds copies : List Node) → AreCopies olds copies → (earlier : List Branch) → branches_from earlier copies ≡ branches_from earlier olds
 copies_from [] [] h earlier = refl
-copies_from (old ∷ olds) (copy ∷ copies) h earlier = rw (h.0.piece earlier, copies_from olds copies h.1 (earlier ++ piece_of earlier old ∷ []))
+copies_from (old ∷ olds) (copy ∷ copies) h earlier = rw (h.0.branch earlier, copies_from olds copies h.1 (earlier ++ branch_of earlier old ∷ []))
 copies_from _ _ h earlier = absurd h
 
--- the same pieces
-pub copied_pieces : (olds copies : List Node) → AreCopies olds copies → pieces copies ≡ pieces olds
-unfolding pieces
-copied_pieces olds copies h = copies_from olds copies h []
+-- the same branches
+pub copied_branches : (olds copies : List Node) → AreCopies olds copies → branches copies ≡ branches olds
+unfolding branches
+copied_branches olds copies h = copies_from olds copies h []
 
 -- the same calls
 pub copied_calls : (olds copies : List Node) → AreCopies olds copies → calls_among copies ≡ calls_among olds
@@ -188,14 +188,14 @@ module _ (olds copies : List Node) (h : AreCopies olds copies) where
   pub copied_fitting : AreFitting olds → AreFitting copies
   copied_fitting fitting i d below =
       let (within, copy) = copy_at i d below in
-      rw (copied_pieces olds copies h, copy.fits (pieces olds)) (fitting i d within)
+      rw (copied_branches olds copies h, copy.fits (branches olds)) (fitting i d within)
 
 -- the same query
-pub same_query : (olds copies : List Node) → pieces copies ≡ pieces olds → (query : Option Part) → query_at copies query ≡ query_at olds query
+pub same_query : (olds copies : List Node) → branches copies ≡ branches olds → (query : Option Part) → query_at copies query ≡ query_at olds query
 same_query olds copies e None = refl
-same_query olds copies e (Some part) = ap (λ ps. query_in (piece_in ps part.number)) e
+same_query olds copies e (Some part) = ap (λ ps. query_in (branch_in ps part.number)) e
 
 -- what a push that may be refused gives and keeps, and what copies keep
 pub ruleset of_push = (push_made, push_keeps, push_calls, push_silent)
 
-pub ruleset of_copies = (copied_pieces, copied_calls, copied_grown, copied_fitting, AllZip-long)
+pub ruleset of_copies = (copied_branches, copied_calls, copied_grown, copied_fitting, AllZip-long)

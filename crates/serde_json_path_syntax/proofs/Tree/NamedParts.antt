@@ -1,7 +1,7 @@
 -- Parts that nodes name: their bounds, their kinds, and what stands for them.
 use Rattle.std.proofs.Common.{◌≡◌, ℕ, ◌<◌, ◌≤◌, true, false, nat_lt, arith, rules, zero, suc, List, [], ◌∷◌, length, get_or, ap, ◌-◌, take, drop, Bool, sym, subst, slice_get, option_map, refl, ◌∙◌}
-use Rattle.serde_json_path_syntax.proofs.Words.{parts_bound, Part, and_parts, Decides-and, Decides, take_all, piece_in, pieces_named, selector_in, selectors_in, segments_in, ors_in, ands_in, arguments_in, are_singular, each_is, is_and, is_argument, is_basic, is_query, is_segment, is_selector, is_singular, is_singular_query, is_singular_segment, Piece, a_query, long_hand, Selectors, selector, Selector, name, wildcard, index, slice, filter, IsSingularSegment, slice_get_read, slice_get_past, ArePartsFor, AreSelectorsOf, AreOrPartsOf, AreAndPartsOf, KeepsTrees, segment_pieces, selector_pieces, or_pieces, and_pieces, argument_pieces}
-use Rattle.serde_json_path_syntax.specs.Flat.{pieces}
+use Rattle.serde_json_path_syntax.proofs.Words.{parts_bound, Part, and_parts, Decides-and, Decides, take_all, branch_in, branches_named, selector_in, selectors_in, segments_in, ors_in, ands_in, arguments_in, are_singular, each_is, is_and, is_argument, is_basic, is_query, is_segment, is_selector, is_singular, is_singular_query, is_singular_segment, Branch, a_query, long_hand, Selectors, selector, Selector, name, wildcard, index, slice, filter, IsSingularSegment, slice_get_read, slice_get_past, ArePartsFor, AreSelectorsOf, AreOrPartsOf, AreAndPartsOf, KeepsTrees, segment_branches, selector_branches, or_branches, and_branches, argument_branches}
+use Rattle.serde_json_path_syntax.specs.Flat.{branches}
 use Rattle.serde_json_path_syntax.specs.Tree as tree
 use Rattle.serde_json_path_syntax.specs.declared.builder.SyntaxBuilder.{SyntaxBuilder}
 use Rattle.serde_json_path_syntax.specs.Stages.{selectors_list}
@@ -40,101 +40,101 @@ pub others-bound : (parts : List Part) → parts_bound (others parts) ≤ parts_
 others-bound [] = omega arith
 others-bound (part ∷ parts) = rw (others-cons part parts) (omega arith)
 
--- what is so of several pieces, if it is then so of the first and of the others, is so of each
-pub one_of : (All : List Piece → Type 0) (One : Piece → Type 0) → ((p : Piece) (more : List Piece) → All (p ∷ more) → One p × All more)
-    → (ps : List Piece) (parts : List Part) (i : ℕ) (d : Part) → i < length parts → All (pieces_named ps parts) → One (piece_in ps (get_or parts i d).number)
+-- what is so of several branches, if it is then so of the first and of the others, is so of each
+pub one_of : (All : List Branch → Type 0) (One : Branch → Type 0) → ((p : Branch) (more : List Branch) → All (p ∷ more) → One p × All more)
+    → (ps : List Branch) (parts : List Part) (i : ℕ) (d : Part) → i < length parts → All (branches_named ps parts) → One (branch_in ps (get_or parts i d).number)
 one_of All One split ps [] i d below h = absurd (omega (arith, below))
-one_of All One split ps (part ∷ parts) zero d below h = (split (piece_in ps part.number) (pieces_named ps parts) h).0
-one_of All One split ps (part ∷ parts) (suc i) d below h = one_of All One split ps parts i d (omega (arith, below)) (split (piece_in ps part.number) (pieces_named ps parts) h).1
+one_of All One split ps (part ∷ parts) zero d below h = (split (branch_in ps part.number) (branches_named ps parts) h).0
+one_of All One split ps (part ∷ parts) (suc i) d below h = one_of All One split ps parts i d (omega (arith, below)) (split (branch_in ps part.number) (branches_named ps parts) h).1
 
-module _ (is : Piece → Bool) (ps : List Piece) where
+module _ (is : Branch → Bool) (ps : List Branch) where
   abbrev AllAre : List Part → Type 0
-  AllAre parts = each_is is (pieces_named ps parts) ≡ true
+  AllAre parts = each_is is (branches_named ps parts) ≡ true
 
   -- they are of the kind that all are
   pub others_are : (parts : List Part) → AllAre parts → AllAre (others parts)
   others_are [] h = h
-  others_are (part ∷ parts) h = subst AllAre (sym (others-cons part parts)) (and_parts (is (piece_in ps part.number)) (each_is is (pieces_named ps parts)) h).1
+  others_are (part ∷ parts) h = subst AllAre (sym (others-cons part parts)) (and_parts (is (branch_in ps part.number)) (each_is is (branches_named ps parts)) h).1
 
   -- each is
-  pub one_is : (parts : List Part) (i : ℕ) (d : Part) → i < length parts → AllAre parts → is (piece_in ps (get_or parts i d).number) ≡ true
-  one_is = one_of (λ pieces. each_is is pieces ≡ true) (λ p. is p ≡ true) (λ p more. and_parts (is p) (each_is is more)) ps
+  pub one_is : (parts : List Part) (i : ℕ) (d : Part) → i < length parts → AllAre parts → is (branch_in ps (get_or parts i d).number) ≡ true
+  one_is = one_of (λ branches. each_is is branches ≡ true) (λ p. is p ≡ true) (λ p more. and_parts (is p) (each_is is more)) ps
 
 -- a bracket with two selectors or more is no singular segment
-pub two_selectors : (ps : List Piece) (parts : List Part) → 2 ≤ length parts → IsSingularSegment (long_hand (selectors_in (pieces_named ps parts))) → ⊥
+pub two_selectors : (ps : List Branch) (parts : List Part) → 2 ≤ length parts → IsSingularSegment (long_hand (selectors_in (branches_named ps parts))) → ⊥
 two_selectors ps [] two h = omega (arith, two)
 two_selectors ps (a ∷ []) two h = omega (arith, two)
-two_selectors ps (a ∷ b ∷ parts) two h = refused (selector_in (piece_in ps a.number)) (selector_in (piece_in ps b.number)) (selectors_in (pieces_named ps parts)) h
+two_selectors ps (a ∷ b ∷ parts) two h = refused (selector_in (branch_in ps a.number)) (selector_in (branch_in ps b.number)) (selectors_in (branches_named ps parts)) h
   where
     refused : (first second : Selector) (more : Selectors) → IsSingularSegment (long_hand (selector first (selector second more))) → ⊥
     refused (name k) second more h = h
     refused _ second more h = h
 
--- ---- parts that stand for pieces: their numbers are good, and what is made of them is made of those pieces
+-- ---- parts that stand for branches: their numbers are good, and what is made of them is made of those branches
 
-pub parts_below : (builder : SyntaxBuilder) (parts : List Part) (ps : List Piece) → ArePartsFor builder parts ps → parts_bound parts ≤ length builder.arena.nodes.items
+pub parts_below : (builder : SyntaxBuilder) (parts : List Part) (ps : List Branch) → ArePartsFor builder parts ps → parts_bound parts ≤ length builder.arena.nodes.items
 parts_below builder [] ps h = omega arith
 parts_below builder (part ∷ parts) [] h = absurd h
 parts_below builder (part ∷ parts) (p ∷ ps) h =
     let later = parts_below builder parts ps h.1 in omega (arith, h.0.0)
 
-pub pieces_of_parts : (builder : SyntaxBuilder) (parts : List Part) (ps : List Piece) → ArePartsFor builder parts ps → pieces_named (pieces builder.arena.nodes.items) parts ≡ ps
-pieces_of_parts builder [] [] h = refl
-pieces_of_parts builder (part ∷ parts) (p ∷ ps) h = ap (λ piece. piece ∷ pieces_named (pieces builder.arena.nodes.items) parts) h.0.1 ∙ ap (λ more. p ∷ more) (pieces_of_parts builder parts ps h.1)
-pieces_of_parts builder _ _ h = absurd h
+pub branches_of_parts : (builder : SyntaxBuilder) (parts : List Part) (ps : List Branch) → ArePartsFor builder parts ps → branches_named (branches builder.arena.nodes.items) parts ≡ ps
+branches_of_parts builder [] [] h = refl
+branches_of_parts builder (part ∷ parts) (p ∷ ps) h = ap (λ branch. branch ∷ branches_named (branches builder.arena.nodes.items) parts) h.0.1 ∙ ap (λ more. p ∷ more) (branches_of_parts builder parts ps h.1)
+branches_of_parts builder _ _ h = absurd h
 
--- ---- what is made of the pieces of trees, and their kinds
+-- ---- what is made of the branches of trees, and their kinds
 
-pub segments_are : (segs : tree.Segments) → segments_in (segment_pieces segs) ≡ segs
+pub segments_are : (segs : tree.Segments) → segments_in (segment_branches segs) ≡ segs
 segments_are tree.no_segments = refl
 segments_are (tree.segment kind seg more) = ap (tree.segment kind seg) (segments_are more)
 
-pub segments_fit : (segs : tree.Segments) → each_is is_segment (segment_pieces segs) ≡ true
+pub segments_fit : (segs : tree.Segments) → each_is is_segment (segment_branches segs) ≡ true
 segments_fit tree.no_segments = refl
 segments_fit (tree.segment kind seg more) = segments_fit more
 
-pub selectors_are : (sels : tree.Selectors) → selectors_in (selector_pieces sels) ≡ sels
+pub selectors_are : (sels : tree.Selectors) → selectors_in (selector_branches sels) ≡ sels
 selectors_are tree.no_selectors = refl
 selectors_are (tree.selector sel more) = ap (tree.selector sel) (selectors_are more)
 
-pub selectors_fit : (sels : tree.Selectors) → each_is is_selector (selector_pieces sels) ≡ true
+pub selectors_fit : (sels : tree.Selectors) → each_is is_selector (selector_branches sels) ≡ true
 selectors_fit tree.no_selectors = refl
 selectors_fit (tree.selector sel more) = selectors_fit more
 
-pub ors_are : (e : tree.LogicalOr) → ors_in (or_pieces e) ≡ e
+pub ors_are : (e : tree.LogicalOr) → ors_in (or_branches e) ≡ e
 ors_are tree.no_or = refl
 ors_are (tree.or e more) = ap (tree.or e) (ors_are more)
 
-pub ors_fit : (e : tree.LogicalOr) → each_is is_and (or_pieces e) ≡ true
+pub ors_fit : (e : tree.LogicalOr) → each_is is_and (or_branches e) ≡ true
 ors_fit tree.no_or = refl
 ors_fit (tree.or e more) = ors_fit more
 
-pub ands_are : (e : tree.LogicalAnd) → ands_in (and_pieces e) ≡ e
+pub ands_are : (e : tree.LogicalAnd) → ands_in (and_branches e) ≡ e
 ands_are tree.no_and = refl
 ands_are (tree.and e more) = ap (tree.and e) (ands_are more)
 
-pub ands_fit : (e : tree.LogicalAnd) → each_is is_basic (and_pieces e) ≡ true
+pub ands_fit : (e : tree.LogicalAnd) → each_is is_basic (and_branches e) ≡ true
 ands_fit tree.no_and = refl
 ands_fit (tree.and e more) = ands_fit more
 
-pub arguments_are : (args : tree.Arguments) → arguments_in (argument_pieces args) ≡ args
+pub arguments_are : (args : tree.Arguments) → arguments_in (argument_branches args) ≡ args
 arguments_are tree.no_arguments = refl
 arguments_are (tree.argument a more) = ap (tree.argument a) (arguments_are more)
 
-pub arguments_fit : (args : tree.Arguments) → each_is is_argument (argument_pieces args) ≡ true
+pub arguments_fit : (args : tree.Arguments) → each_is is_argument (argument_branches args) ≡ true
 arguments_fit tree.no_arguments = refl
 arguments_fit (tree.argument a more) = arguments_fit more
 
--- parts of which there is one at least stand for their pieces
-pub selectors_for : (builder : SyntaxBuilder) (parts : List Part) (sels : tree.Selectors) → AreSelectorsOf builder parts sels → ArePartsFor builder parts (selector_pieces sels)
+-- parts of which there is one at least stand for their branches
+pub selectors_for : (builder : SyntaxBuilder) (parts : List Part) (sels : tree.Selectors) → AreSelectorsOf builder parts sels → ArePartsFor builder parts (selector_branches sels)
 selectors_for builder [] sels h = absurd h
 selectors_for builder (part ∷ parts) sels h = h
 
-pub or_parts_for : (builder : SyntaxBuilder) (parts : List Part) (e : tree.LogicalOr) → AreOrPartsOf builder parts e → ArePartsFor builder parts (or_pieces e)
+pub or_parts_for : (builder : SyntaxBuilder) (parts : List Part) (e : tree.LogicalOr) → AreOrPartsOf builder parts e → ArePartsFor builder parts (or_branches e)
 or_parts_for builder [] e h = absurd h
 or_parts_for builder (part ∷ parts) e h = h
 
-pub and_parts_for : (builder : SyntaxBuilder) (parts : List Part) (e : tree.LogicalAnd) → AreAndPartsOf builder parts e → ArePartsFor builder parts (and_pieces e)
+pub and_parts_for : (builder : SyntaxBuilder) (parts : List Part) (e : tree.LogicalAnd) → AreAndPartsOf builder parts e → ArePartsFor builder parts (and_branches e)
 and_parts_for builder [] e h = absurd h
 and_parts_for builder (part ∷ parts) e h = h
 
@@ -155,14 +155,14 @@ Decides-are_singular (tree.segment tree.descendant seg more) = never
 pub query_singular : (q : tree.Query) → tree.IsSingular q → is_singular q ≡ true
 query_singular (tree.query kind segs) = (Decides-are_singular segs).1
 
-pub query_of_singular : (p : Piece) → is_singular_query p ≡ true → is_query p ≡ true
+pub query_of_singular : (p : Branch) → is_singular_query p ≡ true → is_query p ≡ true
 query_of_singular (a_query q) h = refl
 query_of_singular _ h = absurd cc
 
 -- what a node is made of that names several parts
 pub ruleset of_named_parts = (
   parts_below,
-  pieces_of_parts,
+  branches_of_parts,
   selectors_for,
   or_parts_for,
   and_parts_for,
@@ -178,13 +178,13 @@ pub ruleset of_named_parts = (
   arguments_fit,
 )
 
-pub parts_for_kept : (old new : SyntaxBuilder) → KeepsTrees old new → (parts : List Part) (ps : List Piece) → ArePartsFor old parts ps → ArePartsFor new parts ps
+pub parts_for_kept : (old new : SyntaxBuilder) → KeepsTrees old new → (parts : List Part) (ps : List Branch) → ArePartsFor old parts ps → ArePartsFor new parts ps
 parts_for_kept old new keeps [] [] h = tt
 parts_for_kept old new keeps (part ∷ parts) (p ∷ ps) h = (keeps part p h.0, parts_for_kept old new keeps parts ps h.1)
 parts_for_kept old new keeps _ _ h = absurd h
 
 -- the selectors of so many parts, one by one
-pub selectors_get : (ps : List Piece) (parts : List Part) (i : ℕ) → slice_get (selectors_list (selectors_in (pieces_named ps parts))) i ≡ option_map (λ (part : Part). selector_in (piece_in ps part.number)) (slice_get parts i)
+pub selectors_get : (ps : List Branch) (parts : List Part) (i : ℕ) → slice_get (selectors_list (selectors_in (branches_named ps parts))) i ≡ option_map (λ (part : Part). selector_in (branch_in ps part.number)) (slice_get parts i)
 selectors_get ps [] i = refl
 selectors_get ps (part ∷ parts) zero = refl
 selectors_get ps (part ∷ parts) (suc i) = selectors_get ps parts i
@@ -195,7 +195,7 @@ pub ruleset of_one_selector = (selectors_get, one_is, within_bound, slice_get_re
 -- ---- a bracket with one selector
 
 -- it names one part
-pub one_named : (ps : List Piece) (parts : List Part) (only : Selector) → selectors_list (selectors_in (pieces_named ps parts)) ≡ only ∷ [] → length parts ≡ 1
+pub one_named : (ps : List Branch) (parts : List Part) (only : Selector) → selectors_list (selectors_in (branches_named ps parts)) ≡ only ∷ [] → length parts ≡ 1
 one_named ps [] only e = absurd cc
 one_named ps (part ∷ []) only e = refl
 one_named ps (part ∷ other ∷ parts) only e = absurd cc

@@ -1,15 +1,15 @@
 -- What a copy of a node keeps.
 use Rattle.std.specs.Prelude.{◌≡◌, List}
 use Rattle.std.specs.List.{AllZip}
-use Rattle.serde_json_path_syntax.specs.Flat.{called_by, parts_named, piece_of}
+use Rattle.serde_json_path_syntax.specs.Flat.{called_by, parts_named, branch_of}
 use Rattle.serde_json_path_syntax.specs.Kinds.{fits}
-use Rattle.serde_json_path_syntax.specs.Piece.{Piece}
+use Rattle.serde_json_path_syntax.specs.Branch.{Branch}
 use Rattle.serde_json_path_syntax.specs.declared.node.Node.{Node}
 
--- a copy makes the same of earlier pieces, fits the same ones, names the same parts, and makes the same call
+-- a copy makes the same of earlier branches, fits the same ones, names the same parts, and makes the same call
 pub record IsCopy (old copy : Node) : Type 0 where
-  pub piece : (earlier : List Piece) → piece_of earlier copy ≡ piece_of earlier old
-  pub fits : (earlier : List Piece) → fits earlier copy ≡ fits earlier old
+  pub branch : (earlier : List Branch) → branch_of earlier copy ≡ branch_of earlier old
+  pub fits : (earlier : List Branch) → fits earlier copy ≡ fits earlier old
   pub parts : parts_named copy ≡ parts_named old
   pub called : called_by copy ≡ called_by old
 

@@ -1,13 +1,13 @@
 //! Texts that open a query, a segment or a selector, each for one write.
 
 ghost use Rattle.std.specs.Prelude.{◌≡◌, ◌++◌, codes, option_map};
-ghost use Rattle.serde_json_path_syntax.specs.Words.{kind_view, segment_kind_view, opening_text, dots_of, query_kind_text, sign_text};
+ghost use Rattle.serde_json_path_syntax.specs.Words.{query_kind_view, segment_kind_view, opening_text, dots_of, query_kind_text, sign_text};
 
 use crate::node::{QueryKind, SegmentKind};
 
 /// The sign of where a query begins.
 pub(crate) fn sign(kind: QueryKind) -> &'static str
-    ensures { result.now ≡ query_kind_text (kind_view kind) }
+    ensures { result.now ≡ query_kind_text (query_kind_view kind) }
 {
     match kind {
         QueryKind::Root => "$",
@@ -18,7 +18,7 @@ pub(crate) fn sign(kind: QueryKind) -> &'static str
 /// What is before a name or `*`, after the sign of the query that begins with it.
 pub(crate) fn dots(start: Option<QueryKind>, kind: SegmentKind) -> &'static str
     ensures { result.now
-        ≡ sign_text (option_map kind_view start) ++ dots_of (segment_kind_view kind) }
+        ≡ sign_text (option_map query_kind_view start) ++ dots_of (segment_kind_view kind) }
 {
     match (start, kind) {
         (None, SegmentKind::Child) => ".",

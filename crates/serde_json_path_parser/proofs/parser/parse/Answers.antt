@@ -16,4 +16,4 @@ returns-in-Err-clause-reported g c =
     let fails = rw c.new-reader.ensures.left at c.in-Err.ensures.gives in
     let total = c.len-total.ensures ∙ ap length (c.parse_path-read.ensures.moves.moves.same_text ∙ c.new-reader.ensures.same_text) in
     rw c.in_text-in-Err.ensures
-    (refused_reported _ _ c.len.ensures.utf8 (omega arith) c.in-Err.stop _ total fails (rw c.new-reader.ensures.left at c.in-Err.ensures.spares))
+    (refused_reported _ _ c.len.ensures.utf8 (omega arith) c.in-Err.stop _ total fails (rw c.new-reader.ensures.left at c.in-Err.ensures.needs_no_memory))

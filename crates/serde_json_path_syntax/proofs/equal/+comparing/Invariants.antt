@@ -1,7 +1,7 @@
 use Rattle.std.proofs.Common.{◌+◌, ◌*◌}
 use Rattle.std.specs.Slice.Iter.{iter_rest}
 use Rattle.serde_json_path_syntax.proofs.Words.{argument_parts, basic_parts, comparable_parts, segment_parts, selector_parts, parts_bound, nodes_in}
-use Rattle.serde_json_path_syntax.specs.Flat.{pieces}
+use Rattle.serde_json_path_syntax.specs.Flat.{branches}
 use Rattle.serde_json_path_syntax.proofs.Equality.{AreLeft}
 use Rattle.serde_json_path_syntax.proofs.equal.+comparing.Given as goal
 
@@ -31,4 +31,4 @@ decreases-same_argument l = 4 * parts_bound (argument_parts l.left.now) + 2
 -- the parts that are left, where those before are alike
 abbrev pub invariant-same_parts-loop-left : goal.invariant-same_parts-loop-left
 invariant-same_parts-loop-left l =
-    AreLeft (pieces (nodes_in l.fn.mine)) (pieces (nodes_in l.fn.theirs)) l.fn.lefts l.fn.rights (iter_rest l.left-iterator.a) (iter_rest l.left-iterator.b)
+    AreLeft (branches (nodes_in l.fn.mine)) (branches (nodes_in l.fn.theirs)) l.fn.lefts l.fn.rights (iter_rest l.left-iterator.a) (iter_rest l.left-iterator.b)

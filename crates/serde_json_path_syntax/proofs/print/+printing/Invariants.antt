@@ -1,6 +1,6 @@
 use Rattle.std.proofs.Common.{◌+◌, ◌*◌, [], codes}
 use Rattle.serde_json_path_syntax.proofs.Words.{HasWritten, IsPlainFormatter, argument_parts, basic_parts, comparable_parts, parts_bound, nodes_in}
-use Rattle.serde_json_path_syntax.specs.Flat.{pieces}
+use Rattle.serde_json_path_syntax.specs.Flat.{branches}
 use Rattle.serde_json_path_syntax.proofs.Printing.{begun}
 use Rattle.serde_json_path_syntax.proofs.print.+printing.Given as goal
 
@@ -37,12 +37,12 @@ decreases-write_argument g l = 4 * parts_bound (argument_parts l.argument.now) +
 
 abbrev pub invariant-write_path-loop-segment : goal.invariant-write_path-loop-segment
 invariant-write_path-loop-segment g l =
-    IsPlainFormatter l.initial.f → HasWritten g.W.Write.write_str_gives l.initial.f (begun [] (pieces (nodes_in l.fn.tree)) l.others l.segment-index) l.f
+    IsPlainFormatter l.initial.f → HasWritten g.W.Write.write_str_gives l.initial.f (begun [] (branches (nodes_in l.fn.tree)) l.others l.segment-index) l.f
 
 abbrev pub invariant-write_selectors-loop-selector : goal.invariant-write_selectors-loop-selector
 invariant-write_selectors-loop-selector g l =
-    IsPlainFormatter l.initial.f → HasWritten g.W.Write.write_str_gives l.initial.f (begun (codes ", ") (pieces (nodes_in l.fn.tree)) l.others l.selector-index) l.f
+    IsPlainFormatter l.initial.f → HasWritten g.W.Write.write_str_gives l.initial.f (begun (codes ", ") (branches (nodes_in l.fn.tree)) l.others l.selector-index) l.f
 
 abbrev pub invariant-write_joined-loop-part : goal.invariant-write_joined-loop-part
 invariant-write_joined-loop-part g l =
-    IsPlainFormatter l.initial.f → HasWritten g.W.Write.write_str_gives l.initial.f (begun l.fn.separator (pieces (nodes_in l.fn.tree)) l.others l.part-index) l.f
+    IsPlainFormatter l.initial.f → HasWritten g.W.Write.write_str_gives l.initial.f (begun l.fn.separator (branches (nodes_in l.fn.tree)) l.others l.part-index) l.f

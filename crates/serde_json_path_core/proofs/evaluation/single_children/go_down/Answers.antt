@@ -1,5 +1,5 @@
 use Rattle.std.proofs.Common.{get_or, None, Some, ◌∙◌, arith, sym, true≢false}
-use Rattle.serde_json_path_core.proofs.Words.{get_or_default, is_segment, view, one_is, pieces, nodes_in, Part, within_get}
+use Rattle.serde_json_path_core.proofs.Words.{get_or_default, is_segment, view, one_is, branches, nodes_in, Part, within_get}
 use Rattle.serde_json_path_core.proofs.Walks.Chains.{child_stands}
 use Rattle.serde_json_path_core.proofs.Walks.SingleChildren.{child-selected, ends-at, goes_down, next-singular}
 use Rattle.serde_json_path_core.proofs.evaluation.single_children.go_down.Goals as goal
@@ -10,9 +10,9 @@ single_selector-requires-clause-within c =
     let most = c.requires.within in
     omega arith
 
-pub single_selector-requires-clause-is : goal.single_selector-requires-clause-is
-single_selector-requires-clause-is c =
-    one_is is_segment (pieces (nodes_in c.args.query.now)) c.args.segments.now c.loop-passed.passed (record { number = 0 }) c.loop-passed-test.true c.requires.are
+pub single_selector-requires-clause-kind : goal.single_selector-requires-clause-kind
+single_selector-requires-clause-kind c =
+    one_is is_segment (branches (nodes_in c.args.query.now)) c.args.segments.now c.loop-passed.passed (record { number = 0 }) c.loop-passed-test.true c.requires.are
 
 pub returns-in_default-clause-ends : goal.returns-in_default-clause-ends
 returns-in_default-clause-ends c = ends-at c.args.segments.now c.loop-passed.passed
@@ -30,7 +30,7 @@ returns-in-None-clause-selects c = λ F top.
     let first : Part = record { number = 0 } in
     c.loop-passed.invariant.selects F top
     ∙ goes_down F top (nodes_in c.args.query.now) parts i (get_or parts i first) (view c.loop-passed.reached.now) c.in-Some.selector None c.loop-passed-test.true
-    (get_or_default parts i first (get_or parts i first) c.loop-passed-test.true) c.in-Some.ensures.is c.in-None.ensures
+    (get_or_default parts i first (get_or parts i first) c.loop-passed-test.true) c.in-Some.ensures.found c.in-None.ensures
 
 pub loop-passed-preserved : goal.loop-passed-preserved
 loop-passed-preserved c =
@@ -43,7 +43,7 @@ loop-passed-preserved c =
       selects = λ F top.
           c.loop-passed.invariant.selects F top
           ∙ goes_down F top (nodes_in c.args.query.now) parts i (get_or parts i first) (view c.loop-passed.reached.now) c.in-Some.selector (Some child) c.loop-passed-test.true
-          (get_or_default parts i first (get_or parts i first) c.loop-passed-test.true) c.in-Some.ensures.is c.in-Some-select.ensures;
+          (get_or_default parts i first (get_or parts i first) c.loop-passed-test.true) c.in-Some.ensures.found c.in-Some-select.ensures;
       singular = λ all.
           (next-singular (nodes_in c.args.query.now) parts i (get_or parts i first) c.loop-passed-test.true (get_or_default parts i first (get_or parts i first) c.loop-passed-test.true) (c.loop-passed.invariant.singular all)).3;
       inside = λ top stands.
@@ -56,5 +56,5 @@ returns-in_default-clause-whole c = λ all.
     let i = c.loop-passed.passed in
     let first : Part = record { number = 0 } in
     let next = next-singular (nodes_in c.args.query.now) parts i (get_or parts i first) c.loop-passed-test.true (get_or_default parts i first (get_or parts i first) c.loop-passed-test.true) (c.loop-passed.invariant.singular all) in
-    let some = c.single_selector.ensures.each next.0 next.1 next.2 in
+    let some = c.single_selector.ensures.complete next.0 next.1 next.2 in
     absurd (true≢false (sym (rw c.in_default.is at some)))

@@ -4,4 +4,4 @@ use Rattle.serde_json_path_core.proofs.evaluation.single_children.only_child.Goa
 
 pub returns : goal.returns
 returns c =
-    select-single (nodes_in c.args.query.now) c.args.segments.now (record { number = 0 }) c.single_selector.result c.in-len1.len_at_least c.in-len1.len_below c.single_selector.ensures.is
+    select-single (nodes_in c.args.query.now) c.args.segments.now (record { number = 0 }) c.single_selector.result c.in-len1.len_at_least c.in-len1.len_below c.single_selector.ensures.found

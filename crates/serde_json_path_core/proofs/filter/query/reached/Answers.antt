@@ -1,6 +1,6 @@
 use Rattle.std.proofs.Common.{ap, ◌∙◌, arith, subst, sym}
-use Rattle.serde_json_path_core.proofs.Words.{view, pieces, StandsIn, start_of, nodes_of, top_of, query_of, set_of}
-use Rattle.serde_json_path_syntax.specs.Flat.{kind_view}
+use Rattle.serde_json_path_core.proofs.Words.{view, branches, StandsIn, start_of, nodes_of, top_of, query_of, set_of}
+use Rattle.serde_json_path_syntax.specs.Flat.{query_kind_view}
 use Rattle.serde_json_path_core.proofs.Sound.{bound-ends, sound-ends, sound-segments}
 use Rattle.serde_json_path_core.proofs.Walks.Chains.{start_stands}
 use Rattle.serde_json_path_core.proofs.Walks.SingleChildren.{values-query}
@@ -23,10 +23,10 @@ returns-clause-below g c =
 pub returns-clause-sound : goal.returns-clause-sound
 returns-clause-sound g c =
     let scope = c.args.scope.now in
-    sound-ends (set_of scope) (query_of scope) (pieces (nodes_of scope)) c.part_segments.result.now c.go_down.result.segments.now c.go_down.ensures.ends
+    sound-ends (set_of scope) (query_of scope) (branches (nodes_of scope)) c.part_segments.result.now c.go_down.result.segments.now c.go_down.ensures.ends
     (c.part_segments.ensures.are, sound-segments (set_of scope) (query_of scope) _ _ c.part_segments.ensures.tree c.requires.sound.1)
 
 pub returns-clause-inside : goal.returns-clause-inside
 returns-clause-inside g c =
     let top = top_of c.args.scope.now in
-    c.go_down.ensures.inside top (subst (StandsIn top) (sym c.start-start.ensures) (start_stands (kind_view c.part_kind.result) top (view c.args.current.now) c.requires.inside))
+    c.go_down.ensures.inside top (subst (StandsIn top) (sym c.start-start.ensures) (start_stands (query_kind_view c.part_kind.result) top (view c.args.current.now) c.requires.inside))

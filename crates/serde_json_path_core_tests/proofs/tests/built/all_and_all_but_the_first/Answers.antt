@@ -1,7 +1,7 @@
 use Rattle.std.proofs.Common.{refl, ◌∙◌, arith, pos, Some, None}
 use Rattle.std.proofs.lemmas.Grind.{common_steps}
 use Rattle.serde_json_path_syntax.specs.Tree as tree
-use Rattle.serde_json_path_syntax.specs.Piece.{a_segment, a_selector}
+use Rattle.serde_json_path_syntax.specs.Branch.{a_segment, a_selector}
 use Rattle.serde_json_path_syntax.specs.Parts.{calls_in}
 use Rattle.serde_json_path_core_tests.proofs.Trees.{finished_without_calls}
 use Rattle.serde_json_path_core_tests.proofs.tests.built.all_and_all_but_the_first.Goals as goal
@@ -20,16 +20,16 @@ long_hand-requires c = (both, grind (arith, common_steps, c.slice.ensures.keeps.
 pub query-requires : goal.query-requires
 query-requires c =
     let all = c.slice.ensures.keeps.trees c.in_ok-all.all (a_selector tree.wildcard) in
-    let piece = a_segment tree.descendant tree.dot_wildcard in
-    let below = c.long_hand.ensures.keeps.trees c.in_ok-below.below piece (c.slice.ensures.keeps.trees c.in_ok-below.below piece (c.wildcard.ensures.keeps.trees c.in_ok-below.below piece c.in_ok-below.ensures.made)) in
+    let branch = a_segment tree.descendant tree.dot_wildcard in
+    let below = c.long_hand.ensures.keeps.trees c.in_ok-below.below branch (c.slice.ensures.keeps.trees c.in_ok-below.below branch (c.wildcard.ensures.keeps.trees c.in_ok-below.below branch c.in_ok-below.ensures.made)) in
     (segs, grind (arith, common_steps, below, all, c.in_ok-bracket.ensures.made both))
 
 pub finish-requires : goal.finish-requires
 finish-requires c =
     let all = c.slice.ensures.keeps.trees c.in_ok-all.all (a_selector tree.wildcard) in
-    let piece = a_segment tree.descendant tree.dot_wildcard in
-    let below = c.long_hand.ensures.keeps.trees c.in_ok-below.below piece (c.slice.ensures.keeps.trees c.in_ok-below.below piece (c.wildcard.ensures.keeps.trees c.in_ok-below.below piece c.in_ok-below.ensures.made)) in (
+    let branch = a_segment tree.descendant tree.dot_wildcard in
+    let below = c.long_hand.ensures.keeps.trees c.in_ok-below.below branch (c.slice.ensures.keeps.trees c.in_ok-below.below branch (c.wildcard.ensures.keeps.trees c.in_ok-below.below branch c.in_ok-below.ensures.made)) in (
       tree.query tree.root segs,
       grind (arith, common_steps, c.in_ok-query.ensures.made segs, below, all, c.in_ok-bracket.ensures.made both),
-      finished_without_calls (calls_in c.query.new.self) segs (c.query.ensures.keeps.calls ∙ c.long_hand.ensures.keeps.calls ∙ c.slice.ensures.keeps.calls ∙ c.wildcard.ensures.keeps.calls ∙ c.dot_wildcard.ensures.keeps.calls ∙ c.new-builder.ensures.silent) (λ s. (tt, ((tt, (tt, tt)), tt))) refl (omega arith),
+      finished_without_calls (calls_in c.query.new.self) segs (c.query.ensures.keeps.calls ∙ c.long_hand.ensures.keeps.calls ∙ c.slice.ensures.keeps.calls ∙ c.wildcard.ensures.keeps.calls ∙ c.dot_wildcard.ensures.keeps.calls ∙ c.new-builder.ensures.no_calls) (λ s. (tt, ((tt, (tt, tt)), tt))) refl (omega arith),
     )

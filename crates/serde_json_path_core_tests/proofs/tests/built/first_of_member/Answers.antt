@@ -1,7 +1,7 @@
 use Rattle.std.proofs.Common.{refl, ◌∙◌, pos, arith, string_bytes}
 use Rattle.std.proofs.lemmas.Grind.{common_steps}
 use Rattle.serde_json_path_syntax.specs.Tree as tree
-use Rattle.serde_json_path_syntax.specs.Piece.{a_segment}
+use Rattle.serde_json_path_syntax.specs.Branch.{a_segment}
 use Rattle.serde_json_path_syntax.specs.Parts.{calls_in}
 use Rattle.serde_json_path_core_tests.proofs.Trees.{finished_without_calls}
 use Rattle.serde_json_path_core_tests.proofs.tests.built.first_of_member.Goals as goal
@@ -23,5 +23,5 @@ finish-requires c =
     let segs = tree.segment tree.child member (tree.segment tree.child (tree.long_hand sels) tree.no_segments) in (
       tree.query tree.root segs,
       grind (arith, common_steps, c.in_ok-query.ensures.made segs, c.long_hand.ensures.keeps.trees c.in_ok-member.member (a_segment tree.child member), c.index.ensures.keeps.trees c.in_ok-member.member (a_segment tree.child member), c.in_ok-bracket.ensures.made sels),
-      finished_without_calls (calls_in c.query.new.self) segs (c.query.ensures.keeps.calls ∙ c.long_hand.ensures.keeps.calls ∙ c.index.ensures.keeps.calls ∙ c.dot_name.ensures.keeps.calls ∙ c.new-builder.ensures.silent) (λ s. (tt, ((tt, tt), tt))) refl (omega arith),
+      finished_without_calls (calls_in c.query.new.self) segs (c.query.ensures.keeps.calls ∙ c.long_hand.ensures.keeps.calls ∙ c.index.ensures.keeps.calls ∙ c.dot_name.ensures.keeps.calls ∙ c.new-builder.ensures.no_calls) (λ s. (tt, ((tt, tt), tt))) refl (omega arith),
     )

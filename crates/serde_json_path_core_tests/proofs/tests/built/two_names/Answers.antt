@@ -21,5 +21,5 @@ finish-requires c =
     let segs = tree.segment tree.child (tree.long_hand both) tree.no_segments in (
       tree.query tree.root segs,
       grind (arith, common_steps, c.in_ok-query.ensures.made segs, c.in_ok-bracket.ensures.made both),
-      finished_without_calls (calls_in c.query.new.self) segs (c.query.ensures.keeps.calls ∙ c.long_hand.ensures.keeps.calls ∙ c.requires.silent) (λ s. ((tt, (tt, tt)), tt)) refl (omega arith),
+      finished_without_calls (calls_in c.query.new.self) segs (c.query.ensures.keeps.calls ∙ c.long_hand.ensures.keeps.calls ∙ c.requires.no_calls) (λ s. ((tt, (tt, tt)), tt)) refl (omega arith),
     )

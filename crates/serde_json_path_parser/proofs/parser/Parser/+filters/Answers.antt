@@ -316,13 +316,13 @@ parse_segments-returns-in_err-part-clause-gives g t c =
     let so_far = c.segments.invariant.so_far in
     rw (p.1, p.2) (row_fails (segments_stand _ _ _) (grind (arith, common_steps)) so_far.2 so_far.3 c.in_err-part.field-0.0 c.in_err-part.ensures.gives)
 
-pub parse_segments-returns-in_err-part-clause-spares : goal.parse_segments-returns-in_err-part-clause-spares
-parse_segments-returns-in_err-part-clause-spares g t c =
+pub parse_segments-returns-in_err-part-clause-needs_no_memory : goal.parse_segments-returns-in_err-part-clause-needs_no_memory
+parse_segments-returns-in_err-part-clause-needs_no_memory g t c =
     let p = err_from_is_err_and c.from_residual.result c.from_residual.ensures.1 in
     rw p.1 (λ e. absurd (true≢false (sym c.segments-test.true ∙ c.sees_segment.ensures ∙ c.segments.invariant.none e)))
 
-pub parse_segments-returns-in_err-push-clause-spares : goal.parse_segments-returns-in_err-push-clause-spares
-parse_segments-returns-in_err-push-clause-spares g t c =
+pub parse_segments-returns-in_err-push-clause-needs_no_memory : goal.parse_segments-returns-in_err-push-clause-needs_no_memory
+parse_segments-returns-in_err-push-clause-needs_no_memory g t c =
     let p = err_from_is_err_and c.from_residual-in_err-push.result c.from_residual-in_err-push.ensures.1 in
     rw p.1 (λ e. absurd (true≢false (sym c.segments-test.true ∙ c.sees_segment.ensures ∙ c.segments.invariant.none e)))
 

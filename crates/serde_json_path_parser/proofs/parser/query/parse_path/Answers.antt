@@ -17,8 +17,8 @@ returns-then-is_empty-clause-gives g c =
       subst (Fits (g.F.Functions.set c.args.functions.now)) (sym c.new.ensures.used) tt,
     )
 
-pub returns-in_err-part-clause-spares : goal.returns-in_err-part-clause-spares
-returns-in_err-part-clause-spares g c =
+pub returns-in_err-part-clause-needs_no_memory : goal.returns-in_err-part-clause-needs_no_memory
+returns-in_err-part-clause-needs_no_memory g c =
     let p = err_from_is_err_and c.from_residual-in_err-part.result c.from_residual-in_err-part.ensures.1 in
     let gives = c.in_ok-parts.ensures.gives in
     rw p.1 (λ closed.
@@ -34,7 +34,7 @@ finish-requires g c =
     let ended = all_read gives.1 c.in_ok-parts.rest gives.3 (omega (arith, c.if-rest-ne0.false)) in
     let whole : read_path F.signature (left c.args.reader.now) ≡ Ok (segment_list gives.0) = rw (sym c.sees.ensures ∙ c.if-not-sees.false, c.take_char.ensures.value, gives.5, ended) refl in
     let sound = (path_outcome F.signature (left c.args.reader.now)).reads (segment_list gives.0) whole in
-    (query root (segment_list gives.0), c.in_ok-part.ensures.made (segment_list gives.0) gives.2, finishes F.signature c.new-builder.result c.parse_segments.new.builder c.query.new.self (segment_list gives.0) c.new-builder.ensures.silent gives.6 c.query.ensures.keeps sound.1.0.0 sound.1.0.1)
+    (query root (segment_list gives.0), c.in_ok-part.ensures.made (segment_list gives.0) gives.2, finishes F.signature c.new-builder.result c.parse_segments.new.builder c.query.new.self (segment_list gives.0) c.new-builder.ensures.no_calls gives.6 c.query.ensures.keeps sound.1.0.0 sound.1.0.1)
 
 pub returns-clause-gives : goal.returns-clause-gives
 unfolding read_path
@@ -45,8 +45,8 @@ returns-clause-gives g c =
     let whole : read_path F.signature (left c.args.reader.now) ≡ Ok (segment_list gives.0) = rw (sym c.sees.ensures ∙ c.if-not-sees.false, c.take_char.ensures.value, gives.5, ended) refl in
     let q = query root (segment_list gives.0) in
     let sound = (path_outcome F.signature (left c.args.reader.now)).reads (segment_list gives.0) whole in
-    let finished = finishes F.signature c.new-builder.result c.parse_segments.new.builder c.query.new.self (segment_list gives.0) c.new-builder.ensures.silent gives.6 c.query.ensures.keeps sound.1.0.0 sound.1.0.1 in
-    let declared = all_declared F.signature c.new-builder.result c.parse_segments.new.builder c.query.new.self (segment_list gives.0) c.new-builder.ensures.silent gives.6 c.query.ensures.keeps in (
+    let finished = finishes F.signature c.new-builder.result c.parse_segments.new.builder c.query.new.self (segment_list gives.0) c.new-builder.ensures.no_calls gives.6 c.query.ensures.keeps sound.1.0.0 sound.1.0.1 in
+    let declared = all_declared F.signature c.new-builder.result c.parse_segments.new.builder c.query.new.self (segment_list gives.0) c.new-builder.ensures.no_calls gives.6 c.query.ensures.keeps in (
       segment_list gives.0,
       c.finish.ensures.tree q (c.in_ok-part.ensures.made (segment_list gives.0) gives.2),
       whole,

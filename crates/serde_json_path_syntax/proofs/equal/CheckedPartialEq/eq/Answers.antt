@@ -1,6 +1,6 @@
 use Rattle.std.proofs.Common.{◌≡◌, ◌∙◌, sym, rules}
-use Rattle.serde_json_path_syntax.proofs.Words.{pieces_named, nodes_in, tree_of, same_query}
-use Rattle.serde_json_path_syntax.specs.Flat.{pieces}
+use Rattle.serde_json_path_syntax.proofs.Words.{branches_named, nodes_in, tree_of, same_query}
+use Rattle.serde_json_path_syntax.specs.Flat.{branches}
 use Rattle.serde_json_path_syntax.specs.Inside.SameLaws.{Decides-same_query}
 use Rattle.serde_json_path_syntax.proofs.Equality.{segments_same}
 use Rattle.serde_json_path_syntax.proofs.equal.CheckedPartialEq.eq.Goals as goal
@@ -9,7 +9,7 @@ pub returns-clause-computes : goal.returns-clause-computes
 returns-clause-computes c =
     let mine = c.args.self.now in
     let theirs = c.args.other.now in
-    let listed = segments_same (pieces_named (pieces (nodes_in mine)) c.segments.result.now) (pieces_named (pieces (nodes_in theirs)) c.segments-2.result.now) c.segments.ensures.are c.segments-2.ensures.are in
+    let listed = segments_same (branches_named (branches (nodes_in mine)) c.segments.result.now) (branches_named (branches (nodes_in theirs)) c.segments-2.result.now) c.segments.ensures.are c.segments-2.ensures.are in
     let computed = c.same_parts.ensures ∙ listed in
     search rules
 

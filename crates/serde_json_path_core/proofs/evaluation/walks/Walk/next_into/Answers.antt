@@ -14,8 +14,8 @@ find_next-requires g c =
     let inside : ∥ IsStackIn (document_of w) (frames_view w.frames.items) ∥₁ = ∥∥₁_map w.stack (λ h. (document_of w, root_stands (document_of w), h)) in
     search rules
 
-pub pass_found-requires : goal.pass_found-requires
-pass_found-requires g c = (found-some _ _ c.in_ok-find_next.field-0 c.in-Some.found c.in-Some.is c.in_ok-find_next.ensures.found).0
+pub pass_node-requires : goal.pass_node-requires
+pass_node-requires g c = (found-some _ _ c.in_ok-find_next.field-0 c.in-Some.found c.in-Some.is c.in_ok-find_next.ensures.found).0
 
 pub invariant_of-self : goal.invariant_of-self
 invariant_of-self g c = record { stack = ∥∥₁_map c.args.self.now.stack (c.find_next.ensures.kept.2 (view c.args.self.now.scope.root.now)) }
@@ -25,7 +25,7 @@ invariant_of-self-in-Some g c =
     let w = c.args.self.now in
     let start = view w.scope.root.now in
     let at = found-some _ _ c.in_ok-find_next.field-0 c.in-Some.found c.in-Some.is c.in_ok-find_next.ensures.found in
-    record { stack = ∥∥₁_map w.stack (λ h. subst (IsStack start) (sym c.pass_found.ensures) (at.1.2 start (c.find_next.ensures.kept.2 start h))) }
+    record { stack = ∥∥₁_map w.stack (λ h. subst (IsStack start) (sym c.pass_node.ensures) (at.1.2 start (c.find_next.ensures.kept.2 start h))) }
 
 pub invariant_of-self-in-Break-branch-3 : goal.invariant_of-self-in-Break-branch-3
 invariant_of-self-in-Break-branch-3 g c = record { stack = ∥∥₁_map c.args.self.now.stack (c.find_next.ensures.kept.2 (view c.args.self.now.scope.root.now)) }
@@ -50,4 +50,4 @@ pub returns-clause-given : goal.returns-clause-given
 returns-clause-given g c =
     let at = found-some _ _ c.in_ok-find_next.field-0 c.in-Some.found c.in-Some.is c.in_ok-find_next.ensures.found in
     rw (← c.segments-segments.ensures.tree)
-    (c.find_next.ensures.kept.0 ∙ rw (at.1.0, sym c.pass_found.ensures, c.in_ok-node-in-Some.ensures.node, c.as_slice.ensures.value) refl)
+    (c.find_next.ensures.kept.0 ∙ rw (at.1.0, sym c.pass_node.ensures, c.in_ok-node-in-Some.ensures.node, c.as_slice.ensures.value) refl)
