@@ -1,12 +1,6 @@
 -- What `clap` reads of a command as it is built.
-use Rattle.std.proofs.Common.{◌≡◌, ◌∙◌, ◌<◌, true, codes, refl, ◌+◌, ℕ, List, [], ◌∷◌, map, fold, take, length, get_or, ap, sym}
-use Rattle.std.proofs.Common.{ap₂}
-use Rattle.std.proofs.lemmas.List.{map_more}
+use Rattle.jpq_options.proofs.Words.{◌≡◌, ◌∙◌, ◌<◌, true, codes, refl, ◌+◌, ℕ, List, [], ◌∷◌, map, fold, take, length, get_or, ap, sym, ap₂, map_more, App, Rule, new_app, with_rule, on_top, ValueParser, file_rule, jpq, path_rule, rule_of_setting, setting_of, settings}
 use Rattle.std.proofs.lemmas.List.Sums.{fold-append}
-use Rattle.clap.specs.Words.{App, Rule, new_app, with_rule}
-use Rattle.clap.specs.Simple.{on_top}
-use Rattle.clap.specs.declared.builder.value_parser.ValueParser.{ValueParser}
-use Rattle.jpq_options.specs.Table.{file_rule, jpq, path_rule, rule_of_setting, setting_of, settings}
 use Rattle.jpq_options.specs.declared.options.OptionRow.{OptionRow}
 
 abbrev pub rule_of_row : ValueParser → OptionRow → Rule

@@ -3,7 +3,9 @@
 -- Commands: what `clap` reads of a command as it is built.
 -- Found: what the getters of `clap` give, by rows.
 -- Returns: a line without the carriage return at its end.
+-- Words: the words of definitions and lemmas, from one place.
 pub mod Answered
 pub mod Commands
 pub mod Found
 pub mod Returns
+mod Words

@@ -1,10 +1,6 @@
 -- A line without the carriage return at its end.
-use Rattle.std.proofs.Common.{◌≡◌, ◌∙◌, ◌≢◌, ◌-◌, ◌<◌, ◌≤◌, ◌+◌, ◌++◌, ℕ, List, [], ◌∷◌, Option, Some, None, cond, length, take, get_or, refl, ap, sym, arith, eq-eqb, ne_eqb}
-use Rattle.std.specs.Prelude.{MatchOption, unwrap_or}
-use Rattle.std.specs.Borrow.{Bor}
-use Rattle.std.specs.Str.Lines.{strip_carriage_return}
+use Rattle.jpq_options.proofs.Words.{◌≡◌, ◌∙◌, ◌≢◌, ◌-◌, ◌<◌, ◌≤◌, ◌+◌, ◌++◌, ℕ, List, [], ◌∷◌, Option, Some, None, cond, length, take, get_or, refl, ap, sym, arith, eq-eqb, ne_eqb, MatchOption, unwrap_or, Bor, strip_carriage_return, take_all, take_more}
 use Rattle.std.proofs.lemmas.Grind.{common_steps}
-use Rattle.std.proofs.lemmas.List.{take_all, take_more}
 
 stripped : (l x : List ℕ) → l ≡ x ++ (13 ∷ []) → x ≡ strip_carriage_return l
 stripped l x e =

@@ -1,29 +1,10 @@
 -- The array of nodes, written item by item, is its JSON.
-use Rattle.std.proofs.Common.{◌≡◌, ℕ, suc, ◌≤◌, max, Bool, true, false, fold, List, [], ◌∷◌, ◌++◌, codes, Option, Some, option_map, refl, sym, ap, ap₂, subst, ◌∙◌, arith, append_assoc, append-nil}
-use Rattle.std.specs.Prelude.{option_and_then}
+use Rattle.jsonpath_lines.proofs.Words.{◌≡◌, ℕ, suc, ◌≤◌, max, Bool, true, false, fold, List, [], ◌∷◌, ◌++◌, codes, Option, Some, option_map, refl, sym, ap, ap₂, subst, ◌∙◌, arith, append_assoc, append-nil, option_and_then, Token, end_object, tokens, ArePrintable, ArePrintableOrBad, ends, escape_byte, print, print_from, json_tokens, items_tokens, members_tokens, HasNumbers, ItemsHaveNumbers, print_from-append, tokens-print, ArePrintable-json_tokens, value-json_tokens, Data, Items, Members, null, boolean, number, string, array, object, no_items, item, no_members, member, depth, items_depth, members_depth, read, of_json, of_items, max_depth, blank, blank_items, blank_members, comma_if, outline, items_outline, members_outline, print-outline, tokens_from_order, Located, IsJsonOf, IsJsonIn, array_of, items_of, object_of, ArePiecesIn, IsLaidOut, IsPrintedOf, path_string, Json, Layout, Compact, Pretty, Output}
 use Rattle.std.proofs.lemmas.Grind.{fold-append}
-use Rattle.json.specs.Token.{Token, end_object}
-use Rattle.json.specs.Lex.{tokens}
-use Rattle.json.specs.Print.{ArePrintable, ArePrintableOrBad, ends, escape_byte, print, print_from}
 use Rattle.json.specs.Json as json
-use Rattle.json.specs.Tree.{json_tokens, items_tokens, members_tokens, HasNumbers, ItemsHaveNumbers}
 use Rattle.json.specs.Tree as tree
 use Rattle.json.proofs.Numbered.{ArePrintableOrBad-tokens, value-HasNumbers}
-use Rattle.json.proofs.Printed.Tokens.{print_from-append, tokens-print}
-use Rattle.json.proofs.Printed.Trees.{ArePrintable-json_tokens, value-json_tokens}
-use Rattle.serde_json.specs.Data.{Data, Items, Members, null, boolean, number, string, array, object, no_items, item, no_members, member, depth, items_depth, members_depth}
-use Rattle.serde_json.specs.Read.{read, of_json, of_items, max_depth}
-use Rattle.serde_json.specs.Written.{blank, blank_items, blank_members, comma_if, outline, items_outline, members_outline}
-use Rattle.serde_json.proofs.Texts.{print-outline, tokens_from_order}
-use Rattle.serde_json_path_nodes.specs.Location.{Located}
 use Rattle.serde_json_path_nodes.specs.Text.{normal}
-use Rattle.jsonpath_lines.specs.Output.{IsJsonOf}
-use Rattle.jsonpath_lines.specs.Output.{IsJsonIn, array_of, items_of, object_of}
-use Rattle.jsonpath_lines.specs.Inside.{ArePiecesIn, IsLaidOut, IsPrintedOf, path_string}
-use Rattle.jsonpath_lines.specs.declared.forms.Form.TheVariants.{Json}
-use Rattle.jsonpath_lines.specs.declared.forms.Layout.{Layout}
-use Rattle.jsonpath_lines.specs.declared.forms.Layout.TheVariants.{Compact, Pretty}
-use Rattle.jsonpath_lines.specs.declared.forms.Output.{Output}
 
 -- ---- trees of JSON
 

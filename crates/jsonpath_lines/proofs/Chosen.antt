@@ -1,20 +1,8 @@
 -- The nodes that a walk is asked for.
-use Rattle.std.proofs.Common.{◌≡◌, ◌↔◌, ◌⊎◌, inl, inr, ℕ, zero, suc, ◌+◌, ◌≤◌, Bool, true, false, List, [], ◌∷◌, ◌++◌, length, take, codes, Option, Some, None, nat_lt, string_bytes, refl, sym, ap, subst, ◌∙◌, append-nil, append_assoc, arith}
-use Rattle.std.proofs.lemmas.List.{length-take, take_all, take-append-le}
-use Rattle.json.specs.Lex.{tokens}
-use Rattle.json.specs.Print.{ArePrintable}
-use Rattle.serde_json_path_nodes.specs.Location.{Located}
+use Rattle.jsonpath_lines.proofs.Words.{◌≡◌, ◌↔◌, ◌⊎◌, inl, inr, ℕ, zero, suc, ◌+◌, ◌≤◌, Bool, true, false, List, [], ◌∷◌, ◌++◌, length, take, codes, Option, Some, None, nat_lt, string_bytes, refl, sym, ap, subst, ◌∙◌, append-nil, append_assoc, arith, length-take, take_all, take-append-le, tokens, ArePrintable, Located, first_places_after, AreLines, AreLinesIn, IsCount, IsCountIn, up_to, Appends, ArePieces, ArePiecesIn, IsClosedIn, IsPiece, FilledLines, Pushes, TookLines, asked, is_reached, leaves_out_in, limit_in, once, opening, Form, LocationAndValue, Value, Raw, Location, Pointer, Json, Count, Nothing, Output, LineWriter, Lines}
 use Rattle.serde_json_path_core.specs.Sinks.{MatchTaken}
 use Rattle.serde_json_path_core.specs.declared.evaluation.sink.Taken.{Taken}
 use Rattle.serde_json_path_core.specs.declared.evaluation.sink.Taken.TheVariants.{More, Enough}
-use Rattle.serde_json_path_nodes.specs.Lists.{first_places_after}
-use Rattle.jsonpath_lines.specs.Output.{AreLines, AreLinesIn, IsCount, IsCountIn, up_to}
-use Rattle.jsonpath_lines.specs.Inside.{Appends, ArePieces, ArePiecesIn, IsClosedIn, IsPiece, FilledLines, Pushes, TookLines, asked, is_reached, leaves_out_in, limit_in, once, opening}
-use Rattle.jsonpath_lines.specs.declared.forms.Form.{Form}
-use Rattle.jsonpath_lines.specs.declared.forms.Form.TheVariants.{LocationAndValue, Value, Raw, Location, Pointer, Json, Count, Nothing}
-use Rattle.jsonpath_lines.specs.declared.forms.Output.{Output}
-use Rattle.jsonpath_lines.specs.declared.line.LineWriter.{LineWriter}
-use Rattle.jsonpath_lines.specs.declared.nodes.Lines.{Lines}
 use Rattle.jsonpath_lines.proofs.Arrays.{array_printable}
 use Rattle.jsonpath_lines.proofs.Pieces.{appended_pushed, length_further, lines_written}
 

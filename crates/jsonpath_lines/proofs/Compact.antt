@@ -1,22 +1,8 @@
 -- The texts of null, truth values and integers are their compact JSON, and read back.
-use Rattle.std.proofs.Common.{◌≡◌, ℕ, ◌^◌, ◌<◌, ◌≤◌, ℤ, pos, negsuc, List, [], Bool, true, false, Option, Some, None, option_map, option_and_then, if◌then◌else◌, nat_lt, int_lt, SFits, w64, decimal, rules, refl, sym, ap, ◌∙◌, arith, append-nil}
-use Rattle.std.specs.Fmt.{signed_decimal}
-use Rattle.json.specs.Token.{Token}
+use Rattle.jsonpath_lines.proofs.Words.{◌≡◌, ℕ, ◌^◌, ◌<◌, ◌≤◌, ℤ, pos, negsuc, List, [], Bool, true, false, Option, Some, None, option_map, option_and_then, if◌then◌else◌, nat_lt, int_lt, SFits, w64, decimal, rules, refl, sym, ap, ◌∙◌, arith, append-nil, signed_decimal, Token, json_tokens, HasNumbers, IsNumber-decimal, IsNumber-signed_decimal, tokens-print, value-json_tokens, ArePrintable-json_tokens, Data, unsigned, negative, null, boolean, number, as_number, as_u64, as_i64, read, of_json, max_depth, view, outline, compact_text, has_float, number_of-decimal, number_of-negative, print-outline, IsJsonOf}
 use Rattle.json.specs.Json as json
-use Rattle.json.specs.Tree.{json_tokens, HasNumbers}
 use Rattle.json.specs.Tree as tree
-use Rattle.json.proofs.Printed.Decimals.{IsNumber-decimal, IsNumber-signed_decimal}
-use Rattle.json.proofs.Printed.Tokens.{tokens-print}
-use Rattle.json.proofs.Printed.Trees.{value-json_tokens, ArePrintable-json_tokens}
-use Rattle.serde_json.specs.Data.{Data, unsigned, negative, null, boolean, number}
-use Rattle.serde_json.specs.Find.{as_number, as_u64, as_i64}
-use Rattle.serde_json.specs.Read.{read, of_json, max_depth}
-use Rattle.serde_json.specs.View.{view}
 use Rattle.serde_json.specs.declared.value.Value as value
-use Rattle.serde_json.specs.Written.{outline, compact_text, has_float}
-use Rattle.serde_json.proofs.Numbers.{number_of-decimal, number_of-negative}
-use Rattle.serde_json.proofs.Texts.{print-outline}
-use Rattle.jsonpath_lines.specs.Output.{IsJsonOf}
 
 abbrev whole : Option (json.Json × List Token) → Option Data
 whole o = option_and_then of_json (option_and_then (λ p. json.if_last p.0 p.1) o)

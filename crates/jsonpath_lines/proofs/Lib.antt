@@ -7,6 +7,7 @@
 -- Scalars: the same in each layout.
 -- Arrays: the array of nodes, written item by item, is its JSON.
 -- Appended: what writes leave, one after the other.
+-- Words: the words of definitions and lemmas, from one place.
 pub mod Pieces
 pub mod Chosen
 pub mod EachOnce
@@ -15,3 +16,4 @@ pub mod Compact
 pub mod Scalars
 pub mod Arrays
 pub mod Appended
+mod Words

@@ -1,11 +1,5 @@
 -- What is shown of some nodes, with that of another node after it; the lines that the pieces make up.
-use Rattle.std.proofs.Common.{◌≡◌, ℕ, ◌+◌, Bool, true, false, nat_lt, List, [], ◌∷◌, ◌++◌, length, length-append, codes, decimal, refl, sym, ap, subst, ◌∙◌, append_assoc, append-nil, arith}
-use Rattle.serde_json_path_nodes.specs.Location.{Located}
-use Rattle.jsonpath_lines.specs.Output.{AreLinesIn, IsLine, IsLineOfEach, array_of, end_text}
-use Rattle.jsonpath_lines.specs.Inside.{Appends, ArePieces, ArePiecesIn, IsPiece, IsClosedIn, IsPieceIn, opening}
-use Rattle.jsonpath_lines.specs.declared.forms.Form.{Form}
-use Rattle.jsonpath_lines.specs.declared.forms.Form.TheVariants.{LocationAndValue, Value, Raw, Location, Pointer, Json, Count, Nothing}
-use Rattle.jsonpath_lines.specs.declared.forms.Output.{Output}
+use Rattle.jsonpath_lines.proofs.Words.{◌≡◌, ℕ, ◌+◌, Bool, true, false, nat_lt, List, [], ◌∷◌, ◌++◌, length, length-append, codes, decimal, refl, sym, ap, subst, ◌∙◌, append_assoc, append-nil, arith, Located, AreLinesIn, IsLine, IsLineOfEach, array_of, end_text, Appends, ArePieces, ArePiecesIn, IsPiece, IsClosedIn, IsPieceIn, opening, Form, LocationAndValue, Value, Raw, Location, Pointer, Json, Count, Nothing, Output}
 use Rattle.jsonpath_lines.proofs.Arrays.{array_is, json_laid_out}
 
 -- ---- one node further

@@ -1,28 +1,9 @@
 -- The texts of null, truth values and integers are their JSON in each layout.
-use Rattle.std.proofs.Common.{◌≡◌, ℕ, ◌^◌, ◌<◌, ℤ, pos, negsuc, List, [], ◌∷◌, Bool, true, false, Some, None, if◌then◌else◌, nat_lt, int_lt, SFits, w64, decimal, rules, refl, sym, ap, subst, ◌∙◌, arith, append-nil}
-use Rattle.std.specs.Prelude.{option_and_then}
-use Rattle.std.specs.Fmt.{signed_decimal}
-use Rattle.json.specs.Token.{Token}
-use Rattle.json.specs.Lex.{tokens}
+use Rattle.jsonpath_lines.proofs.Words.{◌≡◌, ℕ, ◌^◌, ◌<◌, ℤ, pos, negsuc, List, [], ◌∷◌, Bool, true, false, Some, None, if◌then◌else◌, nat_lt, int_lt, SFits, w64, decimal, rules, refl, sym, ap, subst, ◌∙◌, arith, append-nil, option_and_then, signed_decimal, Token, tokens, print, token_text, json_tokens, HasNumbers, IsNumber-decimal, IsNumber-signed_decimal, tokens-print, ArePrintable-json_tokens, Data, unsigned, negative, null, boolean, number, as_number, as_u64, as_i64, view, blank, compact_text, outline, number_of-decimal, number_of-negative, print-outline, unless_float-number_of, IsJsonIn, IsJsonOf, IsPrettyOf, IsLaid, IsPrintedOf, Layout, Compact, Pretty}
 use Rattle.json.specs.Layout.{pretty, pretty_from}
-use Rattle.json.specs.Print.{print, token_text}
-use Rattle.json.specs.Tree.{json_tokens, HasNumbers}
 use Rattle.json.specs.Json as json
-use Rattle.json.proofs.Printed.Decimals.{IsNumber-decimal, IsNumber-signed_decimal}
-use Rattle.json.proofs.Printed.Tokens.{tokens-print}
-use Rattle.json.proofs.Printed.Trees.{ArePrintable-json_tokens}
-use Rattle.serde_json.specs.Data.{Data, unsigned, negative, null, boolean, number}
-use Rattle.serde_json.specs.Find.{as_number, as_u64, as_i64}
-use Rattle.serde_json.specs.View.{view}
 use Rattle.serde_json.specs.declared.value.Value as value
-use Rattle.serde_json.specs.Written.{blank, compact_text, outline}
-use Rattle.serde_json.proofs.Numbers.{number_of-decimal, number_of-negative}
-use Rattle.serde_json.proofs.Texts.{print-outline, unless_float-number_of}
 use Rattle.jsonpath_lines.proofs.Compact as compact
-use Rattle.jsonpath_lines.specs.Output.{IsJsonIn, IsJsonOf, IsPrettyOf}
-use Rattle.jsonpath_lines.specs.Inside.{IsLaid, IsPrintedOf}
-use Rattle.jsonpath_lines.specs.declared.forms.Layout.{Layout}
-use Rattle.jsonpath_lines.specs.declared.forms.Layout.TheVariants.{Compact, Pretty}
 
 -- one token alone has the same text in each layout
 pretty_token : (t : Token) → pretty (t ∷ []) ≡ token_text t

@@ -1,6 +1,5 @@
 -- The derived `==` of elements answers as `same_step` does of their steps.
-use Rattle.serde_json_path_nodes.proofs.Words.{nat_tests, and_parts, pointwise, as_long, same_step, same_steps, step_view, PathElement}
-use Rattle.std.proofs.Common.{arith, ◌≡◌, ℕ, zero, suc, ◌-◌, Bool, true, false, List, [], ◌∷◌, length, map, slice_get, Option, Bor, refl, ◌∙◌}
+use Rattle.serde_json_path_nodes.proofs.Words.{nat_tests, and_parts, pointwise, as_long, same_step, same_steps, step_view, PathElement, arith, ◌≡◌, ℕ, zero, suc, ◌-◌, Bool, true, false, List, [], ◌∷◌, length, map, slice_get, Option, Bor, refl, ◌∙◌}
 use Rattle.std.specs.Option.{option_eq, option_copied}
 use Rattle.serde_json_path_nodes.specs.contracts.path_element.PathElementPartialEq.TheImpl.{eq-value}
 

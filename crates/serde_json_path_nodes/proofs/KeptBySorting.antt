@@ -1,7 +1,6 @@
 -- Numbered elements are sorted by an order and then by number, those that tie with their neighbour are removed, and the
 -- others are sorted back by number: what is left are the elements that no earlier one ties with, in their order.
-use Rattle.std.proofs.Common.{◌≡◌, ℕ, ◌+◌, ◌<◌, ◌≤◌, Bool, true, false, cond, not, ◌&&◌, ◌||◌, ltb, nat_eq, List, [], ◌∷◌, length, get_or, refl, ap, sym, ◌∙◌, arith, inl, inr}
-use Rattle.serde_json_path_nodes.proofs.Words.{Equal-is, IsTotalOrder, All, AllByRecursion, IsDistinct, dedup, dedup_from, filter, list_any, sum_by, IsNonDecreasingBy, IsPermutation, IsSortedBy, eq_by_cmp, is_eq, is_lt, nat_cmp, on, ordering_reverse, ordering_then, then_cmp, Ordering, Less, and_from, cases_lt, le-ltb, lt-ltb, ne_eqb, or_left, nat_tests, nat_cmp_total, nat_eq_equiv, on_total, ranked, then_total, tied_back, get_or_default, All-filter, All-same, All-tail, filter_agree, All-permutation, IsNonDecreasingBy-drop, list_any-IsPermutation, sum_by-IsPermutation}
+use Rattle.serde_json_path_nodes.proofs.Words.{◌≡◌, ℕ, ◌+◌, ◌<◌, ◌≤◌, Bool, true, false, cond, not, ◌&&◌, ◌||◌, ltb, nat_eq, List, [], ◌∷◌, length, get_or, refl, ap, sym, ◌∙◌, arith, inl, inr, Equal-is, IsTotalOrder, All, AllByRecursion, IsDistinct, dedup, dedup_from, filter, list_any, sum_by, IsNonDecreasingBy, IsPermutation, IsSortedBy, eq_by_cmp, is_eq, is_lt, nat_cmp, on, ordering_reverse, ordering_then, then_cmp, Ordering, Less, and_from, cases_lt, le-ltb, lt-ltb, ne_eqb, or_left, nat_tests, nat_cmp_total, nat_eq_equiv, on_total, ranked, then_total, tied_back, get_or_default, All-filter, All-same, All-tail, filter_agree, All-permutation, IsNonDecreasingBy-drop, list_any-IsPermutation, sum_by-IsPermutation}
 use Rattle.std.specs.List.Sorted.{IsStrictlySortedBy}
 use Rattle.std.proofs.lemmas.List.Kept.{IsNonDecreasingBy-filter}
 use Rattle.std.proofs.lemmas.List.Sums.{sum_by-cons, sum_by-le}

@@ -1,6 +1,5 @@
 -- The order of steps is total, and so is that of locations, which goes step by step.
-use Rattle.std.proofs.Common.{◌≡◌, ◌⊎◌, ℕ, suc, List, [], ◌∷◌, length, map, refl, sym, arith}
-use Rattle.serde_json_path_nodes.proofs.Words.{nat_tests, nat_cmp_total, nat_list_cmp_total, lists_total, IsTotalOrder, unsigned_ties, slice_cmp, lists_ties, eq_by_cmp, ordering_reverse, ordering_then, nat_cmp, Ordering, Less, Equal, Step, by_name, by_position, same_step, same_steps, step_cmp, location_cmp}
+use Rattle.serde_json_path_nodes.proofs.Words.{◌≡◌, ◌⊎◌, ℕ, suc, List, [], ◌∷◌, length, map, refl, sym, arith, nat_tests, nat_cmp_total, nat_list_cmp_total, lists_total, IsTotalOrder, unsigned_ties, slice_cmp, lists_ties, eq_by_cmp, ordering_reverse, ordering_then, nat_cmp, Ordering, Less, Equal, Step, by_name, by_position, same_step, same_steps, step_cmp, location_cmp}
 
 step_cmp-antisymm : (s t : Step) → step_cmp s t ≡ ordering_reverse (step_cmp t s)
 step_cmp-antisymm (by_name a) (by_name b) = nat_list_cmp_total.antisymm a b

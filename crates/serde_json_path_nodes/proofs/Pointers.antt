@@ -1,7 +1,6 @@
 -- A name in a pointer, character by character.
-use Rattle.std.proofs.Common.{◌≡◌, ◌≢◌, ℕ, List, ◌++◌, arith, append_assoc}
+use Rattle.serde_json_path_nodes.proofs.Words.{◌≡◌, ◌≢◌, ℕ, List, ◌++◌, arith, append_assoc, flat_map, nat_tests, flat_map-append, in_pointer}
 use lib.Utf8.{encode}
-use Rattle.serde_json_path_nodes.proofs.Words.{flat_map, nat_tests, flat_map-append, in_pointer}
 
 -- a text that stands for itself
 abbrev Copies : List ℕ → Type 0

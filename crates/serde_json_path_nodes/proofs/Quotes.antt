@@ -1,6 +1,6 @@
 -- A text in quotes, written in stretches of characters that print themselves.
-use Rattle.std.proofs.Common.{◌≡◌, ℕ, ◌+◌, ◌<◌, false, List, [], ◌∷◌, ◌++◌, length, get_or, None, take, drop, unwrap_or, encode_utf8, encode_utf8_all, refl, sym, ap, ◌∙◌, append_assoc, arith}
-use Rattle.serde_json_path_nodes.proofs.Words.{flat_map, IsCharBoundary, IsUtf8, NonePass, chars, nat_tests, common_steps, flat_map-append, take-append-drop, take_more, chars-append, chars_past_char, encodes-chars, IsUtf8-take, escape_of, in_quotes, is_escaped}
+use Rattle.serde_json_path_nodes.proofs.Words.{◌≡◌, ℕ, ◌+◌, ◌<◌, false, List, [], ◌∷◌, ◌++◌, length, get_or, None, take, drop, unwrap_or, encode_utf8, refl, sym, ap, ◌∙◌, append_assoc, arith, flat_map, IsCharBoundary, IsUtf8, NonePass, chars, nat_tests, common_steps, flat_map-append, take-append-drop, take_more, chars-append, chars_past_char, encodes-chars, IsUtf8-take, escape_of, in_quotes, is_escaped}
+use Rattle.std.proofs.Common.{encode_utf8_all}
 
 -- ---- what prints itself
 

@@ -1,6 +1,5 @@
 -- A location, written step by step: each bracket is closed by what is written before the next step.
-use Rattle.std.proofs.Common.{◌≡◌, ℕ, ◌+◌, ◌<◌, List, ◌++◌, length, get_or, map, take, codes, append_assoc, append-nil}
-use Rattle.serde_json_path_nodes.proofs.Words.{flat_map-append, map-append, take_more, Step, normal, normal_step, step_view, PathElement}
+use Rattle.serde_json_path_nodes.proofs.Words.{◌≡◌, ℕ, ◌+◌, ◌<◌, List, ◌++◌, length, get_or, map, take, codes, append_assoc, append-nil, flat_map-append, map-append, take_more, Step, normal, normal_step, step_view, PathElement}
 
 -- the text of a location that has one step more
 pub normal_more : (items : List PathElement) (i : ℕ) (d : PathElement) (s : Step) → i < length items → step_view (get_or items i d) ≡ s

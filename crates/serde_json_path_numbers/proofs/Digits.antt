@@ -1,7 +1,5 @@
 -- Digits written from the last to the first.
-use Rattle.std.proofs.Common.{◌≡◌, ℕ, suc, ◌+◌, ◌*◌, ◌/◌, ◌%◌, ◌^◌, ◌<◌, ◌≤◌, List, [], ◌∷◌, ◌++◌, length, drop, refl, sym, ap, ◌∙◌, arith, drop-cons, get_or-set_same, drop-set-lt, length-set, le-ltb, lt-ltb, length-append, div-add-mod', mod-lt, pow-suc, div-lt_iff_lt-mul, mul-one, append-nil, Bool, true, false}
-use Rattle.std.specs.Prelude.{slice_set}
-use Rattle.std.specs.Float.Ieee.{Format, round}
+use Rattle.serde_json_path_numbers.proofs.Words.{◌≡◌, ℕ, suc, ◌+◌, ◌*◌, ◌/◌, ◌%◌, ◌^◌, ◌<◌, ◌≤◌, List, [], ◌∷◌, ◌++◌, length, drop, refl, sym, ap, ◌∙◌, arith, drop-cons, get_or-set_same, drop-set-lt, length-set, le-ltb, lt-ltb, length-append, div-add-mod', mod-lt, pow-suc, div-lt_iff_lt-mul, mul-one, append-nil, Bool, true, false, slice_set, Format, round}
 use Rattle.std.specs.Char.{digit_value}
 use Rattle.std.specs.Str.Parse.{digits_value, digits_value_after, AllDigits}
 use Rattle.std.proofs.lemmas.Float.Parse.{scan_numeral-text_of}

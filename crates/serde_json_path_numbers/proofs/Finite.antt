@@ -1,15 +1,6 @@
 -- Numbers of literals are in range, and finite.
-use Rattle.std.proofs.lemmas.Bool.Decides.{nat_tests}
-use Rattle.std.proofs.Common.{◌≡◌, ℕ, ◌*◌, ◌^◌, ◌<◌, Bool, true, false, T, refl, ◌∙◌, arith, lit<, to_z, of_z}
-use Rattle.std.specs.Prelude.{ℤ, pos, int_div, unsigned_abs, Some}
-use Rattle.std.specs.Int.{w128}
-use Rattle.std.specs.Float.{float_is_finite}
-use Rattle.std.specs.Float.Ieee.{Float, binary64, round, le, units, odd}
+use Rattle.serde_json_path_numbers.proofs.Words.{nat_tests, ◌≡◌, ℕ, ◌*◌, ◌^◌, ◌<◌, Bool, true, false, T, refl, ◌∙◌, arith, lit<, to_z, of_z, ℤ, pos, int_div, unsigned_abs, Some, w128, float_is_finite, Float, binary64, round, le, units, odd, literal_double, IsInLiteralRange, NumbersAreFinite, is_exact, Integer, Double}
 use Rattle.std.proofs.lemmas.Int.{ints}
-use Rattle.serde_json_path_numbers.specs.Numbers.{literal_double, IsInLiteralRange}
-use Rattle.serde_json_path_numbers.specs.Laws.{NumbersAreFinite}
-use Rattle.serde_json_path_numbers.specs.Inside.{is_exact}
-use Rattle.serde_json_path_numbers.specs.declared.exact_number.Form.TheVariants.{Integer, Double}
 use Rattle.serde_json_path_numbers.proofs.Forms.{finite_integer}
 use lib.Ieee.Exact.{HasValue, round_exact}
 use lib.Ieee.Back.{round_whole}

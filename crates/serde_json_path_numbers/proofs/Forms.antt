@@ -1,17 +1,7 @@
 -- Numbers by what holds them; integers keep their order.
-use Rattle.std.proofs.Common.{◌≡◌, true, T, arith, sym, ap, ◌∙◌, subst, eqb→eq, eq-eqb, to_z-of_z, to_z, of_z, Ordering}
-use Rattle.std.proofs.lemmas.Bool.Decides.{nat_tests}
-use Rattle.std.specs.Prelude.{ℤ, nat_eq, int_lt, FitsSigned}
-use Rattle.std.specs.Int.{w128}
-use Rattle.std.specs.Float.{float_is_finite}
-use Rattle.std.specs.Float.Ieee.{Float, lt, eq}
-use Rattle.std.proofs.lemmas.Float.{T_from_true}
-use Rattle.serde_json_path_numbers.specs.Numbers.{integer}
-use Rattle.serde_json_path_numbers.specs.Inside.{IsOrder, held_number, is_exact}
+use Rattle.serde_json_path_numbers.proofs.Words.{◌≡◌, true, T, arith, sym, ap, ◌∙◌, subst, eqb→eq, eq-eqb, to_z-of_z, to_z, of_z, Ordering, nat_tests, ℤ, nat_eq, int_lt, FitsSigned, w128, float_is_finite, Float, lt, eq, T_from_true, integer, IsOrder, held_number, is_exact, Integer, Double, IntegersKeepTheirOrder}
 use Rattle.serde_json_path_numbers.specs.declared.exact_number.Form.{Form}
-use Rattle.serde_json_path_numbers.specs.declared.exact_number.Form.TheVariants.{Integer, Double}
 use Rattle.serde_json_path_numbers.proofs.Floats.{same, sure, equality, IsTold, told}
-use Rattle.serde_json_path_numbers.specs.Laws.{IntegersKeepTheirOrder}
 use lib.Signed.{lt_z_yes}
 
 pub in_range : (z : ℤ) → is_exact (Integer z) ≡ true → FitsSigned w128 z

@@ -5,9 +5,11 @@
 -- Forms: numbers by what holds them; integers keep their order.
 -- Digits: digits written from the last to the first.
 -- Finite: numbers of literals are in range, and finite.
+-- Words: the words of definitions and lemmas, from one place.
 mod Digits
 pub mod Finite
 pub mod Floats
 mod Forms
 mod Orders
 mod Ratios
+mod Words

@@ -1,13 +1,5 @@
 -- An integer and a double, by the double's whole part and fraction.
-use Rattle.std.proofs.lemmas.Bool.Decides.{nat_tests}
-use Rattle.std.proofs.Common.{◌≡◌, ℕ, suc, ◌*◌, ◌/◌, ◌^◌, ◌<◌, ◌≤◌, true, false, T, refl, sym, ap, ◌∙◌, arith, ltb-true, lt-ltb, le-ltb, nat_cmp, Ordering, div-lt_iff_lt-mul, le-div_iff_mul-le, div-mul-le_self, suc-mul, ne_eqb, eq-zero-or-pos, pos_of_ne-zero}
-use Rattle.std.specs.Prelude.{pos}
-use Rattle.std.specs.Float.{trunc, float_is_finite, minus_one, two_to}
-use Rattle.std.specs.Float.Ieee.{Float, binary64, fits, lt, le, to_unsigned, of_bits, is_nan}
-use Rattle.std.specs.Float.Order.{lt_at}
-use Rattle.std.proofs.lemmas.Float.{T_from_true, T_from_false, lt_of_lt_of_le, lt_of_not-le, le_of_not-lt}
-use Rattle.serde_json_path_numbers.specs.Inside.{IsOrder}
-use Rattle.serde_json_path_numbers.specs.Numbers.{integer, IsLessNumber, AreEqualNumbers}
+use Rattle.serde_json_path_numbers.proofs.Words.{nat_tests, ◌≡◌, ℕ, suc, ◌*◌, ◌/◌, ◌^◌, ◌<◌, ◌≤◌, true, false, T, refl, sym, ap, ◌∙◌, arith, ltb-true, lt-ltb, le-ltb, nat_cmp, Ordering, div-lt_iff_lt-mul, le-div_iff_mul-le, div-mul-le_self, suc-mul, ne_eqb, eq-zero-or-pos, pos_of_ne-zero, pos, trunc, float_is_finite, minus_one, two_to, Float, binary64, fits, lt, le, to_unsigned, of_bits, is_nan, lt_at, T_from_true, T_from_false, lt_of_lt_of_le, lt_of_not-le, le_of_not-lt, IsOrder, integer, IsLessNumber, AreEqualNumbers}
 use Rattle.serde_json_path_numbers.proofs.Ratios.{IsRatio, ratio, value}
 use Rattle.serde_json_path_numbers.proofs.Floats.{sure, number, level}
 use lib.Ieee.Order.{le_of_values}

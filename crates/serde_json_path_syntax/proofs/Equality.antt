@@ -1,7 +1,6 @@
 -- Equality of parts, of any kind and one by one.
-use Rattle.std.proofs.Common.{◌≡◌, ◌≢◌, ◌≤◌, ◌⊎◌, List, [], ◌∷◌, length, Bool, true, false, ◌&&◌, refl, sym, ap, ◌∙◌, arith}
+use Rattle.serde_json_path_syntax.proofs.Words.{◌≡◌, ◌≢◌, ◌≤◌, ◌⊎◌, List, [], ◌∷◌, length, Bool, true, false, ◌&&◌, refl, sym, ap, ◌∙◌, arith, length-map, branch_in, branches_named, ands_in, arguments_in, call_in, comparable_in, or_in, ors_in, query_in, segments_in, selectors_in, parts_bound, Branch, a_query, a_segment, a_selector, an_or, an_and, a_basic, a_comparable, a_call, an_argument, same_branch, same_and, same_arguments, same_call, same_comparable, same_or, same_query, same_segments, same_selectors, Part, each_is, is_and, is_argument, is_basic, is_call, is_comparable, is_or, is_query, is_segment, is_selector}
 use Rattle.std.specs.Cmp.Lexicographic.{pointwise, unequal}
-use Rattle.serde_json_path_syntax.proofs.Words.{length-map, branch_in, branches_named, ands_in, arguments_in, call_in, comparable_in, or_in, ors_in, query_in, segments_in, selectors_in, parts_bound, Branch, a_query, a_segment, a_selector, an_or, an_and, a_basic, a_comparable, a_call, an_argument, same_branch, same_and, same_arguments, same_call, same_comparable, same_or, same_query, same_segments, same_selectors, Part, each_is, is_and, is_argument, is_basic, is_call, is_comparable, is_or, is_query, is_segment, is_selector}
 use Rattle.serde_json_path_syntax.proofs.Tree.NamedParts.{query_of_singular}
 
 -- ---- parts of two trees that are compared one by one

@@ -1,6 +1,5 @@
 -- Members of lists, and lists in order.
-use Rattle.std.proofs.Common.{true, false, refl, sym, true≢false, ◌≡◌, List, [], ◌∷◌, ◌++◌, map, flat_map, filter as keep, ◌⊎◌, ◌↔◌, inl, inr, Bool, Option, Some, None, option_to_list, ap, subst, ◌∙◌}
-use Rattle.serde_json_path_syntax.proofs.Words.{Decides, cases_Bool, flat_map-append, map-append, none-some, same_Some, IsIn, IsInOrder}
+use Rattle.serde_json_path_syntax.proofs.Words.{true, false, refl, sym, true≢false, ◌≡◌, List, [], ◌∷◌, ◌++◌, map, flat_map, keep, ◌⊎◌, ◌↔◌, inl, inr, Bool, Option, Some, None, option_to_list, ap, subst, ◌∙◌, Decides, cases_Bool, flat_map-append, map-append, none-some, same_Some, IsIn, IsInOrder}
 
 -- ---- tests that always hold, and that never do
 

@@ -1,8 +1,7 @@
 -- What is printed of a part of any kind.
-use Rattle.std.proofs.Common.{◌≡◌, ◌≢◌, ◌∙◌, ℕ, zero, suc, ◌+◌, ◌-◌, ◌*◌, ◌/◌, ◌%◌, ◌<◌, ℤ, pos, negsuc, List, [], ◌++◌, codes, true, false, refl, sym, ap, append_assoc, arith, ◌≤◌, ◌∷◌, length, map, take, get_or}
+use Rattle.serde_json_path_syntax.proofs.Words.{◌≡◌, ◌≢◌, ◌∙◌, ℕ, zero, suc, ◌+◌, ◌-◌, ◌*◌, ◌/◌, ◌%◌, ◌<◌, ℤ, pos, negsuc, List, [], ◌++◌, codes, true, false, refl, sym, ap, append_assoc, arith, ◌≤◌, ◌∷◌, length, map, take, get_or, ints, decimal, HasWritten, IsPlainFormatter, amount_text, fraction_digits, number_text, query_text, joined, branch_text, and_text, and_texts, argument_text, argument_texts, basic_text, basic_texts, call_text, comparable_text, or_text, segment_text, segments_text, selector_text, selector_texts, has_written_append, has_written_of_eq, flat_map_more, map_more, take_all, branch_in, branches_named, ands_in, arguments_in, call_in, comparable_in, or_in, ors_in, query_in, segments_in, selectors_in, Branch, a_query, a_segment, a_selector, an_or, an_and, a_basic, a_comparable, a_call, an_argument, Part, each_is, is_and, is_argument, is_basic, is_call, is_comparable, is_or, is_query, is_segment, is_selector}
 use lib.Signed.{lt_z}
 use Rattle.std.proofs.Math.IntN.{nat_abs}
-use Rattle.serde_json_path_syntax.proofs.Words.{ints, decimal, HasWritten, IsPlainFormatter, amount_text, fraction_digits, number_text, query_text, joined, branch_text, and_text, and_texts, argument_text, argument_texts, basic_text, basic_texts, call_text, comparable_text, or_text, segment_text, segments_text, selector_text, selector_texts, has_written_append, has_written_of_eq, flat_map_more, map_more, take_all, branch_in, branches_named, ands_in, arguments_in, call_in, comparable_in, or_in, ors_in, query_in, segments_in, selectors_in, Branch, a_query, a_segment, a_selector, an_or, an_and, a_basic, a_comparable, a_call, an_argument, Part, each_is, is_and, is_argument, is_basic, is_call, is_comparable, is_or, is_query, is_segment, is_selector}
 use Rattle.std.specs.declared.fmt.Formatter.{Formatter}
 use Rattle.std.specs.List.{flat_map}
 use Rattle.serde_json_path_syntax.proofs.Tree.NamedParts.{one_is, others, others-bound, others-cons, others_are, query_of_singular, within_get}

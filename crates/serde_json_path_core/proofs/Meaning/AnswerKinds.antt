@@ -1,6 +1,5 @@
 -- Well-typed calls have answers, and under a function set that keeps types these and the computed arguments have their declared types.
-use Rattle.std.proofs.Common.{◌≡◌, List, [], ◌∷◌, map, Some, true, refl, sym, ap, ◌∙◌}
-use Rattle.serde_json_path_core.proofs.Words.{same_Some, Data, Comparable, literal, singular, called, Call, call, Arguments, no_arguments, argument, Argument, literal_argument, query_argument, call_argument, logical_argument, Kind, of_value, of_logical, Term, FunctionSet, kind_of_term, KeepsTypes, Compared, literal_compared, value_compared, first_value, result_kind, IsTypedComparable, IsTypedCall, AreTypedArguments, IsTypedArgument, results, compared, answer, arguments, argument_as, answer_compared, are_taken, is_answered, is_taken, value}
+use Rattle.serde_json_path_core.proofs.Words.{◌≡◌, List, [], ◌∷◌, map, Some, true, refl, sym, ap, ◌∙◌, same_Some, Data, Comparable, literal, singular, called, Call, call, Arguments, no_arguments, argument, Argument, literal_argument, query_argument, call_argument, logical_argument, Kind, of_value, of_logical, Term, FunctionSet, kind_of_term, KeepsTypes, Compared, literal_compared, value_compared, first_value, result_kind, IsTypedComparable, IsTypedCall, AreTypedArguments, IsTypedArgument, results, compared, answer, arguments, argument_as, answer_compared, are_taken, is_answered, is_taken, value}
 
 module _ (F : FunctionSet) where
   mutual

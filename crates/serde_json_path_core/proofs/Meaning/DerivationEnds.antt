@@ -1,6 +1,5 @@
 -- Where derivations end, and what is beneath.
-use Rattle.std.proofs.Common.{◌≡◌, suc, List, [], ◌∷◌, ◌++◌, map, flat_map, inl, inr, option_to_list, refl, sym, ap, ◌∙◌, arith, append_assoc}
-use Rattle.serde_json_path_core.proofs.Words.{append-nil, map-append, flat_map-map, Data, Step, by_name, Located, StepBefore, DescentBefore, SegmentKind, child, descendant, Segments, no_segments, segment, Segment, dot_name, dot_wildcard, long_hand, Selectors, no_selectors, selector, Selector, name, wildcard, index, slice, filter, FunctionSet, Triple, location_of, SelectedBefore, TripleBefore, Before, beneath, IsIn, IsInOrder, child_by, item_at, itself, children, descents, reached, placed, results_from, chosen, chosen_by, selected, is_true, in_append, in_map, weaker, in_order-append, in_order-map, in_order-flat_map, in_order-keep, in_order-option, flat_map-same, flat_map-flat_map, map-flat_map, map-map}
+use Rattle.serde_json_path_core.proofs.Words.{◌≡◌, suc, List, [], ◌∷◌, ◌++◌, map, flat_map, inl, inr, option_to_list, refl, sym, ap, ◌∙◌, arith, append_assoc, append-nil, map-append, flat_map-map, Data, Step, by_name, Located, StepBefore, DescentBefore, SegmentKind, child, descendant, Segments, no_segments, segment, Segment, dot_name, dot_wildcard, long_hand, Selectors, no_selectors, selector, Selector, name, wildcard, index, slice, filter, FunctionSet, Triple, location_of, SelectedBefore, TripleBefore, Before, beneath, IsIn, IsInOrder, child_by, item_at, itself, children, descents, reached, placed, results_from, chosen, chosen_by, selected, is_true, in_append, in_map, weaker, in_order-append, in_order-map, in_order-flat_map, in_order-keep, in_order-option, flat_map-same, flat_map-flat_map, map-flat_map, map-map}
 use Rattle.serde_json_path_core.proofs.Meaning.ChildSteps.{children_ordered}
 use Rattle.serde_json_path_core.proofs.Meaning.Descents.{descents_ordered}
 use Rattle.serde_json_path_core.proofs.Meaning.SlicePositions.{sliced_ordered}

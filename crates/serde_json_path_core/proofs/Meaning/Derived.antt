@@ -1,6 +1,5 @@
 -- The computed ends are those of the derivations, and the computed tests hold where the defined ones do.
-use Rattle.std.proofs.Common.{◌≡◌, ℕ, zero, suc, List, [], ◌∷◌, ◌++◌, map, ◌↔◌, inl, inr, Bool, true, false, ◌&&◌, Option, Some, None, option_and_then, option_to_list, refl, sym, ap, subst, ◌∙◌, true≢false, append_assoc}
-use Rattle.serde_json_path_core.proofs.Words.{Numbers, value, always, never, Decides, AllZip, Decides-and, Decides-or, Decides-not, same_from_decides, same_Some, none-some, Data, Step, by_name, child_at, at, Located, QueryKind, Query, query, SegmentKind, child, descendant, Segments, no_segments, segment, Segment, dot_name, dot_wildcard, long_hand, Selectors, no_selectors, selector, Selector, name, wildcard, index, slice, filter, LogicalOr, no_or, or, LogicalAnd, no_and, and, Basic, paren, not_paren, relation, exist, not_exist, test, not_test, Operator, Comparable, literal, singular, called, Call, call, Arguments, no_arguments, argument, Argument, literal_argument, query_argument, call_argument, logical_argument, Kind, of_value, of_nodes, of_logical, Term, nodes, logical, FunctionSet, Compared, Compares, literal_compared, value_compared, Triple, location_of, start_of, BelongsTo, Before, IsIn, MayDescend, Derives, AdmitsIn, AdmitsBy, Admits, Holds, HoldsAll, HoldsBasic, Exists, IsResult, IsComparedAs, Answers, AreArguments, IsArgument, AnswersYes, IsTruthOf, first_value, params_of, child_by, itself, children, results, selected, is_true, all_true, basic_true, compare_sides, compared, answer, arguments, argument_as, are_taken, is_answered, is_taken, answer_holds, answer_compared, is_nonempty, in_append, in_map, map_in, in_flat_map, in_keep, in_order-map}
+use Rattle.serde_json_path_core.proofs.Words.{◌≡◌, ℕ, zero, suc, List, [], ◌∷◌, ◌++◌, map, ◌↔◌, inl, inr, Bool, true, false, ◌&&◌, Option, Some, None, option_and_then, option_to_list, refl, sym, ap, subst, ◌∙◌, true≢false, append_assoc, Numbers, value, always, never, Decides, AllZip, Decides-and, Decides-or, Decides-not, same_from_decides, same_Some, none-some, Data, Step, by_name, child_at, at, Located, QueryKind, Query, query, SegmentKind, child, descendant, Segments, no_segments, segment, Segment, dot_name, dot_wildcard, long_hand, Selectors, no_selectors, selector, Selector, name, wildcard, index, slice, filter, LogicalOr, no_or, or, LogicalAnd, no_and, and, Basic, paren, not_paren, relation, exist, not_exist, test, not_test, Operator, Comparable, literal, singular, called, Call, call, Arguments, no_arguments, argument, Argument, literal_argument, query_argument, call_argument, logical_argument, Kind, of_value, of_nodes, of_logical, Term, nodes, logical, FunctionSet, Compared, Compares, literal_compared, value_compared, Triple, location_of, start_of, BelongsTo, Before, IsIn, MayDescend, Derives, AdmitsIn, AdmitsBy, Admits, Holds, HoldsAll, HoldsBasic, Exists, IsResult, IsComparedAs, Answers, AreArguments, IsArgument, AnswersYes, IsTruthOf, first_value, params_of, child_by, itself, children, results, selected, is_true, all_true, basic_true, compare_sides, compared, answer, arguments, argument_as, are_taken, is_answered, is_taken, answer_holds, answer_compared, is_nonempty, in_append, in_map, map_in, in_flat_map, in_keep, in_order-map}
 use Rattle.serde_json_path_core.proofs.Meaning.ChildSteps.{in_children, in_child_by, in_item_at}
 use Rattle.serde_json_path_core.proofs.Meaning.Comparisons.{Decides-compare}
 use Rattle.serde_json_path_core.proofs.Meaning.Descents.{in_descents}

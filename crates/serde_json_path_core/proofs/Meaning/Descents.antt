@@ -1,6 +1,5 @@
 -- The computed values below a value are those at its locations, in document order.
-use Rattle.std.proofs.Common.{◌≡◌, ℕ, zero, suc, ◌+◌, ◌≤◌, max, length, List, [], ◌∷◌, ◌++◌, map, flat_map, Ordering, Less, nat_cmp, Some, option_and_then, ◌↔◌, inl, inr, refl, sym, ap, subst, ◌∙◌, arith}
-use Rattle.serde_json_path_core.proofs.Words.{insert_entry, slice_cmp, match_ordering, same_Some, option_and_then_some, Data, array, object, Items, no_items, item, Members, no_members, member, put, Step, by_name, by_position, child_at, at, Located, DescentBefore, IsIn, IsInOrder, beneath, children, items_from, members_all, in_order, itself, below_member, descents, items_descents, members_descents, in_map, in_flat_map, weaker, in_order-map, in_order-flat_map}
+use Rattle.serde_json_path_core.proofs.Words.{◌≡◌, ℕ, zero, suc, ◌+◌, ◌≤◌, max, length, List, [], ◌∷◌, ◌++◌, map, flat_map, Ordering, Less, nat_cmp, Some, option_and_then, ◌↔◌, inl, inr, refl, sym, ap, subst, ◌∙◌, arith, insert_entry, slice_cmp, match_ordering, same_Some, option_and_then_some, Data, array, object, Items, no_items, item, Members, no_members, member, put, Step, by_name, by_position, child_at, at, Located, DescentBefore, IsIn, IsInOrder, beneath, children, items_from, members_all, in_order, itself, below_member, descents, items_descents, members_descents, in_map, in_flat_map, weaker, in_order-map, in_order-flat_map}
 use Rattle.serde_json_path_core.proofs.Meaning.ChildSteps.{in_children, children_ordered}
 
 -- ---- child by child

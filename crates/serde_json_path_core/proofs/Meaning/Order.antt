@@ -1,6 +1,5 @@
 -- Derivations are in an order: never do two stand before each other, and a list in that order is fixed by its members.
-use Rattle.std.proofs.Common.{◌≡◌, ℕ, zero, suc, ◌<◌, List, [], ◌∷◌, ◌⊎◌, inl, inr, Less, Greater, refl, sym, ap, subst, ◌∙◌, arith}
-use Rattle.serde_json_path_core.proofs.Words.{AllZip, same_Some, ordering_reverse, nat_list_cmp_total, ints, Data, Step, by_name, by_position, at, StepBefore, DescentBefore, Located, Query, query, Segments, segment, Segment, long_hand, Selectors, no_selectors, selector, Selector, slice, FunctionSet, Triple, start_of, BelongsTo, SelectedBefore, SelectedBeforeBy, SelectedBeforeIn, TripleBefore, Before, IsIn, IsInOrder, IsResult}
+use Rattle.serde_json_path_core.proofs.Words.{◌≡◌, ℕ, zero, suc, ◌<◌, List, [], ◌∷◌, ◌⊎◌, inl, inr, Less, Greater, refl, sym, ap, subst, ◌∙◌, arith, AllZip, same_Some, ordering_reverse, nat_list_cmp_total, ints, Data, Step, by_name, by_position, at, StepBefore, DescentBefore, Located, Query, query, Segments, segment, Segment, long_hand, Selectors, no_selectors, selector, Selector, slice, FunctionSet, Triple, start_of, BelongsTo, SelectedBefore, SelectedBeforeBy, SelectedBeforeIn, TripleBefore, Before, IsIn, IsInOrder, IsResult}
 
 -- ---- never both
 

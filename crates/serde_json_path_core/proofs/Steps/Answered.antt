@@ -1,6 +1,5 @@
 -- A call of a set answers what is computed, and is refused for its pattern only where it goes by one.
-use Rattle.std.proofs.Common.{◌≡◌, ◌⊎◌, ℕ, List, [], ◌∷◌, ◌++◌, length, map, inl, inr, Result, Ok, Err, IfOk, IfErr, refl, sym, ap, subst, ◌∙◌}
-use Rattle.serde_json_path_core.proofs.Words.{append-nil, Data, Query, Call, call, Term, FunctionSet, term_view, params_of, IsTypedCall, AreTypedArguments, CallsByPattern, StandsIn, IsSound, arguments_of, calls_from, name_of, answer, arguments, Branch, arguments_in, branches_named, Part, kind_view}
+use Rattle.serde_json_path_core.proofs.Words.{◌≡◌, ◌⊎◌, ℕ, List, [], ◌∷◌, ◌++◌, length, map, inl, inr, Result, Ok, Err, IfOk, IfErr, refl, sym, ap, subst, ◌∙◌, append-nil, Data, Query, Call, call, Term, FunctionSet, term_view, params_of, IsTypedCall, AreTypedArguments, CallsByPattern, StandsIn, IsSound, arguments_of, calls_from, name_of, answer, arguments, Branch, arguments_in, branches_named, Part, kind_view}
 use Rattle.serde_json_path_functions.specs.Patterns.{MayRefuse}
 use Rattle.serde_json_path_functions.specs.declared.error.QueryError.{QueryError}
 use Rattle.serde_json_path_functions.specs.declared.error.QueryError.TheVariants.{Pattern}

@@ -1,6 +1,5 @@
 -- Chains of frames in a document, and where they stand.
-use Rattle.std.proofs.Common.{◌≡◌, ℕ, ◌+◌, ◌<◌, ◌≤◌, List, [], ◌∷◌, ◌++◌, length, Some, None, refl, sym, ap, subst, ◌∙◌, arith, inr}
-use Rattle.serde_json_path_core.proofs.Words.{Data, Step, child_at, Stage, AreChildrenOf, Frame, begun, entered, IsAtChild, IsAtStart, IsOfValue, IsChain, IsStack, IsSameFrame, ∥∥₁_map, ∥∥₁_elim, ∥∥₁_prop, at, QueryKind, root, current, IsIn, start_of, StandsIn, EndsIn, IsStackIn, IsInside, AllStandIn, in_append}
+use Rattle.serde_json_path_core.proofs.Words.{◌≡◌, ℕ, ◌+◌, ◌<◌, ◌≤◌, List, [], ◌∷◌, ◌++◌, length, Some, None, refl, sym, ap, subst, ◌∙◌, arith, inr, Data, Step, child_at, Stage, AreChildrenOf, Frame, begun, entered, IsAtChild, IsAtStart, IsOfValue, IsChain, IsStack, IsSameFrame, ∥∥₁_map, ∥∥₁_elim, ∥∥₁_prop, at, QueryKind, root, current, IsIn, start_of, StandsIn, EndsIn, IsStackIn, IsInside, AllStandIn, in_append}
 use Rattle.serde_json_path_core.proofs.Walks.Heights.{height, height-child_at}
 use Rattle.serde_json_path_core.proofs.Walks.Frames.{opened-of}
 use Rattle.serde_json_path_core.proofs.Meaning.Derived.{at-append}

@@ -1,6 +1,5 @@
 -- Frames of a walk: their arrivals, and what they pass.
-use Rattle.std.proofs.Common.{◌≡◌, ℕ, ◌+◌, List, [], ◌∷◌, ◌++◌, map, flat_map, refl, ap, ◌∙◌, sym, append_assoc, drop, Some, inl, inr, subst}
-use Rattle.serde_json_path_core.proofs.Words.{map-append, Data, Step, SegmentKind, child, descendant, Selector, candidates, lower, opened, arrivals, child_at, FunctionSet, name, wildcard, index, slice, Stage, AreChildrenOf, Frame, admitted, unfiltered, EndsIn, Skips, IsAtAdmitted, Passes, IsDone, IsAtArrival, by_name, in_append}
+use Rattle.serde_json_path_core.proofs.Words.{◌≡◌, ℕ, ◌+◌, List, [], ◌∷◌, ◌++◌, map, flat_map, refl, ap, ◌∙◌, sym, append_assoc, drop, Some, inl, inr, subst, map-append, Data, Step, SegmentKind, child, descendant, Selector, candidates, lower, opened, arrivals, child_at, FunctionSet, name, wildcard, index, slice, Stage, AreChildrenOf, Frame, admitted, unfiltered, EndsIn, Skips, IsAtAdmitted, Passes, IsDone, IsAtArrival, by_name, in_append}
 use Rattle.serde_json_path_core.proofs.Meaning.ChildSteps.{in_children, in_child_by, in_item_at}
 use Rattle.serde_json_path_core.proofs.Meaning.SlicePositions.{in_sliced}
 

@@ -1,6 +1,5 @@
 -- A document's height, computed.
-use Rattle.std.proofs.Common.{◌≡◌, ℕ, ◌<◌, List, [], ◌∷◌, length, flat_map, Some, option_and_then, inl, inr, refl, sym, subst, ap, ◌∙◌, arith}
-use Rattle.serde_json_path_core.proofs.Words.{cases_lt, Data, Step, child_at, at, Located, IsIn, children, descents, itself}
+use Rattle.serde_json_path_core.proofs.Words.{◌≡◌, ℕ, ◌<◌, List, [], ◌∷◌, length, flat_map, Some, option_and_then, inl, inr, refl, sym, subst, ap, ◌∙◌, arith, cases_lt, Data, Step, child_at, at, Located, IsIn, children, descents, itself}
 use Rattle.serde_json_path_core.specs.Height.{IsHeight}
 use Rattle.serde_json_path_core.proofs.Meaning.Descents.{below_child, descents_are, in_descents, longest, no_longer}
 

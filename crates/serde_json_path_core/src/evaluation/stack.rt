@@ -4,7 +4,7 @@ ghost use Rattle.std.specs.Prelude.{◌≡◌, ◌<◌, ◌≤◌, [], ◌++◌,
 ghost use Rattle.serde_json_path_core.specs.Inside.Words.{view, located, step_view, nodes_in, parts_bound, AreOfKind, is_segment, IsAtNode, IsKept, SoundSegments, MayRefuse, nodes_of, top_of, entering, is_leaf, last_passed, stack_path, without_node, IsStackIn, stages_at, frames_view, arrival_view, Memory, Pattern};
 
 use crate::child::Child;
-use crate::evaluation::frame::{Frame, Arrival};
+use crate::evaluation::frame::{Arrival, Frame};
 use crate::evaluation::scope::Scope;
 use serde_json::Value;
 use serde_json_path_functions::{Functions, QueryError};

@@ -1,6 +1,5 @@
 -- The tree of a vector of nodes, as it grows and is copied, and that its nodes fit.
-use Rattle.std.proofs.Common.{◌≡◌, ℕ, zero, suc, ◌+◌, ◌<◌, ◌≤◌, List, [], ◌∷◌, ◌++◌, ◌↔◌, length, drop, Bool, Result, Ok, Err, IfOk, OnOk, OnErr, inl, inr, get_or, refl, sym, ap, ◌∙◌, subst, arith, length-append, true, false, if◌then◌else◌, slice_index_or, Option, Some, None}
-use Rattle.serde_json_path_syntax.proofs.Words.{common_steps, flat_map-append, append-nil, drop_more, Signature, FunctionSet, Fits, IsIn, fits, AreFitting, Branch, Part, parts_bound, called_by, calls_among, no_branch, branch_in, branches_named, parts_in, branch_of, branches_from, branch_at, NamesBelow, IsGrown, query_at, query_in, cases_lt, AreCopies, IsCopy}
+use Rattle.serde_json_path_syntax.proofs.Words.{◌≡◌, ℕ, zero, suc, ◌+◌, ◌<◌, ◌≤◌, List, [], ◌∷◌, ◌++◌, ◌↔◌, length, drop, Bool, Result, Ok, Err, IfOk, OnOk, OnErr, inl, inr, get_or, refl, sym, ap, ◌∙◌, subst, arith, length-append, true, false, if◌then◌else◌, slice_index_or, Option, Some, None, common_steps, flat_map-append, append-nil, drop_more, Signature, FunctionSet, Fits, IsIn, fits, AreFitting, Branch, Part, parts_bound, called_by, calls_among, no_branch, branch_in, branches_named, parts_in, branch_of, branches_from, branch_at, NamesBelow, IsGrown, query_at, query_in, cases_lt, AreCopies, IsCopy, branches}
 use Rattle.std.specs.declared.alloc.AllocError.{AllocError}
 use Rattle.serde_json_path_syntax.proofs.Lists.{in_append}
 use Rattle.serde_json_path_syntax.proofs.Names.Once.{fits_append}
@@ -11,7 +10,6 @@ use Rattle.serde_json_path_syntax.specs.declared.node.Selector.TheVariants as on
 use Rattle.serde_json_path_syntax.specs.declared.node.Basic.TheVariants.{Relation}
 use Rattle.serde_json_path_syntax.specs.declared.node.Comparable.TheVariants as side
 use Rattle.serde_json_path_syntax.specs.declared.node.Argument.TheVariants as given_as
-use Rattle.serde_json_path_syntax.specs.Flat.{branches}
 use Rattle.std.proofs.lemmas.List.Elements.{AllZip-get_or}
 use Rattle.std.proofs.lemmas.Slice.Zip.{AllZip-long}
 

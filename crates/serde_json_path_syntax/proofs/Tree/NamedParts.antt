@@ -1,7 +1,5 @@
 -- Parts that nodes name: their bounds, their kinds, and what stands for them.
-use Rattle.std.proofs.Common.{◌≡◌, ℕ, ◌<◌, ◌≤◌, true, false, nat_lt, arith, rules, zero, suc, List, [], ◌∷◌, length, get_or, ap, ◌-◌, take, drop, Bool, sym, subst, slice_get, option_map, refl, ◌∙◌}
-use Rattle.serde_json_path_syntax.proofs.Words.{parts_bound, Part, and_parts, Decides-and, Decides, take_all, branch_in, branches_named, selector_in, selectors_in, segments_in, ors_in, ands_in, arguments_in, are_singular, each_is, is_and, is_argument, is_basic, is_query, is_segment, is_selector, is_singular, is_singular_query, is_singular_segment, Branch, a_query, long_hand, Selectors, selector, Selector, name, wildcard, index, slice, filter, IsSingularSegment, slice_get_read, slice_get_past, ArePartsFor, AreSelectorsOf, AreOrPartsOf, AreAndPartsOf, KeepsTrees, segment_branches, selector_branches, or_branches, and_branches, argument_branches}
-use Rattle.serde_json_path_syntax.specs.Flat.{branches}
+use Rattle.serde_json_path_syntax.proofs.Words.{◌≡◌, ℕ, ◌<◌, ◌≤◌, true, false, nat_lt, arith, rules, zero, suc, List, [], ◌∷◌, length, get_or, ap, ◌-◌, take, drop, Bool, sym, subst, slice_get, option_map, refl, ◌∙◌, parts_bound, Part, and_parts, Decides-and, Decides, take_all, branch_in, branches_named, selector_in, selectors_in, segments_in, ors_in, ands_in, arguments_in, are_singular, each_is, is_and, is_argument, is_basic, is_query, is_segment, is_selector, is_singular, is_singular_query, is_singular_segment, Branch, a_query, long_hand, Selectors, selector, Selector, name, wildcard, index, slice, filter, IsSingularSegment, slice_get_read, slice_get_past, ArePartsFor, AreSelectorsOf, AreOrPartsOf, AreAndPartsOf, KeepsTrees, segment_branches, selector_branches, or_branches, and_branches, argument_branches, branches}
 use Rattle.serde_json_path_syntax.specs.Tree as tree
 use Rattle.serde_json_path_syntax.specs.declared.builder.SyntaxBuilder.{SyntaxBuilder}
 use Rattle.serde_json_path_syntax.specs.Stages.{selectors_list}

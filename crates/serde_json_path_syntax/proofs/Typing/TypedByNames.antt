@@ -1,6 +1,5 @@
 -- Well-typedness rests on the signatures of the called names alone.
-use Rattle.std.proofs.Common.{◌≡◌, ℕ, List, [], ◌∷◌, Option, Some, None, inl, inr, refl, ap, ◌∙◌, option_map}
-use Rattle.serde_json_path_syntax.proofs.Words.{none-some, Query, query, Segments, no_segments, segment, Segment, long_hand, Selectors, no_selectors, selector, Selector, filter, LogicalOr, no_or, or, LogicalAnd, no_and, and, Basic, paren, not_paren, relation, exist, not_exist, test, not_test, Comparable, literal, singular, called, Call, call, Arguments, no_arguments, argument, Argument, literal_argument, query_argument, call_argument, logical_argument, Kind, of_value, of_logical, of_nodes, Signature, IsTestKind, IsTyped, AreTypedSegments, IsTypedSegment, AreTypedSelectors, IsTypedSelector, IsTypedOr, IsTypedAnd, IsTypedBasic, IsTypedComparable, IsTypedCall, AreTypedArguments, IsTypedArgument, TakesResult, result_kind, OfEach, name_of, names_of, calls_of, calls_in_segments, calls_in_segment, calls_in_selectors, calls_in_selector, calls_in_or, calls_in_and, calls_in_basic, calls_in_comparable, calls_from, calls_in_arguments, calls_in_argument, IsIn}
+use Rattle.serde_json_path_syntax.proofs.Words.{◌≡◌, ℕ, List, [], ◌∷◌, Option, Some, None, inl, inr, refl, ap, ◌∙◌, option_map, none-some, Query, query, Segments, no_segments, segment, Segment, long_hand, Selectors, no_selectors, selector, Selector, filter, LogicalOr, no_or, or, LogicalAnd, no_and, and, Basic, paren, not_paren, relation, exist, not_exist, test, not_test, Comparable, literal, singular, called, Call, call, Arguments, no_arguments, argument, Argument, literal_argument, query_argument, call_argument, logical_argument, Kind, of_value, of_logical, of_nodes, Signature, IsTestKind, IsTyped, AreTypedSegments, IsTypedSegment, AreTypedSelectors, IsTypedSelector, IsTypedOr, IsTypedAnd, IsTypedBasic, IsTypedComparable, IsTypedCall, AreTypedArguments, IsTypedArgument, TakesResult, result_kind, OfEach, name_of, names_of, calls_of, calls_in_segments, calls_in_segment, calls_in_selectors, calls_in_selector, calls_in_or, calls_in_and, calls_in_basic, calls_in_comparable, calls_from, calls_in_arguments, calls_in_argument, IsIn}
 use Rattle.serde_json_path_syntax.proofs.Names.Once.{in_from, of_both}
 use Rattle.serde_json_path_syntax.proofs.Lists.{map_in}
 

@@ -1,6 +1,6 @@
 -- Well-typedness is decided, so that it can be recovered from its truncation. Each lemma decides what its type says.
-use Rattle.std.proofs.Common.{◌≡◌, ◌<◌, ℕ, zero, suc, ℤ, pos, negsuc, neg_ℤ, of_z, nat_eq, ◌%◌, ◌==◌, unsigned_abs, int_div, int_rem, List, [], ◌∷◌, Option, Some, None, Bool, true, false, Decides, inl, inr, refl, sym, ap, subst, ◌∙◌, true≢false, arith}
-use Rattle.serde_json_path_syntax.proofs.Words.{w128, Decides-eqb, Decides-like, ints, quot-rem, unsigned_abs-mul, none-some, same_Some, Query, query, Segments, no_segments, segment, Segment, long_hand, Selectors, no_selectors, selector, Selector, filter, LogicalOr, no_or, or, LogicalAnd, no_and, and, Basic, paren, not_paren, relation, exist, not_exist, test, not_test, Comparable, literal, singular, called, Call, call, Arguments, no_arguments, argument, Argument, literal_argument, query_argument, call_argument, logical_argument, Literal, number, segments_of, are_singular, Kind, of_value, of_nodes, of_logical, Signature, IsValueLiteral, IsTestKind, result_kind, TakesResult, IsTyped, AreTypedSegments, IsTypedSegment, AreTypedSelectors, IsTypedSelector, IsTypedOr, IsTypedAnd, IsTypedBasic, IsTypedComparable, IsTypedCall, AreTypedArguments, IsTypedArgument}
+use Rattle.serde_json_path_syntax.proofs.Words.{◌≡◌, ◌<◌, ℕ, zero, suc, ℤ, pos, negsuc, neg_ℤ, of_z, nat_eq, ◌%◌, ◌==◌, unsigned_abs, int_div, int_rem, List, [], ◌∷◌, Option, Some, None, Bool, true, false, inl, inr, refl, sym, ap, subst, ◌∙◌, true≢false, arith, w128, Decides-eqb, Decides-like, ints, quot-rem, unsigned_abs-mul, none-some, same_Some, Query, query, Segments, no_segments, segment, Segment, long_hand, Selectors, no_selectors, selector, Selector, filter, LogicalOr, no_or, or, LogicalAnd, no_and, and, Basic, paren, not_paren, relation, exist, not_exist, test, not_test, Comparable, literal, singular, called, Call, call, Arguments, no_arguments, argument, Argument, literal_argument, query_argument, call_argument, logical_argument, Literal, number, segments_of, are_singular, Kind, of_value, of_nodes, of_logical, Signature, IsValueLiteral, IsTestKind, result_kind, TakesResult, IsTyped, AreTypedSegments, IsTypedSegment, AreTypedSelectors, IsTypedSelector, IsTypedOr, IsTypedAnd, IsTypedBasic, IsTypedComparable, IsTypedCall, AreTypedArguments, IsTypedArgument}
+use Rattle.std.proofs.Common.{Decides}
 use Rattle.std.proofs.Math.Decide.{map_dec}
 use Rattle.std.proofs.Math.Logic.{∥∥₁_elim}
 use Rattle.std.proofs.Math.Logic.Dec.{and as both}

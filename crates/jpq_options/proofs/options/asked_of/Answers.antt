@@ -1,9 +1,5 @@
-use Rattle.std.proofs.Common.{◌≡◌, ◌∙◌, true, false, map, Some, ap, refl, sym, subst}
-use Rattle.std.proofs.lemmas.Result.{IfOk-weaker}
-use Rattle.clap.specs.Words.{found_of, rows_of}
-use Rattle.jpq_options.specs.Options.{AreOptions, first_form, form_of_row, forms, given_forms, has_two}
+use Rattle.jpq_options.proofs.Words.{◌≡◌, ◌∙◌, true, false, map, Some, ap, refl, sym, subst, IfOk-weaker, found_of, rows_of, AreOptions, first_form, form_of_row, forms, given_forms, has_two, Form}
 use Rattle.jpq_options.proofs.Answered.{given_are, misuse_is, refusal, two_forms}
-use Rattle.jsonpath_lines.specs.declared.forms.Form.{Form}
 use Rattle.jpq_options.proofs.options.asked_of.Goals as goal
 
 pub returns-in-Err : goal.returns-in-Err

@@ -1,8 +1,4 @@
-use Rattle.std.proofs.Common.{◌≡◌, ◌∙◌, true, ap, ap₂, rules}
-use Rattle.std.proofs.lemmas.Result.{IfOk-weaker}
-use Rattle.clap.specs.Words.{app_of, rule_of, with_rule}
-use Rattle.clap.specs.Simple.{app_of_fields, on_top}
-use Rattle.jpq_options.specs.Table.{file_rule, path_rule}
+use Rattle.jpq_options.proofs.Words.{◌≡◌, ◌∙◌, true, ap, ap₂, rules, IfOk-weaker, app_of, rule_of, with_rule, app_of_fields, on_top, file_rule, path_rule}
 use Rattle.jpq_options.proofs.Commands.{base, whole_table}
 use Rattle.jpq_options.proofs.options.command.Goals as goal
 

@@ -1,7 +1,4 @@
-use Rattle.std.proofs.Common.{◌≡◌, take}
-use Rattle.std.specs.List.{filter}
-use Rattle.clap.specs.Words.{found_of, rows_of}
-use Rattle.jpq_options.specs.Options.{is_given}
+use Rattle.jpq_options.proofs.Words.{◌≡◌, take, filter, found_of, rows_of, is_given}
 use Rattle.jpq_options.proofs.options.forms_given.Given as goal
 
 abbrev pub invariant-loop-row : goal.invariant-loop-row

@@ -1,6 +1,4 @@
-use Rattle.std.proofs.Common.{◌∙◌, ap, sym, Some}
-use Rattle.clap.specs.Words.{found_of}
-use Rattle.jpq_options.specs.Options.{is_of_words}
+use Rattle.jpq_options.proofs.Words.{◌∙◌, ap, sym, Some, found_of, is_of_words}
 use Rattle.jpq_options.proofs.Found.{given}
 use Rattle.jpq_options.proofs.options.is_given.Goals as goal
 

@@ -1,7 +1,4 @@
-use Rattle.std.proofs.Common.{◌∙◌, ap, codes, refl}
-use Rattle.clap.specs.Words.{found_of}
-use Rattle.clap.proofs.WalkLemmas.{first_value-rows}
-use Rattle.jpq_options.specs.Options.{color_in, end_of, layout_of}
+use Rattle.jpq_options.proofs.Words.{◌∙◌, ap, codes, refl, found_of, first_value-rows, color_in, end_of, layout_of}
 use Rattle.jpq_options.proofs.Found.{number_in}
 use Rattle.jpq_options.proofs.options.options_of.Goals as goal
 

@@ -1,8 +1,7 @@
-use Rattle.std.proofs.Common.{arith, rules, tests}
+use Rattle.jpq_options.proofs.Words.{arith, rules, tests, strip_carriage_return}
 use Rattle.std.proofs.lemmas.Iterator.{YieldsList-from_map_by}
 use Rattle.std.proofs.lemmas.Iterator.Consumers.{YieldsList-at, YieldsList-from_filter, map_from_collect}
 use Rattle.std.proofs.lemmas.Iterator.Splits.{YieldsList-from_str_split}
-use Rattle.std.specs.Str.Lines.{strip_carriage_return}
 use Rattle.jpq_options.specs.Paths.{is_path_line}
 use Rattle.jpq_options.proofs.options.paths_in.Goals as goal
 

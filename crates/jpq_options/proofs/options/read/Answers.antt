@@ -1,8 +1,4 @@
-use Rattle.std.proofs.Common.{◌≡◌, ◌∙◌, ◌⊎◌, map, ap, subst}
-use Rattle.std.proofs.lemmas.Result.{IfOk-weaker}
-use Rattle.clap.specs.Words.{App, IsAmong, app_of, fault_of, is_simple_and_free, kind_of, matches_of}
-use Rattle.clap.specs.declared.error.kind.ErrorKind.TheVariants.{OutOfMemory}
-use Rattle.jpq_options.specs.Table.{jpq}
+use Rattle.jpq_options.proofs.Words.{◌≡◌, ◌∙◌, ◌⊎◌, map, ap, subst, IfOk-weaker, App, IsAmong, app_of, fault_of, is_simple_and_free, kind_of, matches_of, OutOfMemory, jpq}
 use Rattle.jpq_options.proofs.Answered.{found_answers, jpq_is_free, told_answers}
 use Rattle.jpq_options.proofs.options.read.Goals as goal
 

@@ -1,7 +1,4 @@
-use Rattle.std.proofs.Common.{◌∙◌, ap}
-use Rattle.std.proofs.lemmas.Result.{IfOk-weaker}
-use Rattle.clap.specs.Words.{found_of}
-use Rattle.jpq_options.specs.Options.{texts}
+use Rattle.jpq_options.proofs.Words.{◌∙◌, ap, IfOk-weaker, found_of, texts}
 use Rattle.jpq_options.proofs.Found.{some_values, no_values}
 use Rattle.jpq_options.proofs.options.values.Goals as goal
 

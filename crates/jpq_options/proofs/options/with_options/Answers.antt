@@ -1,6 +1,4 @@
-use Rattle.std.proofs.Common.{◌∙◌, fold, map, ap}
-use Rattle.std.proofs.lemmas.List.{take_all}
-use Rattle.clap.specs.Words.{app_of, with_rule}
+use Rattle.jpq_options.proofs.Words.{◌∙◌, fold, map, ap, take_all, app_of, with_rule}
 use Rattle.jpq_options.proofs.Commands.{options_more, rule_of_row}
 use Rattle.jpq_options.proofs.options.with_options.Goals as goal
 

@@ -1,6 +1,4 @@
-use Rattle.std.proofs.Common.{◌≡◌, map, fold, take}
-use Rattle.clap.specs.Words.{app_of, with_rule}
-use Rattle.jpq_options.specs.Table.{rule_of_setting, setting_of}
+use Rattle.jpq_options.proofs.Words.{◌≡◌, map, fold, take, app_of, with_rule, rule_of_setting, setting_of}
 use Rattle.jpq_options.proofs.options.with_options.Given as goal
 
 abbrev pub invariant-loop-row : goal.invariant-loop-row

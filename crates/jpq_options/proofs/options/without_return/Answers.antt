@@ -1,4 +1,4 @@
-use Rattle.std.proofs.Common.{◌∙◌, ap, arith}
+use Rattle.jpq_options.proofs.Words.{◌∙◌, ap, arith}
 use Rattle.std.proofs.lemmas.Str.Pattern.{strip_suffix_char}
 use Rattle.jpq_options.proofs.Returns.{without}
 use Rattle.jpq_options.proofs.options.without_return.Goals as goal

@@ -1,7 +1,4 @@
-use Rattle.std.proofs.Common.{◌≡◌, ◌++◌, List, string_bytes, encode_utf8, ap, sym, subst, ◌∙◌}
-use Rattle.std.specs.Str.Iter.{chars_rest}
-use Rattle.std.proofs.lemmas.List.{nil_from_length}
-use Rattle.jsonpath_lines.specs.Plain.{plain}
+use Rattle.jsonpath_lines.proofs.Words.{◌≡◌, ◌++◌, List, string_bytes, encode_utf8, ap, sym, subst, ◌∙◌, chars_rest, nil_from_length, plain}
 use Rattle.jsonpath_lines.proofs.Seen.{IsSeenUpTo, seen_further, seen_whole}
 use Rattle.jsonpath_lines.proofs.colours.colored.Goals as goal
 

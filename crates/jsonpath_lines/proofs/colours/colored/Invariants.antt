@@ -1,5 +1,4 @@
-use Rattle.std.proofs.Common.{string_bytes}
-use Rattle.std.specs.Str.Iter.{chars_rest}
+use Rattle.jsonpath_lines.proofs.Words.{string_bytes, chars_rest}
 use Rattle.jsonpath_lines.proofs.Seen.{IsSeenUpTo}
 use Rattle.jsonpath_lines.proofs.colours.colored.Given as goal
 

@@ -1,7 +1,4 @@
-use Rattle.std.proofs.Common.{map, ap, sym, ◌∙◌}
-use Rattle.std.proofs.lemmas.List.{take-map}
-use Rattle.serde_json_path_nodes.specs.Views.{located}
-use Rattle.jsonpath_lines.specs.Output.{up_to}
+use Rattle.jsonpath_lines.proofs.Words.{map, ap, sym, ◌∙◌, take-map, located, up_to}
 use Rattle.jsonpath_lines.proofs.nodes.first_nodes.Goals as goal
 
 pub returns-in-Some : goal.returns-in-Some

@@ -1,7 +1,4 @@
-use Rattle.std.proofs.Common.{◌≡◌, ◌+◌, [], ◌∷◌, ◌++◌, length, map, take, string_bytes, arith, ap, sym, subst, ◌∙◌}
-use Rattle.std.proofs.lemmas.List.{length-map, length-take-le, map_push, take_more}
-use Rattle.serde_json_path_nodes.specs.Views.{located}
-use Rattle.jsonpath_lines.specs.Inside.{Appends, ArePieces}
+use Rattle.jsonpath_lines.proofs.Words.{◌≡◌, ◌+◌, [], ◌∷◌, ◌++◌, length, map, take, string_bytes, arith, ap, sym, subst, ◌∙◌, length-map, length-take-le, map_push, take_more, located, Appends, ArePieces}
 use Rattle.jsonpath_lines.proofs.Pieces.{appended_pushed}
 use Rattle.jsonpath_lines.proofs.nodes.push_nodes.Goals as goal
 

@@ -1,6 +1,4 @@
-use Rattle.std.proofs.Common.{map, string_bytes, take}
-use Rattle.serde_json_path_nodes.specs.Views.{located}
-use Rattle.jsonpath_lines.specs.Inside.{Appends, ArePieces}
+use Rattle.jsonpath_lines.proofs.Words.{map, string_bytes, take, located, Appends, ArePieces}
 use Rattle.jsonpath_lines.proofs.nodes.push_nodes.Given as goal
 
 abbrev pub invariant-loop-index : goal.invariant-loop-index

@@ -1,9 +1,4 @@
-use Rattle.std.proofs.Common.{◌≡◌, ◌∙◌, length, map, sym, rules}
-use Rattle.std.proofs.lemmas.List.{length-map}
-use Rattle.serde_json_path_core.specs.Walks.{rest}
-use Rattle.serde_json_path_nodes.specs.Lists.{first_places}
-use Rattle.serde_json_path_nodes.specs.Views.{located}
-use Rattle.jsonpath_lines.specs.Output.{up_to}
+use Rattle.jsonpath_lines.proofs.Words.{◌≡◌, ◌∙◌, length, map, sym, rules, length-map, rest, first_places, located, up_to}
 use Rattle.jsonpath_lines.proofs.Chosen.{pushed_so_far}
 use Rattle.jsonpath_lines.proofs.EachOnce.{first_of_enough}
 use Rattle.jsonpath_lines.proofs.nodes.push_unique.Goals as goal

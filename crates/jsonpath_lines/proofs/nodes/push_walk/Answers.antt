@@ -1,5 +1,4 @@
-use Rattle.serde_json_path_core.specs.Walks.{rest}
-use Rattle.jsonpath_lines.specs.declared.nodes.Lines.{Lines}
+use Rattle.jsonpath_lines.proofs.Words.{rest, Lines}
 use Rattle.jsonpath_lines.proofs.Chosen.{pushed_either}
 use Rattle.jsonpath_lines.proofs.nodes.push_walk.Goals as goal
 

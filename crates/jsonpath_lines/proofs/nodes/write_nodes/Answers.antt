@@ -1,6 +1,4 @@
-use Rattle.std.proofs.Common.{◌++◌, ◌∙◌, ap, string_bytes}
-use Rattle.serde_json_path_core.specs.Walks.{rest}
-use Rattle.jsonpath_lines.specs.Inside.{asked, opening}
+use Rattle.jsonpath_lines.proofs.Words.{◌++◌, ◌∙◌, ap, string_bytes, rest, asked, opening}
 use Rattle.jsonpath_lines.proofs.Chosen.{array_begun, chosen_shown}
 use Rattle.jsonpath_lines.proofs.nodes.write_nodes.Goals as goal
 

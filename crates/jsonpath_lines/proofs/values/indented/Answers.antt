@@ -1,5 +1,4 @@
-use Rattle.std.proofs.Common.{◌∷◌, ◌++◌, [], ap, sym, subst, ◌∙◌, append_assoc}
-use Rattle.json.specs.Print.{ArePrintable}
+use Rattle.jsonpath_lines.proofs.Words.{◌∷◌, ◌++◌, [], ap, sym, subst, ◌∙◌, append_assoc, ArePrintable}
 use Rattle.json.specs.Reads.{token_of}
 use Rattle.jsonpath_lines.proofs.values.indented.Goals as goal
 

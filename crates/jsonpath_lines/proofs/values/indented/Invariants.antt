@@ -1,6 +1,4 @@
-use Rattle.std.proofs.Common.{◌≡◌, ◌++◌, length}
-use Rattle.json.specs.Lex.{tokens}
-use Rattle.json.specs.Print.{ArePrintable}
+use Rattle.jsonpath_lines.proofs.Words.{◌≡◌, ◌++◌, length, tokens, ArePrintable}
 use Rattle.jsonpath_lines.proofs.values.indented.Given as goal
 
 abbrev pub invariant-tokens : goal.invariant-tokens

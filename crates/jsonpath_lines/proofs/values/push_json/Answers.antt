@@ -1,4 +1,4 @@
-use Rattle.std.proofs.Common.{false, true, codes, rules}
+use Rattle.jsonpath_lines.proofs.Words.{false, true, codes, rules}
 use Rattle.jsonpath_lines.proofs.Appended.{written}
 use Rattle.jsonpath_lines.proofs.Scalars.{json_of_null, json_of_boolean}
 use Rattle.jsonpath_lines.proofs.values.push_json.Goals as goal

@@ -1,8 +1,4 @@
-use Rattle.std.proofs.Common.{◌≡◌, ap, arith, int_lt, of_z, pos, rules, SFits, subst, sym, to_z, to_z-of_z, w64, ◌∙◌}
-use Rattle.std.proofs.lemmas.Result.{on_ok_weaker}
-use Rattle.std.specs.Fmt.{signed_decimal}
-use Rattle.serde_json.specs.View.{view}
-use Rattle.jsonpath_lines.specs.Inside.{IsLaid}
+use Rattle.jsonpath_lines.proofs.Words.{◌≡◌, ap, arith, int_lt, of_z, pos, rules, SFits, subst, sym, to_z, to_z-of_z, w64, ◌∙◌, on_ok_weaker, signed_decimal, view, IsLaid}
 use Rattle.jsonpath_lines.proofs.Scalars.{json_of_u64, json_of_i64}
 use Rattle.jsonpath_lines.proofs.values.push_number.Goals as goal
 

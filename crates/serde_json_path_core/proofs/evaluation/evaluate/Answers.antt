@@ -1,5 +1,4 @@
-use Rattle.std.proofs.Common.{sym, ap, ◌∙◌}
-use Rattle.serde_json_path_core.proofs.Words.{view, start_of, signatures_of, tree_of, results}
+use Rattle.serde_json_path_core.proofs.Words.{sym, ap, ◌∙◌, view, start_of, signatures_of, tree_of, results}
 use Rattle.serde_json_path_core.proofs.Meaning.Derived.{computed_result}
 use Rattle.serde_json_path_core.proofs.Sound.{sound-segments, whole-sound}
 use Rattle.serde_json_path_core.proofs.Walks.Chains.{root_stands}

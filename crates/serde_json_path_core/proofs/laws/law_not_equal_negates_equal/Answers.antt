@@ -1,5 +1,4 @@
-use Rattle.std.proofs.Common.{◌≡◌, sym, subst, ◌∙◌}
-use Rattle.serde_json_path_core.proofs.Words.{same_Some, Data, Comparable, FunctionSet, Compared, AreEqual, IsComparedAs}
+use Rattle.serde_json_path_core.proofs.Words.{◌≡◌, sym, subst, ◌∙◌, same_Some, Data, Comparable, FunctionSet, Compared, AreEqual, IsComparedAs}
 use Rattle.serde_json_path_core.proofs.Meaning.AnswerKinds.{compared_there}
 use Rattle.serde_json_path_core.proofs.Meaning.Derived.{compared_right}
 use Rattle.serde_json_path_core.proofs.laws.law_not_equal_negates_equal.Goals as goal

@@ -1,5 +1,4 @@
-use Rattle.std.proofs.Common.{inl, inr}
-use Rattle.serde_json_path_core.proofs.Words.{query, Before}
+use Rattle.serde_json_path_core.proofs.Words.{inl, inr, query, Before}
 use Rattle.serde_json_path_core.proofs.Meaning.Derived.{computed_result}
 use Rattle.serde_json_path_core.proofs.Meaning.Order.{before_once, in_order_total}
 use Rattle.serde_json_path_core.proofs.laws.law_order_is_total.Goals as goal

@@ -1,6 +1,5 @@
 -- The result of a singular query has one node at most: its computed list has.
-use Rattle.std.proofs.Common.{◌≤◌, List, [], ◌∷◌, ◌++◌, length, map, flat_map, Option, Some, None, option_to_list, sym, subst, arith}
-use Rattle.serde_json_path_core.proofs.Words.{append-nil, Data, by_name, Located, Query, query, Segments, no_segments, segment, child, descendant, Segment, dot_name, long_hand, no_selectors, selector, name, index, IsSingularSegment, AreSingular, IsSingular, FunctionSet, start_of, IsResult, child_by, item_at, chosen, itself, placed, results_from}
+use Rattle.serde_json_path_core.proofs.Words.{◌≤◌, List, [], ◌∷◌, ◌++◌, length, map, flat_map, Option, Some, None, option_to_list, sym, subst, arith, append-nil, Data, by_name, Located, Query, query, Segments, no_segments, segment, child, descendant, Segment, dot_name, long_hand, no_selectors, selector, name, index, IsSingularSegment, AreSingular, IsSingular, FunctionSet, start_of, IsResult, child_by, item_at, chosen, itself, placed, results_from}
 use Rattle.serde_json_path_core.proofs.Meaning.Derived.{computed_only}
 use Rattle.serde_json_path_core.proofs.laws.law_singular_query_selects_at_most_one.Goals as goal
 

@@ -1,5 +1,4 @@
-use Rattle.std.proofs.Common.{◌≡◌, ℕ, ◌<◌, get_or, map}
-use Rattle.serde_json_path_nodes.proofs.Words.{located, LocatedNode}
+use Rattle.serde_json_path_nodes.proofs.Words.{◌≡◌, ℕ, ◌<◌, get_or, map, located, LocatedNode}
 use Rattle.serde_json_path_nodes.proofs.located_node_list.number_nodes.Given as goal
 
 -- the nodes that the loop has passed are numbered, and contracts see no difference

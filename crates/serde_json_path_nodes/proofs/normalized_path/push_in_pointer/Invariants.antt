@@ -1,5 +1,4 @@
-use Rattle.std.proofs.Common.{◌≡◌, ◌++◌, string_bytes}
-use Rattle.serde_json_path_nodes.proofs.Words.{flat_map, in_pointer}
+use Rattle.serde_json_path_nodes.proofs.Words.{◌≡◌, ◌++◌, string_bytes, flat_map, in_pointer}
 use Rattle.std.specs.Str.Iter.{chars_rest}
 use Rattle.serde_json_path_nodes.proofs.normalized_path.push_in_pointer.Given as goal
 

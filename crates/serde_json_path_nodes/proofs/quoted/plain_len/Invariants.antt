@@ -1,5 +1,4 @@
-use Rattle.std.proofs.Common.{take}
-use Rattle.serde_json_path_nodes.proofs.Words.{NonePass, is_escaped}
+use Rattle.serde_json_path_nodes.proofs.Words.{take, NonePass, is_escaped}
 use Rattle.serde_json_path_nodes.proofs.quoted.plain_len.Given as goal
 
 -- none of the bytes so far is escaped

@@ -1,5 +1,4 @@
-use Rattle.std.proofs.Common.{◌≡◌, ◌++◌, [], rules, subst, sym, ap, ◌∙◌, append-nil, encode_utf8}
-use Rattle.serde_json_path_nodes.proofs.Words.{HasWritten, flat_map, chars, IsUtf8, has_written_append, has_written_of_eq, nil_from_length, chars-nil, IsUtf8-drop, in_quotes}
+use Rattle.serde_json_path_nodes.proofs.Words.{◌≡◌, ◌++◌, [], rules, subst, sym, ap, ◌∙◌, append-nil, encode_utf8, HasWritten, flat_map, chars, IsUtf8, has_written_append, has_written_of_eq, nil_from_length, chars-nil, IsUtf8-drop, in_quotes}
 use Rattle.serde_json_path_nodes.proofs.Quotes.{front_written, char_written}
 use Rattle.serde_json_path_nodes.proofs.quoted.write_inside.Goals as goal
 

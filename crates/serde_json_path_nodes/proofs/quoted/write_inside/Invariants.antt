@@ -1,7 +1,6 @@
-use Rattle.std.proofs.Common.{◌≡◌, ℕ, List, ◌++◌, length}
+use Rattle.serde_json_path_nodes.proofs.Words.{◌≡◌, ℕ, List, ◌++◌, length, HasWritten, IsPlainFormatter, flat_map, chars, in_quotes}
 use denote.Shadow.{shadow}
 use denote.Text.{Utf8}
-use Rattle.serde_json_path_nodes.proofs.Words.{HasWritten, IsPlainFormatter, flat_map, chars, in_quotes}
 use Rattle.serde_json_path_nodes.proofs.quoted.write_inside.Given as goal
 
 -- what is written of the text, and what is left of it

@@ -1,8 +1,4 @@
-use Rattle.std.proofs.Common.{ap, sym, ◌∙◌, subst, to_z-of_z}
-use Rattle.std.specs.Prelude.{◌≡◌, pos, int_lt, unsigned_abs}
-use Rattle.std.specs.Float.Ieee.{neg}
-use Rattle.serde_json_path_numbers.specs.Inside.{IsOrder}
-use Rattle.serde_json_path_numbers.specs.Numbers.{integer}
+use Rattle.serde_json_path_numbers.proofs.Words.{ap, sym, ◌∙◌, subst, to_z-of_z, ◌≡◌, pos, int_lt, unsigned_abs, neg, IsOrder, integer}
 use Rattle.serde_json_path_numbers.proofs.Floats.{negative_order}
 use Rattle.serde_json_path_numbers.proofs.comparison.compare.Goals as goal
 

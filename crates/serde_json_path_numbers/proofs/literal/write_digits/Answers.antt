@@ -1,4 +1,4 @@
-use Rattle.std.proofs.Common.{◌≡◌, ◌-◌, suc, sym, subst, arith}
+use Rattle.serde_json_path_numbers.proofs.Words.{◌≡◌, ◌-◌, suc, sym, subst, arith}
 use Rattle.serde_json_path_numbers.proofs.Digits.{AreWritten, one_more}
 use Rattle.serde_json_path_numbers.proofs.literal.write_digits.Goals as goal
 

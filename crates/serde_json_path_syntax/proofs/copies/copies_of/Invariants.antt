@@ -1,5 +1,4 @@
-use Rattle.std.proofs.Common.{◌≡◌, length, take, vec_capacity, vec_len}
-use Rattle.serde_json_path_syntax.proofs.Words.{AreCopies}
+use Rattle.serde_json_path_syntax.proofs.Words.{◌≡◌, length, take, vec_capacity, vec_len, AreCopies}
 use Rattle.serde_json_path_syntax.proofs.copies.copies_of.Given as goal
 
 abbrev pub invariant-loop-node : goal.invariant-loop-node

@@ -1,7 +1,5 @@
-use Rattle.std.proofs.Common.{◌+◌, ◌*◌}
+use Rattle.serde_json_path_syntax.proofs.Words.{◌+◌, ◌*◌, argument_parts, basic_parts, comparable_parts, segment_parts, selector_parts, parts_bound, nodes_in, branches}
 use Rattle.std.specs.Slice.Iter.{iter_rest}
-use Rattle.serde_json_path_syntax.proofs.Words.{argument_parts, basic_parts, comparable_parts, segment_parts, selector_parts, parts_bound, nodes_in}
-use Rattle.serde_json_path_syntax.specs.Flat.{branches}
 use Rattle.serde_json_path_syntax.proofs.Equality.{AreLeft}
 use Rattle.serde_json_path_syntax.proofs.equal.+comparing.Given as goal
 

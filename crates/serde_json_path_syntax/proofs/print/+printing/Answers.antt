@@ -1,6 +1,4 @@
-use Rattle.std.proofs.Common.{◌≡◌, ◌∙◌, ◌++◌, true, sym, ap, map, codes, option_map, append_assoc, rules}
-use Rattle.serde_json_path_syntax.proofs.Words.{has_written_append, has_written_of_eq, query_kind_view, parts_in, branch_at, branches_named, segment_kind_view, selectors_in, each_is, is_argument, is_segment, is_selector, nodes_in, a_segment, bracket_dots_of, joined, branch_text, sign_text, long_hand}
-use Rattle.serde_json_path_syntax.specs.Flat.{branches}
+use Rattle.serde_json_path_syntax.proofs.Words.{◌≡◌, ◌∙◌, ◌++◌, true, sym, ap, map, codes, option_map, append_assoc, rules, has_written_append, has_written_of_eq, query_kind_view, parts_in, branch_at, branches_named, segment_kind_view, selectors_in, each_is, is_argument, is_segment, is_selector, nodes_in, a_segment, bracket_dots_of, joined, branch_text, sign_text, long_hand, branches}
 use Rattle.serde_json_path_syntax.proofs.Tree.NamedParts.{within_get, one_is, others, others-bound, others_are}
 use Rattle.serde_json_path_syntax.proofs.Printing.{begun_whole, texts_of_arguments, texts_of_selectors}
 use Rattle.serde_json_path_syntax.proofs.print.+printing.Goals as goal

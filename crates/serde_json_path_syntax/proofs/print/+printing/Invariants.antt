@@ -1,6 +1,4 @@
-use Rattle.std.proofs.Common.{◌+◌, ◌*◌, [], codes}
-use Rattle.serde_json_path_syntax.proofs.Words.{HasWritten, IsPlainFormatter, argument_parts, basic_parts, comparable_parts, parts_bound, nodes_in}
-use Rattle.serde_json_path_syntax.specs.Flat.{branches}
+use Rattle.serde_json_path_syntax.proofs.Words.{◌+◌, ◌*◌, [], codes, HasWritten, IsPlainFormatter, argument_parts, basic_parts, comparable_parts, parts_bound, nodes_in, branches}
 use Rattle.serde_json_path_syntax.proofs.Printing.{begun}
 use Rattle.serde_json_path_syntax.proofs.print.+printing.Given as goal
 

@@ -1,5 +1,4 @@
-use Rattle.std.specs.Prelude.{◌↔◌, drop}
-use Rattle.serde_json_path_syntax.proofs.Words.{AreSingular, IsSingular, part_query, segments_at}
+use Rattle.serde_json_path_syntax.proofs.Words.{◌↔◌, drop, AreSingular, IsSingular, part_query, segments_at}
 use Rattle.serde_json_path_syntax.proofs.singular.is_singular.Given as goal
 
 abbrev pub invariant-loop-segment : goal.invariant-loop-segment

@@ -1,8 +1,4 @@
-use Rattle.std.proofs.Common.{◌≡◌, ◌∙◌, length, map, sym, ap, subst, refl, rules}
-use Rattle.std.proofs.lemmas.List.{length-map, map_push}
-use Rattle.serde_json_path_nodes.specs.Lists.{first_places}
-use Rattle.serde_json_path_nodes.specs.Views.{located}
-use Rattle.jsonpath_lines.specs.Distinct.{IsExceeded}
+use Rattle.jsonpath_lines.proofs.Words.{◌≡◌, ◌∙◌, length, map, sym, ap, subst, refl, rules, length-map, map_push, first_places, located, IsExceeded}
 use Rattle.jsonpath_lines.proofs.EachOnce.{distinct_again, distinct_push, enough_met}
 use Rattle.jsonpath_lines.proofs.distinct.DistinctNodesSink.take.Goals as goal
 use Rattle.jsonpath_lines.proofs.distinct.DistinctNodesSink.take.Goals.{then-len-self+else-is_exceeded, else-len-self}

@@ -1,5 +1,4 @@
-use Rattle.std.proofs.Common.{◌≡◌, ◌+◌, false, true, rules}
-use Rattle.jsonpath_lines.specs.Inside.{is_reached}
+use Rattle.jsonpath_lines.proofs.Words.{◌≡◌, ◌+◌, false, true, rules, is_reached}
 use Rattle.jsonpath_lines.proofs.Chosen.{filled_by_one, one_taken}
 use Rattle.jsonpath_lines.proofs.nodes.Lines.take_as.Goals as goal
 

@@ -1,7 +1,4 @@
-use Rattle.std.proofs.Common.{◌≡◌, ◌∙◌, ap, sym}
-use Rattle.std.proofs.lemmas.Result.{IfOk-weaker}
-use Rattle.jsonpath_lines.specs.Inside.{in_located_lines}
-use Rattle.jsonpath_lines.specs.declared.line.LineWriter.{LineWriter}
+use Rattle.jsonpath_lines.proofs.Words.{◌≡◌, ◌∙◌, ap, sym, IfOk-weaker, in_located_lines, LineWriter}
 use Rattle.jsonpath_lines.proofs.Chosen.{taken_by}
 use Rattle.jsonpath_lines.proofs.nodes.LocatedLinesSink.take.Goals as goal
 

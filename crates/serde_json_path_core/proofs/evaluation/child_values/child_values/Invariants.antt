@@ -1,5 +1,4 @@
-use Rattle.std.proofs.Common.{◌≡◌, ◌++◌, length, map}
-use Rattle.serde_json_path_core.proofs.Words.{view, Step, Data, node_value, children, cursor_left}
+use Rattle.serde_json_path_core.proofs.Words.{◌≡◌, ◌++◌, length, map, view, Step, Data, node_value, children, cursor_left}
 use Rattle.serde_json_path_core.proofs.evaluation.child_values.child_values.Given as goal
 
 abbrev pub invariant-loop-child : goal.invariant-loop-child

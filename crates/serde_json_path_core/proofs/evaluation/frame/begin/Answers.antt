@@ -1,5 +1,4 @@
-use Rattle.serde_json_path_core.proofs.Words.{IsOfKind, is_segment, nodes_in, one_is, within_bound, branches, below_length, past_length}
-use Rattle.std.proofs.Common.{arith, subst, sym}
+use Rattle.serde_json_path_core.proofs.Words.{IsOfKind, is_segment, nodes_in, one_is, within_bound, branches, below_length, past_length, arith, subst, sym}
 use Rattle.serde_json_path_core.proofs.Walks.Turns.{stages-from, stages-past}
 use Rattle.serde_json_path_core.proofs.evaluation.frame.begin.Goals as goal
 

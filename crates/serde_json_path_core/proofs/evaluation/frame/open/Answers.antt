@@ -1,5 +1,4 @@
-use Rattle.std.proofs.Common.{option_map, sym, ap, ◌∙◌}
-use Rattle.serde_json_path_core.proofs.Words.{nodes_in, selector_view, stage_at}
+use Rattle.serde_json_path_core.proofs.Words.{option_map, sym, ap, ◌∙◌, nodes_in, selector_view, stage_at}
 use Rattle.serde_json_path_core.proofs.Walks.Turns.{drop-some, drop-none}
 use Rattle.serde_json_path_core.proofs.evaluation.frame.open.Goals as goal
 

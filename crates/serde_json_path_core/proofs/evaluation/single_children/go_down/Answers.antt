@@ -1,5 +1,4 @@
-use Rattle.std.proofs.Common.{get_or, None, Some, ◌∙◌, arith, sym, true≢false}
-use Rattle.serde_json_path_core.proofs.Words.{get_or_default, is_segment, view, one_is, branches, nodes_in, Part, within_get}
+use Rattle.serde_json_path_core.proofs.Words.{get_or, None, Some, ◌∙◌, arith, sym, true≢false, get_or_default, is_segment, view, one_is, branches, nodes_in, Part, within_get}
 use Rattle.serde_json_path_core.proofs.Walks.Chains.{child_stands}
 use Rattle.serde_json_path_core.proofs.Walks.SingleChildren.{child-selected, ends-at, goes_down, next-singular}
 use Rattle.serde_json_path_core.proofs.evaluation.single_children.go_down.Goals as goal

@@ -1,5 +1,4 @@
-use Rattle.std.proofs.Common.{◌≡◌, drop, true}
-use Rattle.serde_json_path_core.proofs.Words.{are_singular, Data, view, FunctionSet, segments_at, nodes_in, StandsIn, values_from}
+use Rattle.serde_json_path_core.proofs.Words.{◌≡◌, drop, true, are_singular, Data, view, FunctionSet, segments_at, nodes_in, StandsIn, values_from}
 use Rattle.serde_json_path_core.proofs.evaluation.single_children.go_down.Given as goal
 
 abbrev pub invariant-loop-passed : goal.invariant-loop-passed

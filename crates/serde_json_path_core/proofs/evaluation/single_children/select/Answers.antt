@@ -1,5 +1,4 @@
-use Rattle.std.proofs.Common.{◌≡◌, ℕ, List, map, Option, Some, None, option_map, option_to_list, refl, sym, ap, ◌∙◌}
-use Rattle.serde_json_path_core.proofs.Words.{get, Data, Step, by_name, candidate_values, name, object, single_view, view}
+use Rattle.serde_json_path_core.proofs.Words.{◌≡◌, ℕ, List, map, Option, Some, None, option_map, option_to_list, refl, sym, ap, ◌∙◌, get, Data, Step, by_name, candidate_values, name, object, single_view, view}
 use Rattle.serde_json_path_core.proofs.evaluation.single_children.select.Goals as goal
 
 value_alone : (s : Step) (found : Option Data) → option_to_list found ≡ map (λ (c : Step × Data). c.1) (option_to_list (option_map (λ d. (s, d)) found))

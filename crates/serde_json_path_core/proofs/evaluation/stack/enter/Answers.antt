@@ -1,5 +1,4 @@
-use Rattle.std.proofs.Common.{◌-◌, ◌++◌, ◌∷◌, [], Bool, List, Some, drop, ap, sym, ◌∙◌, cond, arith}
-use Rattle.serde_json_path_core.proofs.Words.{nodes_in, stages_at, frames_view, arrival_view, entered, last_passed, Frame}
+use Rattle.serde_json_path_core.proofs.Words.{◌-◌, ◌++◌, ◌∷◌, [], Bool, List, Some, drop, ap, sym, ◌∙◌, cond, arith, nodes_in, stages_at, frames_view, arrival_view, entered, last_passed, Frame}
 use Rattle.serde_json_path_core.proofs.Walks.Turns.{sees_passed_below}
 use Rattle.serde_json_path_core.proofs.evaluation.stack.enter.Goals as goal
 

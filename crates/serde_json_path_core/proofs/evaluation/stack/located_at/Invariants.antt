@@ -1,5 +1,4 @@
-use Rattle.std.proofs.Common.{◌≡◌, [], map, drop}
-use Rattle.serde_json_path_core.proofs.Words.{step_view, stack_path, frames_view}
+use Rattle.serde_json_path_core.proofs.Words.{◌≡◌, [], map, drop, step_view, stack_path, frames_view}
 use Rattle.serde_json_path_core.proofs.evaluation.stack.located_at.Given as goal
 
 abbrev pub invariant-loop-frame : goal.invariant-loop-frame

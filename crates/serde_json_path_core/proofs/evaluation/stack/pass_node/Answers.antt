@@ -1,5 +1,4 @@
-use Rattle.std.proofs.Common.{◌-◌, take, option_map, ap, sym, ◌∙◌}
-use Rattle.serde_json_path_core.proofs.Words.{length-map, take-map, step_view, frame_view, frames_view, without_node}
+use Rattle.serde_json_path_core.proofs.Words.{◌-◌, take, option_map, ap, sym, ◌∙◌, length-map, take-map, step_view, frame_view, frames_view, without_node}
 use Rattle.serde_json_path_core.proofs.evaluation.stack.pass_node.Goals as goal
 
 pub returns-in-None : goal.returns-in-None

@@ -1,5 +1,4 @@
-use Rattle.std.proofs.Common.{◌≡◌, ◌∙◌, ap, nat_cmp, refl}
-use Rattle.serde_json_path_core.proofs.Words.{is_lt}
+use Rattle.serde_json_path_core.proofs.Words.{◌≡◌, ◌∙◌, ap, nat_cmp, refl, is_lt}
 use Rattle.std.specs.Str.Iter.{chars_rest}
 use Rattle.std.proofs.lemmas.Iterator.{YieldsList-from_chars}
 use Rattle.std.proofs.lemmas.Iterator.Search.{cmp_from_yields_List}

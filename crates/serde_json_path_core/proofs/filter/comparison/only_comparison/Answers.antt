@@ -1,5 +1,4 @@
-use Rattle.std.proofs.Common.{◌≡◌, ◌∙◌, ap, arith, rules, sym}
-use Rattle.serde_json_path_core.proofs.Words.{and_parts, common_steps, comparable_at, is_and, is_comparable, one_is, or_at, branch_at, branches, operator_view, and, no_and, no_or, or, relation, Part, nodes_of, top_of, within_get, compare_sides, query_of, set_of, compared_by, SoundComparable, compared_at}
+use Rattle.serde_json_path_core.proofs.Words.{◌≡◌, ◌∙◌, ap, arith, rules, sym, and_parts, common_steps, comparable_at, is_and, is_comparable, one_is, or_at, branch_at, branches, operator_view, and, no_and, no_or, or, relation, Part, nodes_of, top_of, within_get, compare_sides, query_of, set_of, compared_by, SoundComparable, compared_at}
 use Rattle.serde_json_path_core.proofs.Sound.{sound-sides}
 use Rattle.serde_json_path_core.proofs.Steps.Lookups.{one-comparison, only-comparison}
 use Rattle.serde_json_path_core.proofs.filter.comparison.only_comparison.Goals.{In-Basic-Relation}

@@ -1,5 +1,4 @@
-use Rattle.std.proofs.Common.{◌≡◌, suc, List, [], ◌∷◌, length, String, Global, string_bytes, bytes_eq, Bool, true, false, ◌&&◌, refl, sym, ap, ◌∙◌}
-use Rattle.serde_json_path_core.proofs.Words.{Numbers, view, items_view, members_view, Value, same_data, same_items, same_members}
+use Rattle.serde_json_path_core.proofs.Words.{◌≡◌, suc, List, [], ◌∷◌, length, String, Global, string_bytes, bytes_eq, Bool, true, false, ◌&&◌, refl, sym, ap, ◌∙◌, Numbers, view, items_view, members_view, Value, same_data, same_items, same_members}
 use Rattle.serde_json_path_core.proofs.filter.equality.+same.Goals as goal
 
 and-false : (b : Bool) → (b && false) ≡ false

@@ -1,5 +1,4 @@
-use Rattle.std.proofs.Common.{◌≡◌, length}
-use Rattle.serde_json_path_core.proofs.Words.{iter_rest, items_view, members_view, same_items, same_members, numbers_view}
+use Rattle.serde_json_path_core.proofs.Words.{◌≡◌, length, iter_rest, items_view, members_view, same_items, same_members, numbers_view}
 use Rattle.serde_json_path_core.proofs.filter.equality.+same.Given as goal
 
 abbrev pub invariant-same_items-loop-item : goal.invariant-same_items-loop-item

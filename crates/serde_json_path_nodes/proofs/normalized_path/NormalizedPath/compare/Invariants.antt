@@ -1,5 +1,4 @@
-use Rattle.std.proofs.Common.{◌≡◌, length, map, vec_len}
-use Rattle.serde_json_path_nodes.proofs.Words.{nat_cmp, location_cmp, step_view}
+use Rattle.serde_json_path_nodes.proofs.Words.{◌≡◌, length, map, vec_len, nat_cmp, location_cmp, step_view}
 use Rattle.std.specs.Slice.Iter.{iter_rest}
 use Rattle.serde_json_path_nodes.proofs.normalized_path.NormalizedPath.compare.Given as goal
 

@@ -1,5 +1,4 @@
-use Rattle.std.proofs.Common.{arith}
-use Rattle.serde_json_path_nodes.proofs.Words.{common_steps}
+use Rattle.serde_json_path_nodes.proofs.Words.{arith, common_steps}
 use Rattle.serde_json_path_nodes.proofs.TextsApart.{in_decimal-decimal}
 use Rattle.serde_json_path_nodes.proofs.normalized_path.NormalizedPath.to_json_pointer.Goals as goal
 use Rattle.serde_json_path_nodes.proofs.normalized_path.NormalizedPath.to_json_pointer.Goals.{in-Name+in_ok-push_in_pointer-in-Name, in-Index+in_ok-write-in-Index}

@@ -1,5 +1,4 @@
-use Rattle.std.proofs.Common.{◌≡◌, map, take, string_bytes}
-use Rattle.serde_json_path_nodes.proofs.Words.{pointer, step_view}
+use Rattle.serde_json_path_nodes.proofs.Words.{◌≡◌, map, take, string_bytes, pointer, step_view}
 use Rattle.serde_json_path_nodes.proofs.normalized_path.NormalizedPath.to_json_pointer.Given as goal
 
 abbrev pub invariant-loop-element : goal.invariant-loop-element

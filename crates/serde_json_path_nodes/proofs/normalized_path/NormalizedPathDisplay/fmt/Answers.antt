@@ -1,6 +1,4 @@
-use Rattle.std.proofs.Common.{◌≡◌, ◌++◌, map, take, codes, refl, ap, sym, ◌∙◌, arith}
-use Rattle.serde_json_path_nodes.proofs.Words.{flat_map, chars, decimal, has_written_append, has_written_of_eq, in_quotes, normal, end_of, step_view, by_name, by_position}
-use Rattle.serde_json_path_nodes.specs.Text.{in_decimal}
+use Rattle.serde_json_path_nodes.proofs.Words.{◌≡◌, ◌++◌, map, take, codes, refl, ap, sym, ◌∙◌, arith, flat_map, chars, decimal, has_written_append, has_written_of_eq, in_quotes, normal, end_of, step_view, by_name, by_position, in_decimal}
 use Rattle.serde_json_path_nodes.proofs.TextsApart.{in_decimal-decimal}
 use Rattle.serde_json_path_nodes.proofs.Steps.{index_more, name_more, normal_more}
 use Rattle.serde_json_path_nodes.proofs.normalized_path.NormalizedPathDisplay.fmt.Goals as goal

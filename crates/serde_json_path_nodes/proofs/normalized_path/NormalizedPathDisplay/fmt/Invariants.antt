@@ -1,5 +1,4 @@
-use Rattle.std.proofs.Common.{◌≡◌, ℕ, List, ◌++◌, map, take}
-use Rattle.serde_json_path_nodes.proofs.Words.{HasWritten, IsPlainFormatter, normal, end_of, step_view}
+use Rattle.serde_json_path_nodes.proofs.Words.{◌≡◌, ℕ, List, ◌++◌, map, take, HasWritten, IsPlainFormatter, normal, end_of, step_view}
 use Rattle.serde_json_path_nodes.proofs.normalized_path.NormalizedPathDisplay.fmt.Given as goal
 
 -- what is written of the text of the steps so far: all but its end

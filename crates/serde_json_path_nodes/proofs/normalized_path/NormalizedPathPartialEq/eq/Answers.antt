@@ -1,5 +1,4 @@
-use Rattle.std.proofs.Common.{◌∙◌, sym, rules}
-use Rattle.serde_json_path_nodes.proofs.Words.{same_steps_decides}
+use Rattle.serde_json_path_nodes.proofs.Words.{◌∙◌, sym, rules, same_steps_decides}
 use Rattle.serde_json_path_nodes.proofs.Equal.{elements-same_steps, lengths_differ, lasts_differ}
 use Rattle.serde_json_path_nodes.proofs.normalized_path.NormalizedPathPartialEq.eq.Goals as goal
 use Rattle.serde_json_path_nodes.proofs.normalized_path.NormalizedPathPartialEq.eq.Goals.{then-len, else-len}

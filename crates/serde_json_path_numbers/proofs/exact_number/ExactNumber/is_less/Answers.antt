@@ -1,4 +1,4 @@
-use Rattle.std.proofs.Common.{◌∙◌}
+use Rattle.serde_json_path_numbers.proofs.Words.{◌∙◌}
 use Rattle.serde_json_path_numbers.proofs.Forms.{mixed}
 use Rattle.serde_json_path_numbers.proofs.exact_number.ExactNumber.is_less.Goals as goal
 

@@ -1,6 +1,4 @@
-use Rattle.std.proofs.Common.{ap, sym, ◌∙◌, to_z-of_z}
-use Rattle.std.specs.Prelude.{pos, int_div}
-use Rattle.serde_json_path_numbers.specs.Inside.{is_exact}
+use Rattle.serde_json_path_numbers.proofs.Words.{ap, sym, ◌∙◌, to_z-of_z, pos, int_div, is_exact}
 use Rattle.serde_json_path_numbers.proofs.Finite.{whole_is_exact, double_is_exact}
 use Rattle.serde_json_path_numbers.proofs.exact_number.ExactNumber.of_literal.Goals as goal
 use Rattle.serde_json_path_numbers.proofs.exact_number.ExactNumber.of_literal.Goals.{in-None, in-Some}

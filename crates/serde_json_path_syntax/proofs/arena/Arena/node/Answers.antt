@@ -1,6 +1,4 @@
-use Rattle.std.proofs.Common.{sym, ap, ◌∙◌}
-use Rattle.serde_json_path_syntax.proofs.Words.{branch_of}
-use Rattle.serde_json_path_syntax.specs.Flat.{branches}
+use Rattle.serde_json_path_syntax.proofs.Words.{sym, ap, ◌∙◌, branch_of, branches}
 use Rattle.serde_json_path_syntax.proofs.Tree.Growing.{called_among, branch_at-is}
 use Rattle.serde_json_path_syntax.proofs.arena.Arena.node.Goals as goal
 

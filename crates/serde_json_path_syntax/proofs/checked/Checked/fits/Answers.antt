@@ -1,5 +1,4 @@
-use Rattle.std.proofs.Common.{◌∙◌, arith, refl, sym, subst, true≢false}
-use Rattle.serde_json_path_syntax.proofs.Words.{drop_all, Fits, called_by, calls_among}
+use Rattle.serde_json_path_syntax.proofs.Words.{◌∙◌, arith, refl, sym, subst, true≢false, drop_all, Fits, called_by, calls_among}
 use Rattle.serde_json_path_syntax.proofs.Tree.Growing.{fits_from}
 use Rattle.serde_json_path_syntax.proofs.Names.Once.{fits_once, once_fits}
 use Rattle.serde_json_path_syntax.proofs.checked.Checked.fits.Goals as goal

@@ -1,5 +1,4 @@
-use Rattle.std.specs.Prelude.{◌↔◌, drop}
-use Rattle.serde_json_path_syntax.proofs.Words.{Fits, calls_among}
+use Rattle.serde_json_path_syntax.proofs.Words.{◌↔◌, drop, Fits, calls_among}
 use Rattle.serde_json_path_syntax.proofs.checked.Checked.fits.Given as goal
 
 abbrev pub invariant-loop-node : goal.invariant-loop-node

@@ -1,5 +1,4 @@
-use Rattle.serde_json_path_syntax.proofs.Words.{calls_among, part_query, each_once, signature_in}
-use Rattle.std.proofs.Common.{◌∙◌}
+use Rattle.serde_json_path_syntax.proofs.Words.{calls_among, part_query, each_once, signature_in, ◌∙◌}
 use Rattle.serde_json_path_syntax.proofs.Names.Once.{called_once, signature-once}
 use Rattle.serde_json_path_syntax.proofs.Typing.TypedByNames.{typed_by_names}
 use Rattle.serde_json_path_syntax.proofs.checked.Checked.of.Goals as goal

@@ -1,5 +1,5 @@
-use Rattle.std.proofs.Common.{rules, ◌≡◌, ℤ, pos, Decides, int_rem, nat_eq, of_z, to_z, subst, sym}
-use Rattle.serde_json_path_syntax.proofs.Words.{w128, number, IsValueLiteral}
+use Rattle.serde_json_path_syntax.proofs.Words.{rules, ◌≡◌, ℤ, pos, int_rem, nat_eq, of_z, to_z, subst, sym, w128, number, IsValueLiteral}
+use Rattle.std.proofs.Common.{Decides}
 use Rattle.serde_json_path_syntax.specs.Literals.{literal_view}
 use Rattle.serde_json_path_syntax.proofs.Typing.Typings.{whole_by_bits}
 use Rattle.serde_json_path_syntax.proofs.literal.Literal.is_value.Goals as goal

@@ -1,5 +1,4 @@
-use Rattle.std.proofs.Common.{◌∙◌, ◌++◌, ◌/◌, sym, ap, rules}
-use Rattle.serde_json_path_syntax.proofs.Words.{decimal, has_written_append, has_written_of_eq, append-nil}
+use Rattle.serde_json_path_syntax.proofs.Words.{◌∙◌, ◌++◌, ◌/◌, sym, ap, rules, decimal, has_written_append, has_written_of_eq, append-nil}
 use Rattle.serde_json_path_syntax.proofs.Printing.{fraction_ended, fraction_more}
 use Rattle.serde_json_path_syntax.proofs.print.literals.write_fraction.Goals as goal
 

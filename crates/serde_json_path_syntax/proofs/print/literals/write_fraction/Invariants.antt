@@ -1,5 +1,4 @@
-use Rattle.std.proofs.Common.{◌≡◌, ℕ, ◌-◌, List, ◌++◌}
-use Rattle.serde_json_path_syntax.proofs.Words.{HasWritten, IsPlainFormatter, fraction_digits, fraction_text}
+use Rattle.serde_json_path_syntax.proofs.Words.{◌≡◌, ℕ, ◌-◌, List, ◌++◌, HasWritten, IsPlainFormatter, fraction_digits, fraction_text}
 use Rattle.serde_json_path_syntax.proofs.print.literals.write_fraction.Given as goal
 
 -- what is printed and the digits of the rest are the whole text

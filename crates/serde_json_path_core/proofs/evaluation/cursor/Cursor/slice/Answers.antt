@@ -1,5 +1,4 @@
-use Rattle.std.proofs.Common.{◌≡◌, ap, sym, ◌∙◌}
-use Rattle.serde_json_path_core.proofs.Words.{items_len, view, items_view, view-Array, items_len-items_view, step_of, slice_view, positions_by, at_positions, sliced, positions_left}
+use Rattle.serde_json_path_core.proofs.Words.{◌≡◌, ap, sym, ◌∙◌, items_len, view, items_view, view-Array, items_len-items_view, step_of, slice_view, positions_by, at_positions, sliced, positions_left}
 use Rattle.serde_json_path_core.proofs.evaluation.cursor.Cursor.slice.Goals as goal
 
 pub returns-in-Array : goal.returns-in-Array

@@ -1,5 +1,4 @@
-use Rattle.std.proofs.Common.{◌≡◌, ap, sym, ◌∙◌, rules}
-use Rattle.serde_json_path_core.proofs.Words.{members_view, members_all}
+use Rattle.serde_json_path_core.proofs.Words.{◌≡◌, ap, sym, ◌∙◌, rules, members_view, members_all}
 use Rattle.serde_json_path_core.proofs.Steps.Lookups.{in_order-members_view}
 use Rattle.serde_json_path_core.proofs.evaluation.cursor.MembersLeft.of.Goals as goal
 

@@ -1,5 +1,4 @@
-use Rattle.std.proofs.Common.{◌≡◌, ◌-◌, ◌^◌, ◌<◌, length, drop, ap, ◌∙◌, sym, arith, rules}
-use Rattle.serde_json_path_core.proofs.Words.{items_view, Null, strided, next_position}
+use Rattle.serde_json_path_core.proofs.Words.{◌≡◌, ◌-◌, ◌^◌, ◌<◌, length, drop, ap, ◌∙◌, sym, arith, rules, items_view, Null, strided, next_position}
 use Rattle.serde_json_path_core.proofs.Steps.Positions.{strided-first, strided-up, strided-down}
 use Rattle.serde_json_path_core.proofs.evaluation.slice_positions.SlicePositions.pass.Goals as goal
 use Rattle.serde_json_path_core.proofs.evaluation.slice_positions.SlicePositions.pass.Goals.{then-self, else-self}

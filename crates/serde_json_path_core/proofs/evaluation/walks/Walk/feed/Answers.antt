@@ -1,5 +1,4 @@
-use Rattle.std.proofs.Common.{[], ◌∷◌, ◌++◌, sym, ap, ◌∙◌, append_assoc}
-use Rattle.serde_json_path_core.proofs.Words.{located, rest}
+use Rattle.serde_json_path_core.proofs.Words.{[], ◌∷◌, ◌++◌, sym, ap, ◌∙◌, append_assoc, located, rest}
 use Rattle.serde_json_path_core.proofs.evaluation.walks.Walk.feed.Goals as goal
 
 pub nodes-preserved : goal.nodes-preserved

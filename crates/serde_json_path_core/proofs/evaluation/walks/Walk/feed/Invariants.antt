@@ -1,5 +1,4 @@
-use Rattle.std.proofs.Common.{◌≡◌, ◌++◌, List}
-use Rattle.serde_json_path_core.proofs.Words.{Located, document_of, rest, steps_of}
+use Rattle.serde_json_path_core.proofs.Words.{◌≡◌, ◌++◌, List, Located, document_of, rest, steps_of}
 use Rattle.serde_json_path_core.specs.Walks.{query_of, set_of}
 use Rattle.serde_json_path_core.proofs.evaluation.walks.Walk.feed.Given as goal
 
