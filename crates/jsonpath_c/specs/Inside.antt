@@ -1,5 +1,5 @@
 -- What contracts of private functions and proofs cite alone.
-use Rattle.std.specs.Prelude.{◌≡◌, ◌<◌, ◌≤◌, ◌+◌, ◌++◌, ◌⊎◌, ℕ, List, [], ◌∷◌, length, map, string_bytes, false}
+use Rattle.std.specs.Prelude.{◌≡◌, ◌<◌, ◌≤◌, ◌+◌, ◌⊎◌, List, [], length, map, string_bytes, false}
 use Rattle.jsonpath_c.specs.Words.{Located, IsLineOfEach, compact_lines, KeptNode, kept}
 use Rattle.jsonpath_c.specs.Handles.{AreFirstLines, AreFirstNodes, all_name_bytes, name_bytes}
 use Rattle.jsonpath_c.specs.declared.bounded.BoundedLines.{BoundedLines}
