@@ -1,20 +1,6 @@
 -- The first of some nodes, with another after them.
 use Rattle.std.proofs.Common.{◌≡◌, ◌≤◌, ◌<◌, ◌+◌, ◌∙◌, ◌⊎◌, inl, inr, ℕ, Bool, false, true, Some, Result, Ok, string_bytes, List, [], ◌∷◌, ◌++◌, length, map, refl, sym, ap, subst, arith, append_assoc, append-nil, length-append}
-use Rattle.std.proofs.lemmas.List.{length_push, map_push}
-use Rattle.std.proofs.lemmas.List.Sums.{sum_by_push}
-use Rattle.serde_json_path_nodes.specs.Location.{Located}
-use Rattle.jsonpath_owned_nodes.specs.Kept.{KeptNode, kept}
-use Rattle.std.specs.Borrow.{Bor}
-use Rattle.jsonpath_lines.specs.Output.{IsLine, IsLineOfEach, compact_lines}
-use Rattle.jsonpath_lines.specs.declared.forms.Form.{Form}
-use Rattle.jsonpath_lines.proofs.Pieces.{lines_pushed}
-use Rattle.jsonpath_c.specs.Handles.{AreFirstLines, AreFirstNodes, IsBeyond, IsNodeBeyond, all_name_bytes, name_bytes}
-use Rattle.serde_json_path_functions.specs.declared.error.QueryError.{QueryError}
-use Rattle.jsonpath_c.specs.declared.bounded.BoundedLines.{BoundedLines}
-use Rattle.jsonpath_c.specs.declared.bounded_list.BoundedList.{BoundedList}
-use Rattle.jsonpath_lines.specs.Distinct.{AreEnough}
-use Rattle.jsonpath_c.specs.Inside.{AreWithin, FilledLines, FilledList, HasNoRoomFor, IsLeftAfter, TookLines, TookList}
-use Rattle.jsonpath_c.specs.declared.limits.Limits.{Limits}
+use Rattle.jsonpath_c.proofs.Words.{length_push, map_push, sum_by_push, Located, KeptNode, kept, Bor, IsLine, IsLineOfEach, compact_lines, Form, lines_pushed, AreFirstLines, AreFirstNodes, IsBeyond, IsNodeBeyond, all_name_bytes, name_bytes, QueryError, BoundedLines, BoundedList, AreEnough, AreWithin, FilledLines, FilledList, HasNoRoomFor, IsLeftAfter, TookLines, TookList, Limits}
 
 -- what is kept of one node more
 pub kept_further : (list longer : List KeptNode) (done : List Located) (n : Located) → list ≡ map kept done → longer ≡ list ++ kept n ∷ [] → longer ≡ map kept (done ++ n ∷ [])

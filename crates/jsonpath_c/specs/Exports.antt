@@ -1,21 +1,9 @@
 -- What the exports answer, and what they write.
 use Rattle.std.specs.Prelude.{◌≡◌, ◌≢◌, ◌<◌, ◌≤◌, ◌⊎◌, ◌↔◌, ℕ, List, [], ◌++◌, drop, length, Err}
-use Rattle.std.specs.Option.{unwrap_or}
-use Rattle.std.specs.Str.{IsUtf8}
-use Rattle.serde_json.specs.Data.{Data}
-use Rattle.serde_json_path.specs.Paths.{path_view}
-use Rattle.serde_json_path_functions.specs.Patterns.{builtin_functions}
-use Rattle.serde_json_path_parser.specs.Errors.{kind_of, position_of}
-use Rattle.serde_json_path_parser.specs.Parse.{IsParseOf}
-use Rattle.serde_json_path_parser.specs.Reported.{ReportsFirst}
-use Rattle.serde_json_path_parser.specs.declared.error.ParseError.{ParseError}
-use Rattle.serde_json_path_parser.specs.declared.error.ParseErrorKind.{ParseErrorKind}
-use Rattle.serde_json_path_parser.specs.declared.error.ParseErrorKind.TheVariants.{ExpectedRoot, BadMemberName, ExpectedClosingBracket, ExpectedEndingQuote, BadEscape, ControlCharacter, ExpectedSelector, IntegerOutOfRange, ExponentOrEmptyFraction, NumberOutOfRange, ExpectedExpression, ExpectedClosingParenthesis, ExpectedComparisonOperator, NonSingularQuery, UndefinedFunction, WrongNumberOfArguments, WrongArgumentType, WrongReturnType, NestedTooDeep, TextAfterPath, FractionTooLong, NoMemory}
-use Rattle.serde_json_path_hints.specs.Hints.{hint_of}
-use Rattle.jsonpath_document.specs.Document.{ReadsAs}
-use Rattle.jsonpath_lines.specs.declared.forms.Form.{Form}
-use Rattle.jsonpath_program.specs.Report.{IsNoPath, CallsByPatternOn, IsReportIn}
+use Rattle.jsonpath_c.specs.Words.{unwrap_or, IsUtf8, chars, Data, path_view, builtin_functions, IsAccepted, kind_of, position_of, IsParseOf, ReportsFirst, ParseError, ParseErrorKind, ExpectedRoot, BadMemberName, ExpectedClosingBracket, ExpectedEndingQuote, BadEscape, ControlCharacter, ExpectedSelector, IntegerOutOfRange, ExponentOrEmptyFraction, NumberOutOfRange, ExpectedExpression, ExpectedClosingParenthesis, ExpectedComparisonOperator, NonSingularQuery, UndefinedFunction, WrongNumberOfArguments, WrongArgumentType, WrongReturnType, NestedTooDeep, TextAfterPath, FractionTooLong, NoMemory, Query, hint_of, ReadsAs, Form, IsNoPath, CallsByPatternOn, IsReportIn}
 use Rattle.jsonpath_c.specs.declared.refusal.Refusal.{Refusal}
+
+-- ---- texts
 
 -- A text is put: it is the first bytes of what is there then, the others are as before, and the size is its own.
 abbrev pub IsPut : List ℕ → List ℕ → List ℕ → ℕ → Type 0
@@ -24,6 +12,19 @@ IsPut text old new size = (new ≡ text ++ drop (length text) old) × (size ≡ 
 -- A text finds no room: what is there is shorter than the text, and the size is the text's.
 abbrev pub FindsNoRoom : List ℕ → List ℕ → ℕ → Type 0
 FindsNoRoom text old size = (length old < length text) × (size ≡ length text)
+
+-- What a call for a text answers, with what it was lent before and after: `out` and `size`.
+pub record AnswersText (Is : List ℕ → Type 0) (old_out new_out : List ℕ) (old_size new_size status : ℕ) : Type 0 where
+  pub done : status ≡ 0 → (text : List ℕ) × Is text × IsPut text old_out new_out new_size
+  pub no_room : status ≡ 5 → (text : List ℕ) × Is text × FindsNoRoom text old_out new_size
+  pub kept_out : status ≢ 0 → new_out ≡ old_out
+  pub kept_size : status ≢ 0 → status ≢ 5 → new_size ≡ old_size
+
+-- ---- paths
+
+-- a text is a path under the built-in functions
+abbrev pub IsPath : List ℕ → Type 0
+IsPath path = (q : Query) × IsAccepted builtin_functions.signature (chars path) q
 
 -- the number of a kind of refusal; want of memory is no refusal
 abbrev pub number_of : ParseErrorKind → ℕ
@@ -74,6 +75,21 @@ IsRefusalOf path refusal = IsRefusalBy IsRefusedWith path refusal
 -- and it is the refusal that the parse reports
 abbrev pub IsReportedRefusalOf : List ℕ → Refusal → Type 0
 IsReportedRefusalOf path refusal = IsRefusalBy IsReportedWith path refusal
+
+-- What a call that reads a path answers, with what holds of 0, and with `refusal` before and after.
+pub record AnswersPath (Done : Type 0) (path : List ℕ) (old_refusal new_refusal : Refusal) (status : ℕ) : Type 0 where
+  pub statuses : (status ≡ 0) ⊎ (status ≡ 1) ⊎ (status ≡ 4) ⊎ (status ≡ 6)
+  pub done : status ≡ 0 → Done
+  pub refused : status ≡ 1 → IsRefusalOf path new_refusal
+  pub reported : status ≡ 1 → IsReportedRefusalOf path new_refusal
+  pub not_utf8 : (status ≡ 6) ↔ (IsUtf8 path → ⊥)
+  pub kept_refusal : status ≢ 1 → new_refusal ≡ old_refusal
+
+-- what is told of a text: of a refusal this, and of a path nothing
+abbrev pub IsTold : (ParseError → List ℕ) → List ℕ → List ℕ → Type 0
+IsTold told_of path text = (IsPath path × (text ≡ [])) ⊎ ((e : ParseError) × IsReportedWith path e × (text ≡ told_of e))
+
+-- ---- lines
 
 -- What an export of lines answers, with what it was lent before and after: `out`, `size` and `refusal`.
 pub record AnswersLines (form : Form) (path document old_out new_out : List ℕ) (old_size new_size : ℕ) (old_refusal new_refusal : Refusal) (status : ℕ) : Type 0 where

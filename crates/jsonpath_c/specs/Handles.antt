@@ -1,27 +1,6 @@
 -- What handles hold, and what calls answer of it.
-use Rattle.std.specs.Prelude.{◌≡◌, ◌≢◌, ◌==◌, ◌≤◌, ◌<◌, ◌+◌, ◌++◌, ◌⊎◌, if◌then◌else◌, ℕ, pos, Bool, true, false, List, [], ◌∷◌, Option, length, map, slice_get}
-use Rattle.std.specs.Float.{float_zero}
-use Rattle.std.specs.List.{sum_by}
-use Rattle.std.specs.Option.{MatchOption}
-use Rattle.std.specs.Str.{chars}
-use Rattle.serde_json.specs.Data.{Data}
-use Rattle.serde_json.specs.View.{view}
-use Rattle.serde_json_path.specs.Paths.{path_tree}
-use Rattle.serde_json_path_core.specs.PatternCalls.{CallsByPattern}
-use Rattle.serde_json_path_core.specs.Selects.{Selects}
-use Rattle.serde_json_path_functions.specs.Functions.{FunctionSet, Numbers, whole_numbers, all_numbers, with_rule}
-use Rattle.serde_json_path_functions.specs.Patterns.{builtin_functions}
-use Rattle.serde_json_path_functions.specs.Terms.{numbers_view}
-use Rattle.serde_json_path_nodes.specs.Lists.{first_places}
-use Rattle.serde_json_path_nodes.specs.Location.{Located, Step, by_name, by_position, at}
-use Rattle.serde_json_path_nodes.specs.Text.{normal, pointer}
-use Rattle.jsonpath_owned_nodes.specs.Kept.{KeptNode, kept, location_of}
-use Rattle.jsonpath_owned_nodes.specs.declared.node_info.NodeInfo.{NodeInfo}
-use Rattle.jsonpath_owned_nodes.specs.declared.node_info.NodeInfo.TheVariants.{Null, False, True, Integer, Unsigned, Double, String, Array, Object}
-use Rattle.serde_json_path_parser.specs.Accepted.{IsAccepted}
-use Rattle.jsonpath_lines.specs.Output.{IsLine, IsLineOfEach, compact_lines}
-use Rattle.jsonpath_lines.specs.declared.forms.Form.{Form}
-use Rattle.jsonpath_lines.specs.declared.forms.Form.TheVariants.{LocationAndValue, Location, Value}
+use Rattle.std.specs.Prelude.{◌≡◌, ◌≢◌, ◌==◌, ◌≤◌, ◌<◌, ◌+◌, ◌++◌, ◌⊎◌, ◌↔◌, if◌then◌else◌, ℕ, pos, Bool, true, false, List, [], ◌∷◌, Option, None, length, map, slice_get}
+use Rattle.jsonpath_c.specs.Words.{float_zero, sum_by, MatchOption, chars, Data, view, path_tree, CallsByPattern, Selects, FunctionSet, Numbers, whole_numbers, all_numbers, with_rule, builtin_functions, numbers_view, first_places, Located, Step, by_name, by_position, at, normal, pointer, KeptNode, kept, location_of, NodeInfo, Null, False, True, Integer, Unsigned, Double, String, Array, Object, IsAccepted, IsLine, IsLineOfEach, compact_lines, Form, LocationAndValue, Location, Value}
 use Rattle.jsonpath_c.specs.Exports.{IsPut, FindsNoRoom}
 use Rattle.jsonpath_c.specs.declared.compiled.Compiled.{Compiled}
 use Rattle.jsonpath_c.specs.declared.handle.document.Document.{Document}
@@ -31,14 +10,22 @@ use Rattle.jsonpath_c.specs.declared.node.Node.{Node}
 use Rattle.jsonpath_c.specs.declared.node_texts.LocationForm.{LocationForm}
 use Rattle.jsonpath_c.specs.declared.node_texts.LocationForm.TheVariants.{Path, Pointer}
 
--- ---- texts
+-- ---- what calls are lent
 
--- What a call for a text answers, with what it was lent before and after: `out` and `size`.
-pub record AnswersText (Is : List ℕ → Type 0) (old_out new_out : List ℕ) (old_size new_size status : ℕ) : Type 0 where
-  pub done : status ≡ 0 → (text : List ℕ) × Is text × IsPut text old_out new_out new_size
-  pub no_room : status ≡ 5 → (text : List ℕ) × Is text × FindsNoRoom text old_out new_size
-  pub kept_out : status ≢ 0 → new_out ≡ old_out
-  pub kept_size : status ≢ 0 → status ≢ 5 → new_size ≡ old_size
+-- two handles hold two things of which this holds
+abbrev pub BothHold : {A B : Type 0} → Option A → Option B → (A → B → Type 0) → Type 0
+BothHold a b Says = MatchOption a ⊥ (λ x. MatchOption b ⊥ (λ y. Says x y))
+
+-- A handle is lent: a call answers 7 exactly if it is empty, and it holds afterwards what it held.
+pub record IsLent {A : Type 0} (old new : Option A) (status : ℕ) : Type 0 where
+  pub empty : (status ≡ 7) ↔ (old ≡ None)
+  pub kept : new ≡ old
+
+-- Two handles are lent: 7 exactly if one is empty.
+pub record AreLent {A B : Type 0} (old new : Option A) (old_other new_other : Option B) (status : ℕ) : Type 0 where
+  pub empty : (status ≡ 7) ↔ ((old ≡ None) ⊎ (old_other ≡ None))
+  pub kept : new ≡ old
+  pub kept_other : new_other ≡ old_other
 
 -- ---- paths
 
@@ -57,10 +44,6 @@ HoldsPathOf text numbers handle = MatchOption handle ⊥ (λ c.
 
 -- ---- paths and documents
 
--- two handles hold two things of which this holds
-abbrev pub BothHold : {A B : Type 0} → Option A → Option B → (A → B → Type 0) → Type 0
-BothHold a b Says = MatchOption a ⊥ (λ x. MatchOption b ⊥ (λ y. Says x y))
-
 -- the path selects these nodes from the document, in order
 abbrev pub SelectsFrom : Compiled → Document → List Located → Type 0
 SelectsFrom c d nodes = Selects (functions_of c) (path_tree c.path) (view d.value) nodes
@@ -68,6 +51,15 @@ SelectsFrom c d nodes = Selects (functions_of c) (path_tree c.path) (view d.valu
 -- some call of the path goes by a pattern that `regex` reads, on the document
 abbrev pub CallsByPatternFrom : Compiled → Document → Type 0
 CallsByPatternFrom c d = CallsByPattern (functions_of c) (view d.value) (path_tree c.path)
+
+-- two handles hold a path and a document, from which the path selects nodes of which this holds
+abbrev pub SelectThose : Option Compiled → Option Document → (List Located → Type 0) → Type 0
+SelectThose path document Says = BothHold path document (λ c d. (nodes : List Located) × SelectsFrom c d nodes × Says nodes)
+
+-- A path is asked of a document: both handles are lent, and with 3 a call goes by a pattern.
+pub record IsAsked (old_path new_path : Option Compiled) (old_document new_document : Option Document) (status : ℕ) : Type 0 where
+  pub lent : AreLent old_path new_path old_document new_document status
+  pub pattern_refused : status ≡ 3 → BothHold old_path old_document CallsByPatternFrom
 
 -- ---- lists of nodes
 
@@ -122,6 +114,18 @@ told_of (Object members) = record (told_of_kind 8) { length = members }
 -- a list's handle holds a node at an index, from 0, of which this holds
 abbrev pub HasNode : Option Nodes → ℕ → (KeptNode → Type 0) → Type 0
 HasNode handle index Says = MatchOption handle ⊥ (λ list. MatchOption (slice_get list.nodes index) ⊥ Says)
+
+-- the text is this of the location of a list's node at an index
+abbrev pub IsOfNode : (List Step → List ℕ) → Option Nodes → ℕ → List ℕ → Type 0
+IsOfNode text_of handle index text = HasNode handle index (λ node. text ≡ text_of (location_of node))
+
+-- an index is past the last node of a list
+abbrev pub IsPast : Option Nodes → ℕ → Type 0
+IsPast handle index = MatchOption handle ⊥ (λ list. slice_get list.nodes index ≡ None)
+
+-- a handle holds the first of some nodes, as many as the limits allow
+abbrev pub HoldsFirst : Option Nodes → Limits → List Located → Bool → Type 0
+HoldsFirst handle limits nodes all = MatchOption handle ⊥ (λ list. AreFirstNodes limits nodes list.nodes all)
 
 -- a value of which this holds stands in a document where a list's node at an index was
 abbrev pub HasValueAt : Nodes → ℕ → Document → (Data → Type 0) → Type 0

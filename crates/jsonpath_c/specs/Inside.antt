@@ -1,8 +1,6 @@
 -- What contracts of private functions and proofs cite alone.
-use Rattle.std.specs.Prelude.{◌≡◌, ◌<◌, ◌≤◌, ◌+◌, ◌++◌, ◌⊎◌, ℕ, List, [], ◌∷◌, length, map, string_bytes, false}
-use Rattle.serde_json_path_nodes.specs.Location.{Located}
-use Rattle.jsonpath_lines.specs.Output.{IsLineOfEach, compact_lines}
-use Rattle.jsonpath_owned_nodes.specs.Kept.{KeptNode, kept}
+use Rattle.std.specs.Prelude.{◌≡◌, ◌<◌, ◌≤◌, ◌+◌, ◌⊎◌, List, [], length, map, string_bytes, false}
+use Rattle.jsonpath_c.specs.Words.{Located, IsLineOfEach, compact_lines, KeptNode, kept}
 use Rattle.jsonpath_c.specs.Handles.{AreFirstLines, AreFirstNodes, all_name_bytes, name_bytes}
 use Rattle.jsonpath_c.specs.declared.bounded.BoundedLines.{BoundedLines}
 use Rattle.jsonpath_c.specs.declared.bounded_list.BoundedList.{BoundedList}

@@ -1,10 +1,9 @@
 //! What compiled paths select from documents that are read: lines, how many nodes, whether there is one.
 
-ghost use Rattle.std.specs.Prelude.{◌≡◌, ◌≢◌, ◌⊎◌, ◌↔◌, [], Err, IfOk, List, None, false, length};
-ghost use Rattle.serde_json_path_nodes.specs.Location.{Located};
-ghost use Rattle.jsonpath_c.specs.Handles.{AnswersLinesOf, BothHold, CallsByPatternFrom, SelectsFrom, form_of};
+ghost use Rattle.std.specs.Prelude.{◌≡◌, ◌≢◌, ◌⊎◌, ◌↔◌, [], Err, IfOk, List, false, length};
+ghost use Rattle.jsonpath_c.specs.Words.{Located};
+ghost use Rattle.jsonpath_c.specs.Handles.{AnswersLinesOf, AreLent, BothHold, CallsByPatternFrom, IsAsked, SelectThose, SelectsFrom, form_of};
 
-use crate::borrowed::Borrowed;
 use crate::bounded::first_lines;
 use crate::compiled::Compiled;
 use crate::counted::count_of;
@@ -15,6 +14,7 @@ use crate::output::put;
 use crate::status::{CUT_SHORT, DONE, EMPTY_HANDLE, NO_MEMORY, QUERY_REFUSED};
 use crate::walks::walk;
 use jsonpath_lines::Form;
+use nullable_box::{Handle, take_both};
 use serde_json_path::QueryError;
 use serde_json_path::functions::PatternStore;
 use std::alloc::Global;
@@ -83,18 +83,17 @@ pub extern "C" fn jsonpath_lines(
 ) -> u8
     ensures answers { result ≢ 7 → BothHold path.old.value document.old.value (λ c d.
         AnswersLinesOf (form_of form) limits.now c d out.old out.new size.old size.new result) }
-    ensures empty { (result ≡ 7) ↔ ((path.old.value ≡ None) ⊎ (document.old.value ≡ None)) }
-    ensures kept_path { path.new.value ≡ path.old.value }
-    ensures kept_document { document.new.value ≡ document.old.value }
+    ensures lent { AreLent path.old.value path.new.value document.old.value document.new.value
+        result }
     ensures kept_out { result ≡ 7 → out.new ≡ out.old }
     ensures kept_size { result ≡ 7 → size.new ≡ size.old }
 {
-    let Some(lent) = Borrowed::take(alloc, path, document) else {
+    let Some((asked, read)) = take_both(alloc, path, document) else {
         return EMPTY_HANDLE;
     };
-    let form = form_named(form);
-    let status = put_lines(alloc, form, limits, &lent.path, &lent.document, out, size);
-    lent.put_back(alloc, path, document);
+    let status = put_lines(alloc, form_named(form), limits, &asked, &read, out, size);
+    path.put(alloc, asked);
+    document.put(alloc, read);
     status
 }
 
@@ -119,20 +118,18 @@ pub extern "C" fn jsonpath_count(
     count: &mut usize,
 ) -> u8
     ensures statuses { (result ≡ 0) ⊎ (result ≡ 3) ⊎ (result ≡ 4) ⊎ (result ≡ 7) }
-    ensures done { result ≡ 0 → BothHold path.old.value document.old.value (λ c d.
-        (nodes : List Located) × SelectsFrom c d nodes × (count.new ≡ length nodes)) }
-    ensures pattern_refused { result ≡ 3
-        → BothHold path.old.value document.old.value CallsByPatternFrom }
-    ensures empty { (result ≡ 7) ↔ ((path.old.value ≡ None) ⊎ (document.old.value ≡ None)) }
-    ensures kept_path { path.new.value ≡ path.old.value }
-    ensures kept_document { document.new.value ≡ document.old.value }
+    ensures done { result ≡ 0 → SelectThose path.old.value document.old.value
+        (λ nodes. count.new ≡ length nodes) }
+    ensures asked { IsAsked path.old.value path.new.value document.old.value document.new.value
+        result }
     ensures kept_count { result ≢ 0 → count.new ≡ count.old }
 {
-    let Some(lent) = Borrowed::take(alloc, path, document) else {
+    let Some((asked, read)) = take_both(alloc, path, document) else {
         return EMPTY_HANDLE;
     };
-    let found = counted(alloc, &lent.path, &lent.document);
-    lent.put_back(alloc, path, document);
+    let found = counted(alloc, &asked, &read);
+    path.put(alloc, asked);
+    document.put(alloc, read);
     match found {
         Ok(found) => {
             *count = found;
@@ -163,21 +160,18 @@ pub extern "C" fn jsonpath_exists(
     exists: &mut u8,
 ) -> u8
     ensures statuses { (result ≡ 0) ⊎ (result ≡ 3) ⊎ (result ≡ 4) ⊎ (result ≡ 7) }
-    ensures done { result ≡ 0 → BothHold path.old.value document.old.value (λ c d.
-        (nodes : List Located) × SelectsFrom c d nodes
-        × (((exists.new ≡ 1) × (nodes ≢ [])) ⊎ ((exists.new ≡ 0) × (nodes ≡ [])))) }
-    ensures pattern_refused { result ≡ 3
-        → BothHold path.old.value document.old.value CallsByPatternFrom }
-    ensures empty { (result ≡ 7) ↔ ((path.old.value ≡ None) ⊎ (document.old.value ≡ None)) }
-    ensures kept_path { path.new.value ≡ path.old.value }
-    ensures kept_document { document.new.value ≡ document.old.value }
+    ensures done { result ≡ 0 → SelectThose path.old.value document.old.value
+        (λ nodes. ((exists.new ≡ 1) × (nodes ≢ [])) ⊎ ((exists.new ≡ 0) × (nodes ≡ []))) }
+    ensures asked { IsAsked path.old.value path.new.value document.old.value document.new.value
+        result }
     ensures kept_exists { result ≢ 0 → exists.new ≡ exists.old }
 {
-    let Some(lent) = Borrowed::take(alloc, path, document) else {
+    let Some((asked, read)) = take_both(alloc, path, document) else {
         return EMPTY_HANDLE;
     };
-    let found = selects_some(alloc, &lent.path, &lent.document);
-    lent.put_back(alloc, path, document);
+    let found = selects_some(alloc, &asked, &read);
+    path.put(alloc, asked);
+    document.put(alloc, read);
     match found {
         Ok(found) => {
             *exists = u8::from(found);

@@ -1,8 +1,7 @@
 //! Lines within limits.
 
 ghost use Rattle.std.specs.Prelude.{IfOk, string_bytes};
-ghost use Rattle.serde_json_path_core.specs.Selects.{OnlyMemoryOrPattern};
-ghost use Rattle.serde_json_path_core.specs.Walks.{document_of, query_of, rest, set_of};
+ghost use Rattle.jsonpath_c.specs.Words.{OnlyMemoryOrPattern, document_of, query_of, rest, set_of};
 ghost use Rattle.jsonpath_c.specs.Handles.{AreFirstLines};
 
 use crate::limits::Limits;

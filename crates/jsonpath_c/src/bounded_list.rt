@@ -1,9 +1,7 @@
 //! A list of nodes that is filled within limits.
 
 ghost use Rattle.std.specs.Prelude.{◌≡◌, ◌<◌, ◌+◌, ◌++◌, ◌∷◌, [], Ok, true, false};
-ghost use Rattle.std.specs.Option.{MatchOption};
-ghost use Rattle.serde_json_path_nodes.specs.Views.{located};
-ghost use Rattle.jsonpath_owned_nodes.specs.Kept.{kept};
+ghost use Rattle.jsonpath_c.specs.Words.{MatchOption, located, kept};
 ghost use Rattle.jsonpath_c.specs.Handles.{name_bytes};
 ghost use Rattle.jsonpath_c.specs.Inside.{HasNoRoomFor, IsLeftAfter};
 

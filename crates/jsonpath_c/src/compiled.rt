@@ -1,8 +1,7 @@
 //! A path that is compiled once.
 
 ghost use Rattle.std.specs.Prelude.{◌≡◌};
-ghost use Rattle.serde_json_path.specs.Fitting.{FitsBuiltin, FitsBuiltin-prop};
-ghost use Rattle.serde_json_path.specs.Paths.{path_signatures};
+ghost use Rattle.jsonpath_c.specs.Words.{FitsBuiltin, FitsBuiltin-prop, path_signatures};
 
 use serde_json_path::JsonPath;
 use serde_json_path::functions::Numbers;

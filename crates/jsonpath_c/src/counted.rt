@@ -1,8 +1,7 @@
 //! How many nodes a walk has left.
 
 ghost use Rattle.std.specs.Prelude.{◌≡◌, IfOk, length};
-ghost use Rattle.serde_json_path_core.specs.Selects.{OnlyMemoryOrPattern};
-ghost use Rattle.serde_json_path_core.specs.Walks.{document_of, query_of, rest, set_of};
+ghost use Rattle.jsonpath_c.specs.Words.{OnlyMemoryOrPattern, document_of, query_of, rest, set_of};
 
 use serde_json_path::functions::Functions;
 use serde_json_path::{LocatedNode, QueryError, Sink, Taken, Walk};

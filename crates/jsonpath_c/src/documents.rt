@@ -1,15 +1,12 @@
 //! Documents that are read once.
 
 ghost use Rattle.std.specs.Prelude.{◌≡◌, ◌≢◌, ◌≤◌, ◌⊎◌, ◌↔◌, ◌+◌, None, false, length, true};
-ghost use Rattle.std.specs.Option.{MatchOption};
-ghost use Rattle.std.specs.Str.{IsUtf8};
-ghost use Rattle.serde_json.specs.Data.{Data};
-ghost use Rattle.serde_json.specs.View.{view};
-ghost use Rattle.jsonpath_document.specs.Document.{ReadsAs, is_too_deep_at};
+ghost use Rattle.jsonpath_c.specs.Words.{MatchOption, IsUtf8, Data, view, ReadsAs, is_too_deep_at};
 
 use crate::handle::document::{Document, DocumentHandle};
 use crate::status::{DOCUMENT_REFUSED, DOCUMENT_TOO_DEEP, DONE, NO_MEMORY};
 use jsonpath_document::{DocumentFault, read_document};
+use nullable_box::Handle;
 use std::alloc::Global;
 
 /// The status of a fault.

@@ -12,7 +12,6 @@
 #![tactic(auto)]
 
 mod answers;
-mod borrowed;
 mod bounded;
 mod bounded_list;
 mod check;

@@ -1,17 +1,15 @@
 //! The texts of selected nodes: their locations, and what stands there in a document.
 
-ghost use Rattle.std.specs.Prelude.{◌≡◌, ◌⊎◌, ◌↔◌, ℕ, List, None, IfOk, slice_get, string_bytes, ⊤};
-ghost use Rattle.std.specs.Option.{MatchOption};
-ghost use Rattle.serde_json.specs.Data.{string};
-ghost use Rattle.serde_json_path_nodes.specs.Text.{normal, pointer};
-ghost use Rattle.jsonpath_owned_nodes.specs.Kept.{location_of};
-ghost use Rattle.jsonpath_lines.specs.Output.{IsJsonOf};
-ghost use Rattle.jsonpath_c.specs.Handles.{AnswersText, HasNode, StandsAt, HasValueAt, location_text};
+ghost use Rattle.std.specs.Prelude.{◌≡◌, ◌⊎◌, ℕ, List, None, IfOk, slice_get, string_bytes, ⊤};
+ghost use Rattle.jsonpath_c.specs.Words.{MatchOption, string, normal, pointer, location_of, IsJsonOf};
+ghost use Rattle.jsonpath_c.specs.Exports.{AnswersText};
+ghost use Rattle.jsonpath_c.specs.Handles.{AreLent, HasValueAt, IsLent, IsOfNode, IsPast, StandsAt, location_text};
 
 use crate::handle::document::{Document, DocumentHandle};
 use crate::handle::nodes::{Nodes, NodesHandle};
 use crate::output::put;
 use crate::status::{EMPTY_HANDLE, NO_MEMORY, NO_SUCH_NODE};
+use nullable_box::{Handle, take_both};
 use serde_json::Value;
 use serde_json_path::NormalizedPath;
 use std::alloc::{AllocError, Global};
@@ -64,31 +62,6 @@ fn put_location(
     }
 }
 
-/// Puts the location of a node of a handle.
-fn put_location_of(
-    alloc: Global,
-    nodes: &mut NodesHandle,
-    index: usize,
-    form: LocationForm,
-    out: &mut [u8],
-    size: &mut usize,
-) -> u8
-    ensures text { AnswersText (λ text. HasNode nodes.old.value index (λ node.
-        text ≡ location_text form (location_of node))) out.old out.new size.old size.new result }
-    ensures statuses { (result ≡ 0) ⊎ (result ≡ 4) ⊎ (result ≡ 5) ⊎ (result ≡ 7) ⊎ (result ≡ 10) }
-    ensures past { result ≡ 10 → MatchOption nodes.old.value ⊥ (λ list.
-        slice_get list.nodes index ≡ None) }
-    ensures empty { (result ≡ 7) ↔ (nodes.old.value ≡ None) }
-    ensures kept { nodes.new.value ≡ nodes.old.value }
-{
-    let Some(list) = nodes.take(alloc) else {
-        return EMPTY_HANDLE;
-    };
-    let status = put_location(alloc, &list, index, form, out, size);
-    nodes.put(alloc, list);
-    status
-}
-
 /// Puts the normalised path of the node at an index, from 0: 0; 4 without memory; 5 where it finds no room; 7 of an empty
 /// handle; 10 past the last node.
 #[unsafe(no_mangle)]
@@ -99,15 +72,18 @@ pub extern "C" fn jsonpath_node_location(
     out: &mut [u8],
     size: &mut usize,
 ) -> u8
-    ensures text { AnswersText (λ text. HasNode nodes.old.value index (λ node.
-        text ≡ normal (location_of node))) out.old out.new size.old size.new result }
+    ensures text { AnswersText (IsOfNode normal nodes.old.value index) out.old out.new size.old
+        size.new result }
     ensures statuses { (result ≡ 0) ⊎ (result ≡ 4) ⊎ (result ≡ 5) ⊎ (result ≡ 7) ⊎ (result ≡ 10) }
-    ensures past { result ≡ 10 → MatchOption nodes.old.value ⊥ (λ list.
-        slice_get list.nodes index ≡ None) }
-    ensures empty { (result ≡ 7) ↔ (nodes.old.value ≡ None) }
-    ensures kept { nodes.new.value ≡ nodes.old.value }
+    ensures past { result ≡ 10 → IsPast nodes.old.value index }
+    ensures lent { IsLent nodes.old.value nodes.new.value result }
 {
-    put_location_of(alloc, nodes, index, LocationForm::Path, out, size)
+    let Some(list) = nodes.take(alloc) else {
+        return EMPTY_HANDLE;
+    };
+    let status = put_location(alloc, &list, index, LocationForm::Path, out, size);
+    nodes.put(alloc, list);
+    status
 }
 
 /// The same with the JSON pointer of the node (RFC 6901).
@@ -119,15 +95,18 @@ pub extern "C" fn jsonpath_node_pointer(
     out: &mut [u8],
     size: &mut usize,
 ) -> u8
-    ensures text { AnswersText (λ text. HasNode nodes.old.value index (λ node.
-        text ≡ pointer (location_of node))) out.old out.new size.old size.new result }
+    ensures text { AnswersText (IsOfNode pointer nodes.old.value index) out.old out.new size.old
+        size.new result }
     ensures statuses { (result ≡ 0) ⊎ (result ≡ 4) ⊎ (result ≡ 5) ⊎ (result ≡ 7) ⊎ (result ≡ 10) }
-    ensures past { result ≡ 10 → MatchOption nodes.old.value ⊥ (λ list.
-        slice_get list.nodes index ≡ None) }
-    ensures empty { (result ≡ 7) ↔ (nodes.old.value ≡ None) }
-    ensures kept { nodes.new.value ≡ nodes.old.value }
+    ensures past { result ≡ 10 → IsPast nodes.old.value index }
+    ensures lent { IsLent nodes.old.value nodes.new.value result }
 {
-    put_location_of(alloc, nodes, index, LocationForm::Pointer, out, size)
+    let Some(list) = nodes.take(alloc) else {
+        return EMPTY_HANDLE;
+    };
+    let status = put_location(alloc, &list, index, LocationForm::Pointer, out, size);
+    nodes.put(alloc, list);
+    status
 }
 
 /// Puts the bytes of the string that stands in a document where the node at an index was, from 0: 0; 5 where they find no
@@ -146,15 +125,10 @@ pub extern "C" fn jsonpath_node_text(
     ensures statuses { (result ≡ 0) ⊎ (result ≡ 5) ⊎ (result ≡ 7) ⊎ (result ≡ 10) }
     ensures absent { result ≡ 10 → StandsAt nodes.old.value index document.old.value
         (λ v. (text : List ℕ) × (v ≡ string text)) → ⊥ }
-    ensures empty { (result ≡ 7) ↔ ((nodes.old.value ≡ None) ⊎ (document.old.value ≡ None)) }
-    ensures kept { nodes.new.value ≡ nodes.old.value }
-    ensures kept_document { document.new.value ≡ document.old.value }
+    ensures lent { AreLent nodes.old.value nodes.new.value document.old.value document.new.value
+        result }
 {
-    let Some(list) = nodes.take(alloc) else {
-        return EMPTY_HANDLE;
-    };
-    let Some(read) = document.take(alloc) else {
-        nodes.put(alloc, list);
+    let Some((list, read)) = take_both(alloc, nodes, document) else {
         return EMPTY_HANDLE;
     };
     let status = match list.nodes.value_in(index, &read.value) {
@@ -205,15 +179,10 @@ pub extern "C" fn jsonpath_node_json(
     ensures statuses { (result ≡ 0) ⊎ (result ≡ 4) ⊎ (result ≡ 5) ⊎ (result ≡ 7) ⊎ (result ≡ 10) }
     ensures absent { result ≡ 10 → StandsAt nodes.old.value index document.old.value
         (λ v. ⊤) → ⊥ }
-    ensures empty { (result ≡ 7) ↔ ((nodes.old.value ≡ None) ⊎ (document.old.value ≡ None)) }
-    ensures kept { nodes.new.value ≡ nodes.old.value }
-    ensures kept_document { document.new.value ≡ document.old.value }
+    ensures lent { AreLent nodes.old.value nodes.new.value document.old.value document.new.value
+        result }
 {
-    let Some(list) = nodes.take(alloc) else {
-        return EMPTY_HANDLE;
-    };
-    let Some(read) = document.take(alloc) else {
-        nodes.put(alloc, list);
+    let Some((list, read)) = take_both(alloc, nodes, document) else {
         return EMPTY_HANDLE;
     };
     let status = put_json(alloc, &list, &read, index, out, size);

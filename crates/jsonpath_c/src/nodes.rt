@@ -1,13 +1,10 @@
 //! Lists of selected nodes.
 
-ghost use Rattle.std.specs.Prelude.{◌≡◌, ◌≢◌, ◌⊎◌, ◌↔◌, List, None, Err, IfOk, length, slice_get, true, false};
-ghost use Rattle.std.specs.Option.{MatchOption};
-ghost use Rattle.serde_json_path_nodes.specs.Location.{Located};
-ghost use Rattle.jsonpath_owned_nodes.specs.Kept.{known_of};
-ghost use Rattle.jsonpath_c.specs.Handles.{AreFirstNodes, BothHold, CallsByPatternFrom, HasNode, SelectsFrom, asked_of, told_of};
+ghost use Rattle.std.specs.Prelude.{◌≡◌, ◌≢◌, ◌⊎◌, List, None, Err, IfOk, length, true, false};
+ghost use Rattle.jsonpath_c.specs.Words.{MatchOption, Located, known_of};
+ghost use Rattle.jsonpath_c.specs.Handles.{AreFirstNodes, CallsByPatternFrom, HasNode, HoldsFirst, IsAsked, IsLent, IsPast, SelectThose, SelectsFrom, asked_of, told_of};
 
 use crate::answers::query_status;
-use crate::borrowed::Borrowed;
 use crate::compiled::Compiled;
 use crate::handle::document::{Document, DocumentHandle};
 use crate::handle::nodes::{Nodes, NodesHandle};
@@ -18,6 +15,7 @@ use crate::output::put;
 use crate::selected::{FirstNodes, first_nodes, first_unique_nodes};
 use crate::status::{CUT_SHORT, DONE, EMPTY_HANDLE, NO_MEMORY, NO_SUCH_NODE};
 use crate::walks::walk;
+use nullable_box::{Handle, take_both};
 use serde_json_path::QueryError;
 use serde_json_path::functions::PatternStore;
 use std::alloc::Global;
@@ -57,24 +55,20 @@ pub extern "C" fn jsonpath_select(
     nodes: &mut NodesHandle,
 ) -> u8
     ensures statuses { (result ≡ 0) ⊎ (result ≡ 3) ⊎ (result ≡ 4) ⊎ (result ≡ 7) ⊎ (result ≡ 8) }
-    ensures done { result ≡ 0 → BothHold path.old.value document.old.value (λ c d.
-        MatchOption nodes.new.value ⊥ (λ list. (found : List Located) × SelectsFrom c d found
-        × AreFirstNodes limits.now (asked_of unique found) list.nodes true)) }
-    ensures cut { result ≡ 8 → BothHold path.old.value document.old.value (λ c d.
-        MatchOption nodes.new.value ⊥ (λ list. (found : List Located) × SelectsFrom c d found
-        × AreFirstNodes limits.now (asked_of unique found) list.nodes false)) }
-    ensures pattern_refused { result ≡ 3
-        → BothHold path.old.value document.old.value CallsByPatternFrom }
-    ensures empty { (result ≡ 7) ↔ ((path.old.value ≡ None) ⊎ (document.old.value ≡ None)) }
-    ensures kept_path { path.new.value ≡ path.old.value }
-    ensures kept_document { document.new.value ≡ document.old.value }
+    ensures done { result ≡ 0 → SelectThose path.old.value document.old.value
+        (λ found. HoldsFirst nodes.new.value limits.now (asked_of unique found) true) }
+    ensures cut { result ≡ 8 → SelectThose path.old.value document.old.value
+        (λ found. HoldsFirst nodes.new.value limits.now (asked_of unique found) false) }
+    ensures asked { IsAsked path.old.value path.new.value document.old.value document.new.value
+        result }
     ensures kept { result ≢ 0 → result ≢ 8 → nodes.new.value ≡ nodes.old.value }
 {
-    let Some(lent) = Borrowed::take(alloc, path, document) else {
+    let Some((asked, read)) = take_both(alloc, path, document) else {
         return EMPTY_HANDLE;
     };
-    let found = selected(alloc, &lent.path, &lent.document, unique, limits);
-    lent.put_back(alloc, path, document);
+    let found = selected(alloc, &asked, &read, unique, limits);
+    path.put(alloc, asked);
+    document.put(alloc, read);
     let first = match found {
         Ok(first) => first,
         Err(e) => return query_status(e),
@@ -107,8 +101,7 @@ pub extern "C" fn jsonpath_nodes_length(
     ensures statuses { (result ≡ 0) ⊎ (result ≡ 7) }
     ensures done { result ≡ 0 → MatchOption nodes.old.value ⊥ (λ list.
         size.new ≡ length list.nodes) }
-    ensures empty { (result ≡ 7) ↔ (nodes.old.value ≡ None) }
-    ensures kept { nodes.new.value ≡ nodes.old.value }
+    ensures lent { IsLent nodes.old.value nodes.new.value result }
     ensures kept_size { result ≢ 0 → size.new ≡ size.old }
 {
     let Some(list) = nodes.take(alloc) else {
@@ -130,10 +123,8 @@ pub extern "C" fn jsonpath_node(
     ensures statuses { (result ≡ 0) ⊎ (result ≡ 7) ⊎ (result ≡ 10) }
     ensures done { result ≡ 0 → HasNode nodes.old.value index
         (λ known. node.new ≡ told_of (known_of known)) }
-    ensures past { result ≡ 10 → MatchOption nodes.old.value ⊥ (λ list.
-        slice_get list.nodes index ≡ None) }
-    ensures empty { (result ≡ 7) ↔ (nodes.old.value ≡ None) }
-    ensures kept { nodes.new.value ≡ nodes.old.value }
+    ensures past { result ≡ 10 → IsPast nodes.old.value index }
+    ensures lent { IsLent nodes.old.value nodes.new.value result }
     ensures kept_node { result ≢ 0 → node.new ≡ node.old }
 {
     let Some(list) = nodes.take(alloc) else {

@@ -1,19 +1,16 @@
 //! Paths that are compiled once.
 
-ghost use Rattle.std.specs.Prelude.{◌≡◌, ◌≢◌, ◌⊎◌, ◌↔◌, None};
-ghost use Rattle.std.specs.Option.{MatchOption};
-ghost use Rattle.std.specs.Str.{IsUtf8};
-ghost use Rattle.serde_json_path.specs.Paths.{path_tree};
-ghost use Rattle.serde_json_path_functions.specs.Terms.{numbers_view};
-ghost use Rattle.serde_json_path_syntax.specs.Text.{query_text};
-ghost use Rattle.jsonpath_c.specs.Exports.{IsRefusalOf, IsReportedRefusalOf};
-ghost use Rattle.jsonpath_c.specs.Handles.{AnswersText, BothHold, HoldsPathOf, rule_of};
+ghost use Rattle.std.specs.Prelude.{◌≡◌, ◌≢◌, ◌⊎◌, None};
+ghost use Rattle.jsonpath_c.specs.Words.{MatchOption, path_tree, numbers_view, query_text};
+ghost use Rattle.jsonpath_c.specs.Exports.{AnswersPath, AnswersText};
+ghost use Rattle.jsonpath_c.specs.Handles.{AreLent, BothHold, HoldsPathOf, IsLent, rule_of};
 
 use crate::compiled::Compiled;
 use crate::handle::path::PathHandle;
 use crate::output::put;
 use crate::refusal::{Refusal, put_refusal};
 use crate::status::{DONE, EMPTY_HANDLE, NO_MEMORY, NOT_UTF8};
+use nullable_box::{Handle, take_both};
 use serde_json_path::JsonPath;
 use serde_json_path::functions::Numbers;
 use std::alloc::Global;
@@ -38,13 +35,9 @@ pub extern "C" fn jsonpath_path_new(
     path: &mut PathHandle,
     refusal: &mut Refusal,
 ) -> u8
-    ensures statuses { (result ≡ 0) ⊎ (result ≡ 1) ⊎ (result ≡ 4) ⊎ (result ≡ 6) }
-    ensures done { result ≡ 0 → HoldsPathOf text.now numbers path.new.value }
-    ensures refused { result ≡ 1 → IsRefusalOf text.now refusal.new }
-    ensures reported { result ≡ 1 → IsReportedRefusalOf text.now refusal.new }
-    ensures not_utf8 { (result ≡ 6) ↔ (IsUtf8 text.now → ⊥) }
+    ensures path { AnswersPath (HoldsPathOf text.now numbers path.new.value) text.now refusal.old
+        refusal.new result }
     ensures kept { result ≢ 0 → path.new.value ≡ path.old.value }
-    ensures kept_refusal { result ≢ 1 → refusal.new ≡ refusal.old }
 {
     let Ok(text) = str::from_utf8(text) else {
         return NOT_UTF8;
@@ -78,11 +71,10 @@ pub extern "C" fn jsonpath_path_text(
     out: &mut [u8],
     size: &mut usize,
 ) -> u8
-    ensures statuses { (result ≡ 0) ⊎ (result ≡ 4) ⊎ (result ≡ 5) ⊎ (result ≡ 7) }
     ensures text { AnswersText (λ text. MatchOption path.old.value ⊥ (λ c.
         text ≡ query_text (path_tree c.path))) out.old out.new size.old size.new result }
-    ensures empty { (result ≡ 7) ↔ (path.old.value ≡ None) }
-    ensures kept { path.new.value ≡ path.old.value }
+    ensures statuses { (result ≡ 0) ⊎ (result ≡ 4) ⊎ (result ≡ 5) ⊎ (result ≡ 7) }
+    ensures lent { IsLent path.old.value path.new.value result }
 {
     let Some(compiled) = path.take(alloc) else {
         return EMPTY_HANDLE;
@@ -107,16 +99,10 @@ pub extern "C" fn jsonpath_path_equals(
     ensures done { result ≡ 0 → BothHold path.old.value other.old.value (λ c d.
         ((equal.new ≡ 1) × (path_tree c.path ≡ path_tree d.path))
         ⊎ ((equal.new ≡ 0) × (path_tree c.path ≢ path_tree d.path))) }
-    ensures empty { (result ≡ 7) ↔ ((path.old.value ≡ None) ⊎ (other.old.value ≡ None)) }
-    ensures kept { path.new.value ≡ path.old.value }
-    ensures kept_other { other.new.value ≡ other.old.value }
+    ensures lent { AreLent path.old.value path.new.value other.old.value other.new.value result }
     ensures kept_equal { result ≢ 0 → equal.new ≡ equal.old }
 {
-    let Some(compiled) = path.take(alloc) else {
-        return EMPTY_HANDLE;
-    };
-    let Some(against) = other.take(alloc) else {
-        path.put(alloc, compiled);
+    let Some((compiled, against)) = take_both(alloc, path, other) else {
         return EMPTY_HANDLE;
     };
     *equal = u8::from(compiled.path == against.path);

@@ -1,8 +1,7 @@
 //! Why a path is refused, as C sees it.
 
 ghost use Rattle.std.specs.Prelude.{◌≡◌, ◌≢◌};
-ghost use Rattle.serde_json_path_parser.specs.Errors.{kind_of, position_of};
-ghost use Rattle.serde_json_path_parser.specs.declared.error.ParseErrorKind.TheVariants.{NoMemory};
+ghost use Rattle.jsonpath_c.specs.Words.{kind_of, position_of, NoMemory};
 ghost use Rattle.jsonpath_c.specs.Exports.{number_of};
 
 use crate::status::{NO_MEMORY, PATH_REFUSED};

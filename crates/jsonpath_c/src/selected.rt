@@ -1,10 +1,7 @@
 //! Lists of nodes within limits.
 
 ghost use Rattle.std.specs.Prelude.{IfOk, map};
-ghost use Rattle.serde_json_path_nodes.specs.Views.{located};
-ghost use Rattle.serde_json_path_core.specs.Selects.{OnlyMemoryOrPattern};
-ghost use Rattle.serde_json_path_core.specs.Walks.{document_of, query_of, rest, set_of};
-ghost use Rattle.serde_json_path_nodes.specs.Lists.{first_places};
+ghost use Rattle.jsonpath_c.specs.Words.{located, OnlyMemoryOrPattern, document_of, query_of, rest, set_of, first_places};
 ghost use Rattle.jsonpath_c.specs.Handles.{AreFirstNodes};
 
 use crate::bounded_list::BoundedList;

@@ -1,10 +1,7 @@
 //! Walks over what compiled paths select.
 
 ghost use Rattle.std.specs.Prelude.{◌≡◌, IfErr, IfOk};
-ghost use Rattle.serde_json.specs.View.{view};
-ghost use Rattle.serde_json_path_core.specs.Walks.{document_of, query_of, rest, set_of};
-ghost use Rattle.serde_json_path_functions.specs.declared.error.QueryError.TheVariants.{Memory};
-ghost use Rattle.serde_json_path.specs.Paths.{path_tree};
+ghost use Rattle.jsonpath_c.specs.Words.{view, document_of, query_of, rest, set_of, Memory, path_tree};
 ghost use Rattle.jsonpath_c.specs.Handles.{SelectsFrom, functions_of};
 
 use crate::compiled::Compiled;

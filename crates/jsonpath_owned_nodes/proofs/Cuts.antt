@@ -1,8 +1,6 @@
 -- Lists that stand one after the other, each up to its end.
-use Rattle.std.proofs.Common.{◌≡◌, ℕ, zero, suc, ◌-◌, ◌≤◌, ◌<◌, List, [], ◌∷◌, ◌++◌, length, take, drop, get_or, Some, refl, sym, ap, ◌∙◌, arith, subst, length-drop}
-use Rattle.std.specs.Prelude.{slice_range, slice_get}
-use Rattle.std.proofs.lemmas.List.{take-append-le, drop-append-le, get_or_read, take_all, length-take-le, take-append-drop}
-use Rattle.jsonpath_owned_nodes.specs.Inside.Cut.{cut, last_end, AreEnds}
+use Rattle.std.proofs.Common.{◌≡◌, ℕ, zero, suc, ◌-◌, ◌≤◌, ◌<◌, List, [], ◌∷◌, ◌++◌, length, take, drop, get_or, Some, refl, sym, ap, ◌∙◌, arith, subst, length-drop, slice_range, slice_get}
+use Rattle.jsonpath_owned_nodes.proofs.Words.{take-append-le, drop-append-le, get_or_read, take_all, length-take-le, take-append-drop, cut, last_end, AreEnds}
 
 -- there are as many lists as ends
 pub length-cut : {T : Type 0} (start : ℕ) (ends : List ℕ) (items : List T) → length (cut start ends items) ≡ length ends

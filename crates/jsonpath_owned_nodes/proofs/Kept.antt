@@ -1,16 +1,6 @@
 -- What a list keeps of its nodes, read from its parts.
-use Rattle.std.proofs.Common.{◌≡◌, ℕ, suc, ◌+◌, ◌<◌, List, [], ◌∷◌, ◌++◌, length, map, drop, get_or, Option, Some, None, option_map, refl, sym, ap, ◌∙◌, arith}
-use Rattle.std.specs.Prelude.{slice_get, option_and_then}
-use Rattle.std.proofs.lemmas.List.{map-append, append_assoc, drop_more, length_push}
-use Rattle.std.proofs.lemmas.List.Elements.{All-head, All-tail, All-push, All-weaker}
-use Rattle.std.proofs.lemmas.Option.{slice_get-map}
-use Rattle.std.specs.List.{All}
-use Rattle.serde_json.specs.Data.{Data}
-use Rattle.serde_json_path_nodes.specs.Location.{Step, child_at, at}
-use Rattle.jsonpath_owned_nodes.specs.Kept.{KeptNode, location_of, known_of}
-use Rattle.jsonpath_owned_nodes.specs.Inside.Stored.{step_in, IsStored, IsLocation, nodes_in, AreParts}
-use Rattle.jsonpath_owned_nodes.specs.declared.node_info.NodeInfo.{NodeInfo}
-use Rattle.jsonpath_owned_nodes.specs.declared.stored_step.StoredStep.{StoredStep}
+use Rattle.std.proofs.Common.{◌≡◌, ℕ, suc, ◌+◌, ◌<◌, List, [], ◌∷◌, ◌++◌, length, map, drop, get_or, Option, Some, None, option_map, refl, sym, ap, ◌∙◌, arith, slice_get, option_and_then}
+use Rattle.jsonpath_owned_nodes.proofs.Words.{map-append, append_assoc, drop_more, length_push, All-head, All-tail, All-push, All-weaker, slice_get-map, All, Data, Step, child_at, at, KeptNode, location_of, known_of, step_in, IsStored, IsLocation, nodes_in, AreParts, NodeInfo, StoredStep}
 use Rattle.jsonpath_owned_nodes.proofs.Names.{Grew, steps_kept, all_kept}
 
 -- finding by a part is finding the part and going on from it

@@ -1,15 +1,6 @@
 -- Names in a text that all of them share, and that grows.
 use Rattle.std.proofs.Common.{◌≡◌, ℕ, String, string_bytes, ◌<◌, ◌≤◌, List, [], ◌∷◌, ◌++◌, length, take, get_or, map, refl, sym, ap, subst, ◌∙◌, arith, length-append, ⊎_elim}
-use Rattle.std.proofs.lemmas.Bool.{cases_lt}
-use Rattle.std.proofs.lemmas.List.{take_at, get_or_append_left, append_assoc}
-use Rattle.std.proofs.lemmas.List.Elements.{All-head, All-tail, All-weaker}
-use Rattle.std.proofs.lemmas.Str.{IsCharBoundary-end, IsCharBoundary-from_take, IsUtf8-string_bytes}
-use Rattle.std.specs.List.{All}
-use Rattle.std.specs.Str.{IsUtf8, IsCharBoundary}
-use Rattle.serde_json_path_nodes.specs.Location.{by_name}
-use Rattle.jsonpath_owned_nodes.specs.Inside.Stored.{step_in, IsStored, BeginsWith}
-use Rattle.jsonpath_owned_nodes.specs.declared.stored_step.StoredStep.{StoredStep}
-use Rattle.jsonpath_owned_nodes.specs.declared.stored_step.StoredStep.TheVariants.{Name, Index}
+use Rattle.jsonpath_owned_nodes.proofs.Words.{cases_lt, take_at, get_or_append_left, append_assoc, All-head, All-tail, All-weaker, IsCharBoundary-end, IsCharBoundary-from_take, IsUtf8-string_bytes, All, IsUtf8, IsCharBoundary, by_name, step_in, IsStored, BeginsWith, StoredStep, Name, Index}
 use Rattle.jsonpath_owned_nodes.proofs.Cuts.{slice_range-more}
 
 -- a text that went on after another

@@ -1,22 +1,6 @@
 -- What the pointer of a nullable box owns is nothing or a box's. Assumes `Logic`.
-use Rattle.std.proofs.Common.{◌≡◌, ℕ, List, ◌∷◌, refl}
-use seplogic.Ra.Ura.{Ura}
-use base.Fml.{ftrue, ffalse}
-use base.Logic.{ent, guard, guard_i, via, snd∗, never_e}
-use types.Logic.{Logic, sem}
-use types.Kit.{Item, Goal, Seq, given, ‵, ◌$◌, drop, use1, learn}
-use contract.Monad.{fact_use}
-use denote.Memory.{lone}
-use denote.RattleType.{RattleType}
-use denote.RawPtr.{Ptr, block_ptr, null_ptr, Testable}
-use mir.Raw.{raw as bare}
-use Rattle.std.specs.Prelude.{Option, None, Some}
-use Rattle.std.specs.Box.Ownership.{box_owns}
-use Rattle.std.specs.Ptr.{points_to}
-use Rattle.std.specs.contracts.impls.GlobalAllocator.TheImpl.{ghosts}
-use Rattle.std.specs.declared.alloc.Global.{Global}
-use Rattle.std.proofs.GlobalToken.{dealloc_token-Testable}
-use Rattle.nullable_box.specs.Held.{held}
+use Rattle.std.proofs.Common.{◌≡◌, ℕ, List, ◌∷◌, refl, Option, None, Some}
+use Rattle.nullable_box.proofs.Words.{Ura, ftrue, ffalse, ent, guard, guard_i, via, snd∗, never_e, Logic, sem, Item, Goal, Seq, given, ‵, ◌$◌, drop, use1, learn, fact_use, lone, RattleType, Ptr, block_ptr, null_ptr, Testable, box_owns, points_to, ghosts, Global, dealloc_token-Testable, held, bare}
 
 module _ (R : RattleType) {M : Type 1} {𝓤 : Ura M} where
   -- a box's pointer may be compared with null

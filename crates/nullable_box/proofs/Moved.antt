@@ -1,32 +1,6 @@
 -- A function that moves what one pointer owns from a struct into another is proved once, for all structs. Assumes `Logic`.
-use Rattle.std.proofs.Common.{◌≡◌, List, [], ◌∷◌, ◌++◌, refl, sym, subst, lit<}
-use lib.Dec.{T}
-use mathlib.Core.Bool.{true, ◌&&◌}
-use seplogic.Ra.Ura.{Ura}
-use mir.Syntax.{Sym, Fn, Callee, Ty, copy, place, field, local, value_local, assign, rv_opd, aggregate, seq, return, ty_ptr, ty_struct, tcons, tnil}
-use mir.Val.{Val, has_ty, WT}
-use base.Logic.{SProp, emp, ent, id⊢}
-use base.Fml.{Fml, ftrue, fsep}
-use prog.Model.{Model}
-use prog.Wp.{WpFn, Closed}
-use types.Logic.{Logic}
-use types.Kit.{‵, raw, ◌⊛◌, ◌$◌, ◌∵◌, !, qed, by, keep, drop, split, fsplit, fjoin, rewrite, suffices, use0}
-use types.Run.{stop, fld, of_opd, no_more, and_then, returns, enter}
-use types.ByLocal.{alloc_all, pass_all, free_all, look_at, get, get_in, sets}
-use types.Part.{agg, sub, whole}
-use contract.Monad.{fact, fact_i}
-use contract.Running.{Running, MachineTables, tables}
-use denote.Exit.{yes, Last, left, rest}
-use denote.RattleType.{RattleType, owns}
-use denote.RawPtr.{Ptr, block_ptr, null_ptr, ptr_val}
-use denote.Signature.{Signature, types_at, plain}
-use denote.Steps.{nothing}
-use denote.Triple.Clauses.{Ended, Clauses, closing}
-use denote.Triple.Spec.{Meets}
-use denote.Triple.Walked.{Stays, stay_dropped, walk_of, Goes-dropped}
-use Rattle.std.proofs.raw_atomic.Walks.{proved_at, leaves}
-use Rattle.std.specs.Prelude.{Option}
-use Rattle.nullable_box.specs.Held.{held}
+use Rattle.std.proofs.Common.{◌≡◌, List, [], ◌∷◌, ◌++◌, refl, sym, subst, lit<, Option}
+use Rattle.nullable_box.proofs.Words.{T, true, ◌&&◌, Ura, Sym, Fn, Callee, Ty, copy, place, field, local, value_local, assign, rv_opd, aggregate, seq, return, ty_ptr, ty_struct, tcons, tnil, Val, has_ty, WT, SProp, emp, ent, id⊢, Fml, ftrue, fsep, Model, WpFn, Closed, Logic, ‵, raw, ◌⊛◌, ◌$◌, ◌∵◌, !, qed, by, keep, drop, split, fsplit, fjoin, rewrite, suffices, use0, stop, fld, of_opd, no_more, and_then, returns, enter, alloc_all, pass_all, free_all, look_at, get, get_in, sets, agg, sub, whole, fact, fact_i, Running, MachineTables, tables, yes, Last, left, rest, RattleType, owns, Ptr, block_ptr, null_ptr, ptr_val, Signature, types_at, plain, nothing, Ended, Clauses, closing, Meets, Stays, stay_dropped, walk_of, Goes-dropped, proved_at, leaves, held}
 use Rattle.nullable_box.specs.contracts.nullable_box.NullableBox as nullable
 use Rattle.nullable_box.proofs.Owners.{single, OnePtr, owner_in, owner_out}
 

@@ -1,28 +1,6 @@
 -- Structs that own memory by a pointer: their machine values, and how they are made and taken apart. Assumes `Logic`.
 use Rattle.std.proofs.Common.{◌≡◌, ℕ, List, [], ◌∷◌, ◌++◌, refl, subst}
-use lib.Dec.{T}
-use mathlib.Core.Bool.{true, ◌&&◌}
-use seplogic.Ra.Ura.{Ura}
-use mir.Syntax.{impl, tnil, dnil}
-use mir.Raw.{raw as bare}
-use mir.Val.{Val, vptr, vstruct, vcons, vnil, of_list, has_ty, WT}
-use base.Fml.{Fml, fsep}
-use base.Logic.{never, fst∗}
-use types.Logic.{Logic, sem}
-use types.Kit.{Item, Goal, Seq, Step, step, ‵, ◌$◌, move, drop, fsplit, fjoin, fpick, fpack, feq_i, feq_l}
-use denote.RattleType.{RattleType, Valss}
-use denote.Memory.{lone}
-use denote.RawPtr.{Ptr, RawPtr, block_ptr, null_ptr, ptr_val, in_a_block}
-use denote.Steps.{nothing}
-use denote.Param.{layout}
-use denote.Param.Laws.{Laws}
-use denote.Struct.Struct.{Struct, within}
-use denote.Struct.Owning.{shape}
-use Rattle.core.specs.declared.alloc.Allocator.{Ghosts}
-use Rattle.core.proofs.alloc.Calls.{Al, handle_tells}
-use Rattle.core.proofs.cell.Inside.{Good}
-use Rattle.std.specs.Box.Ownership.{box_owns}
-use Rattle.std_alloc.proofs.ResultValues.{and_tt}
+use Rattle.nullable_box.proofs.Words.{T, true, ◌&&◌, Ura, impl, tnil, dnil, Val, vptr, vstruct, vcons, vnil, of_list, has_ty, WT, Fml, fsep, never, fst∗, Logic, sem, Item, Goal, Seq, Step, step, ‵, ◌$◌, move, drop, fsplit, fjoin, fpick, fpack, feq_i, feq_l, RattleType, Valss, lone, Ptr, RawPtr, block_ptr, null_ptr, ptr_val, in_a_block, nothing, layout, Laws, Struct, within, shape, Ghosts, Al, handle_tells, Good, box_owns, and_tt, bare}
 use Rattle.nullable_box.specs.contracts.LooseBox as loose
 
 -- the machine values of structs of one field and of two

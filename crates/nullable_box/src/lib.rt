@@ -1,14 +1,17 @@
 //! A box as its pointer, also where there may be none: what a handle for C needs.
 //!
 //! A program in C holds a value of Rattle by a pointer, which is null where it holds none. `LooseBox` takes a box apart and
-//! makes it again, and `NullableBox` has a box or nothing as one pointer.
+//! makes it again, and `NullableBox` has a box or nothing as one pointer. A struct that C knows is a `Handle`, out of which a
+//! box is taken and into which it is put back.
 #![tactic(auto)]
 
+mod handle;
 mod nullable_box;
 
 ghost use Rattle.std.specs.Prelude.{◌≡◌};
 ghost use Rattle.std.specs.Box.Ownership.{box_owns};
 
+pub use handle::{Handle, take_both};
 pub use nullable_box::NullableBox;
 use std::alloc::Allocator;
 use std::marker::Model;

@@ -1,17 +1,13 @@
 //! A path that C holds.
 
-ghost use Rattle.std.specs.Prelude.{◌≡◌, Option, Some, None};
-ghost use Rattle.std.specs.Coded.{coded_option};
-ghost use Rattle.std.specs.Option.{MatchOption};
-ghost use Rattle.nullable_box.specs.Held.{held};
+ghost use Rattle.std.specs.Prelude.{◌≡◌, Option};
+ghost use Rattle.jsonpath_c.specs.Words.{coded_option, held};
 ghost use Rattle.jsonpath_c.specs.contracts.compiled.Compiled.{the_row};
 ghost use Rattle.jsonpath_c.specs.declared.compiled.Compiled.{Compiled};
 
 use crate::compiled::Compiled;
-use nullable_box::NullableBox;
-use std::alloc::Global;
+use nullable_box::{Handle, NullableBox};
 use std::marker::Model;
-use std::mem::replace;
 
 /// A path that C holds by a pointer, or nothing, where the pointer is null.
 #[repr(C)]
@@ -25,8 +21,11 @@ impl Model for PathHandle {
     ghost also_owns = { λ handle. held the_row handle.at handle.value };
 }
 
-impl PathHandle {
-    /// The handle of a box, or of nothing.
+impl Handle for PathHandle {
+    type Held = Compiled;
+
+    ghost holds = { λ handle. handle.value };
+
     fn of(value: NullableBox<Compiled>) -> PathHandle
         ensures { result.value ≡ value.value }
     {
@@ -34,7 +33,6 @@ impl PathHandle {
         PathHandle { at: at as *mut u8 }
     }
 
-    /// What the handle holds.
     fn into_nullable(self) -> NullableBox<Compiled>
         ensures { result.value ≡ self.value }
     {
@@ -42,23 +40,5 @@ impl PathHandle {
         NullableBox {
             at: at as *mut Compiled,
         }
-    }
-
-    /// Takes what the handle holds, and leaves nothing there.
-    pub(crate) fn take(&mut self, alloc: Global) -> Option<Box<Compiled>>
-        ensures emptied { self.new.value ≡ None }
-        ensures taken { MatchOption result (self.old.value ≡ None)
-            (λ b. self.old.value ≡ Some b.value) }
-    {
-        let empty = PathHandle::of(NullableBox::none());
-        replace(self, empty).into_nullable().into_box(alloc)
-    }
-
-    /// Holds what is in a box, in place of what was held, which is freed.
-    pub(crate) fn put(&mut self, alloc: Global, path: Box<Compiled>)
-        ensures { self.new.value ≡ Some path.value }
-    {
-        let full = PathHandle::of(NullableBox::of(path));
-        drop(replace(self, full).into_nullable().into_box(alloc));
     }
 }

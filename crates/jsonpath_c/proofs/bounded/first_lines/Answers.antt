@@ -1,4 +1,4 @@
-use Rattle.serde_json_path_core.specs.Walks.{rest}
+use Rattle.jsonpath_c.proofs.Words.{rest}
 use Rattle.jsonpath_c.proofs.Firsts.{lines_fed}
 use Rattle.jsonpath_c.proofs.bounded.first_lines.Goals as goal
 

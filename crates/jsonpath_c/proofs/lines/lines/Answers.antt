@@ -1,12 +1,5 @@
 use Rattle.std.proofs.Common.{◌≡◌, ◌⊎◌, ℕ, Err, rules, sym, ◌∙◌}
-use Rattle.std.specs.Str.{IsUtf8}
-use Rattle.serde_json_path_functions.specs.Patterns.{builtin_functions}
-use Rattle.serde_json_path_functions.specs.declared.error.QueryError.TheVariants.{Pattern}
-use Rattle.jsonpath_program.specs.Report.{CallsByPatternOn, IsNoPath, IsReportIn}
-use Rattle.jsonpath_program.specs.declared.report.DocumentError.TheVariants.{NotJson}
-use Rattle.jsonpath_program.specs.declared.report.ReportError.TheVariants.{Path, Document, Query}
-use Rattle.jsonpath_c.specs.Exports.{IsReportedWith}
-use Rattle.serde_json_path_functions.proofs.Sets.{before_itself}
+use Rattle.jsonpath_c.proofs.Words.{IsUtf8, builtin_functions, Pattern, CallsByPatternOn, IsNoPath, IsReportIn, NotJson, Path, Document, Query, IsReportedWith, before_itself}
 use Rattle.jsonpath_c.proofs.lines.lines.Goals as goal
 
 pub returns-in-Ok-report_in : goal.returns-in-Ok-report_in

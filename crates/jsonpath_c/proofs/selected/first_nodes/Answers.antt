@@ -1,4 +1,4 @@
-use Rattle.serde_json_path_core.specs.Walks.{rest}
+use Rattle.jsonpath_c.proofs.Words.{rest}
 use Rattle.jsonpath_c.proofs.Firsts.{nodes_fed}
 use Rattle.jsonpath_c.proofs.selected.first_nodes.Goals as goal
 

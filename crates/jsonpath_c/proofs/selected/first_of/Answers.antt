@@ -1,8 +1,5 @@
 use Rattle.std.proofs.Common.{◌≡◌, ◌+◌, ◌∙◌, ◌∷◌, ◌++◌, List, Ok, false, map, take, drop, sym, ap, subst, arith, rules}
-use Rattle.std.proofs.lemmas.List.{drop_more, map-append, take-append-drop}
-use Rattle.serde_json_path_nodes.specs.Views.{located}
-use Rattle.jsonpath_owned_nodes.specs.Kept.{KeptNode}
-use Rattle.jsonpath_c.specs.Handles.{AreFirstNodes}
+use Rattle.jsonpath_c.proofs.Words.{drop_more, map-append, take-append-drop, located, KeptNode, AreFirstNodes}
 use Rattle.jsonpath_c.proofs.Firsts.{cut_within}
 use Rattle.jsonpath_c.proofs.selected.first_of.Goals as goal
 

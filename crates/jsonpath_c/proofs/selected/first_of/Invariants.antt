@@ -1,6 +1,5 @@
 use Rattle.std.proofs.Common.{map, take}
-use Rattle.serde_json_path_nodes.specs.Views.{located}
-use Rattle.jsonpath_c.specs.Inside.{AreWithin}
+use Rattle.jsonpath_c.proofs.Words.{located, AreWithin}
 use Rattle.jsonpath_c.proofs.selected.first_of.Given as goal
 
 abbrev pub invariant-loop-node : goal.invariant-loop-node

@@ -1,7 +1,5 @@
 use Rattle.std.proofs.Common.{map}
-use Rattle.serde_json_path_nodes.specs.Lists.{first_places}
-use Rattle.serde_json_path_nodes.specs.Views.{located}
-use Rattle.serde_json_path_core.specs.Walks.{rest}
+use Rattle.jsonpath_c.proofs.Words.{first_places, located, rest}
 use Rattle.jsonpath_c.proofs.Firsts.{first_of_enough}
 use Rattle.jsonpath_c.proofs.selected.first_unique_nodes.Goals as goal
 

@@ -1,5 +1,5 @@
 use Rattle.std.proofs.Common.{◌≡◌, string_bytes}
-use Rattle.jsonpath_owned_nodes.specs.Inside.Stored.{BeginsWith}
+use Rattle.jsonpath_owned_nodes.proofs.Words.{BeginsWith}
 use Rattle.jsonpath_owned_nodes.proofs.Kept.{IsBegun}
 use Rattle.jsonpath_owned_nodes.proofs.stored_location.push_steps.Given as goal
 

@@ -1,6 +1,5 @@
-use Rattle.std.proofs.Common.{◌≡◌, ◌+◌, ◌≤◌, ◌∙◌, [], ◌++◌, length, string_bytes, ap, arith, refl, rules}
-use Rattle.serde_json_path_nodes.specs.Views.{located}
-use Rattle.jsonpath_lines.specs.Output.{IsLine, compact_lines}
+use Rattle.std.proofs.Common.{◌≡◌, ◌+◌, ◌≤◌, ◌∙◌, [], ◌++◌, length, string_bytes, ap, arith, refl}
+use Rattle.jsonpath_c.proofs.Words.{located, IsLine, compact_lines}
 use Rattle.jsonpath_c.proofs.Firsts.{line_taken}
 use Rattle.jsonpath_c.proofs.bounded.BoundedLinesSink.take.Goals as goal
 

@@ -1,7 +1,5 @@
 use Rattle.std.proofs.Common.{◌≡◌, ◌∙◌, sym, ap, length, rules}
-use Rattle.serde_json.proofs.Views.{view-Array, view-Object, items_len-items_view, members_len-members_view}
-use Rattle.jsonpath_owned_nodes.specs.Info.{info_of}
-use Rattle.jsonpath_owned_nodes.specs.declared.node_info.NodeInfo.TheVariants.{Array, Object}
+use Rattle.jsonpath_owned_nodes.proofs.Words.{view-Array, view-Object, items_len-items_view, members_len-members_view, info_of, Array, Object}
 use Rattle.jsonpath_owned_nodes.proofs.node_info.NodeInfo.of.Goals as goal
 
 pub returns-in-Array : goal.returns-in-Array

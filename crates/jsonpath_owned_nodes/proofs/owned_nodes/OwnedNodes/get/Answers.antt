@@ -1,9 +1,5 @@
-use Rattle.std.proofs.Common.{◌≡◌, ◌∙◌, ℕ, List, length, Option, Some, None, Bor, refl, sym, string_bytes}
-use Rattle.std.specs.Prelude.{slice_get}
-use Rattle.std.specs.Option.{option_copied}
-use Rattle.std.specs.Slice.{IsGetResult}
-use Rattle.std.proofs.lemmas.Option.{slice_get_past, slice_get_read}
-use Rattle.jsonpath_owned_nodes.specs.declared.node_info.NodeInfo.{NodeInfo}
+use Rattle.std.proofs.Common.{◌≡◌, ◌∙◌, ℕ, List, length, Option, Some, None, Bor, refl, sym, string_bytes, slice_get}
+use Rattle.jsonpath_owned_nodes.proofs.Words.{option_copied, IsGetResult, slice_get_past, slice_get_read, NodeInfo}
 use Rattle.jsonpath_owned_nodes.proofs.Kept.{known_at}
 use Rattle.jsonpath_owned_nodes.proofs.owned_nodes.OwnedNodes.get.Goals as goal
 

@@ -1,7 +1,5 @@
-use Rattle.std.proofs.Common.{◌≡◌, ◌∙◌, sym, ap, arith, map, take, Some, None, option_map, string_bytes, rules}
-use Rattle.std.specs.Prelude.{slice_get}
-use Rattle.std.proofs.lemmas.List.{take_all}
-use Rattle.jsonpath_owned_nodes.specs.Inside.Stored.{step_in}
+use Rattle.std.proofs.Common.{◌≡◌, ◌∙◌, sym, ap, arith, map, take, Some, None, option_map, string_bytes, rules, slice_get}
+use Rattle.jsonpath_owned_nodes.proofs.Words.{take_all, step_in}
 use Rattle.jsonpath_owned_nodes.proofs.Kept.{location_at}
 use Rattle.jsonpath_owned_nodes.proofs.owned_nodes.OwnedNodes.location.Goals as goal
 

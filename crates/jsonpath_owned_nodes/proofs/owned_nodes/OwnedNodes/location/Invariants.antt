@@ -1,6 +1,5 @@
 use Rattle.std.proofs.Common.{◌≡◌, map, take}
-use Rattle.serde_json_path_nodes.specs.Views.{step_view}
-use Rattle.jsonpath_owned_nodes.specs.Inside.Stored.{step_in}
+use Rattle.jsonpath_owned_nodes.proofs.Words.{step_view, step_in}
 use Rattle.jsonpath_owned_nodes.proofs.owned_nodes.OwnedNodes.location.Given as goal
 
 -- the elements are the steps that were passed

@@ -1,8 +1,5 @@
 use Rattle.std.proofs.Common.{◌≡◌, ◌∷◌, [], ◌++◌, ◌∙◌, ap, string_bytes}
-use Rattle.std.proofs.lemmas.Result.{err_from_is_err_and}
-use Rattle.serde_json_path_nodes.specs.Views.{located}
-use Rattle.jsonpath_owned_nodes.specs.Kept.{KeptNode, kept}
-use Rattle.jsonpath_owned_nodes.specs.Inside.Stored.{nodes_in}
+use Rattle.jsonpath_owned_nodes.proofs.Words.{err_from_is_err_and, located, KeptNode, kept, nodes_in}
 use Rattle.jsonpath_owned_nodes.proofs.Names.{text_grew}
 use Rattle.jsonpath_owned_nodes.proofs.Kept.{node_more}
 use Rattle.jsonpath_owned_nodes.proofs.owned_nodes.OwnedNodes.push.Goals as goal

@@ -1,9 +1,5 @@
-use Rattle.std.proofs.Common.{◌≡◌, [], ◌∙◌, sym, ap, arith, map, drop, Some, None, string_bytes, rules}
-use Rattle.std.specs.Prelude.{slice_get, option_and_then}
-use Rattle.std.proofs.lemmas.List.{drop_all}
-use Rattle.serde_json.specs.View.{view}
-use Rattle.serde_json_path_nodes.specs.Location.{at}
-use Rattle.jsonpath_owned_nodes.specs.Inside.Stored.{step_in}
+use Rattle.std.proofs.Common.{◌≡◌, [], ◌∙◌, sym, ap, arith, map, drop, Some, None, string_bytes, rules, slice_get, option_and_then}
+use Rattle.jsonpath_owned_nodes.proofs.Words.{drop_all, view, at, step_in}
 use Rattle.jsonpath_owned_nodes.proofs.Kept.{found_at, none_below}
 use Rattle.jsonpath_owned_nodes.proofs.owned_nodes.OwnedNodes.value_in.Goals as goal
 

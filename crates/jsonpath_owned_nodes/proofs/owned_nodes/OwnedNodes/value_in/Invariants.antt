@@ -1,7 +1,5 @@
 use Rattle.std.proofs.Common.{◌≡◌, map, drop}
-use Rattle.serde_json.specs.View.{view}
-use Rattle.serde_json_path_nodes.specs.Location.{at}
-use Rattle.jsonpath_owned_nodes.specs.Inside.Stored.{step_in}
+use Rattle.jsonpath_owned_nodes.proofs.Words.{view, at, step_in}
 use Rattle.jsonpath_owned_nodes.proofs.owned_nodes.OwnedNodes.value_in.Given as goal
 
 -- the steps that are left lead from the value where all of them lead from the document

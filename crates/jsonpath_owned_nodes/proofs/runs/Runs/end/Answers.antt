@@ -1,6 +1,5 @@
 use Rattle.std.proofs.Common.{◌≡◌, arith, length, rules}
-use Rattle.std.proofs.lemmas.List.{drop_all}
-use Rattle.jsonpath_owned_nodes.specs.Inside.Cut.{last_end}
+use Rattle.jsonpath_owned_nodes.proofs.Words.{drop_all, last_end}
 use Rattle.jsonpath_owned_nodes.proofs.Cuts.{cut-push, AreEnds-push, last_end-push}
 use Rattle.jsonpath_owned_nodes.proofs.runs.Runs.end.Goals as goal
 

@@ -1,6 +1,5 @@
 use Rattle.std.proofs.Common.{◌≡◌, ◌≤◌, sym, arith, length, vec_len, rules}
-use Rattle.std.proofs.lemmas.Option.{slice_get_past}
-use Rattle.jsonpath_owned_nodes.specs.Inside.Cut.{cut}
+use Rattle.jsonpath_owned_nodes.proofs.Words.{slice_get_past, cut}
 use Rattle.jsonpath_owned_nodes.proofs.Cuts.{length-cut, part_at, IsPart}
 use Rattle.jsonpath_owned_nodes.proofs.runs.Runs.get.Goals as goal
 

@@ -1,6 +1,5 @@
 use Rattle.std.proofs.Common.{◌≤◌, arith, length}
-use Rattle.std.proofs.lemmas.List.{drop-append-le, length_push}
-use Rattle.jsonpath_owned_nodes.specs.Inside.Cut.{last_end}
+use Rattle.jsonpath_owned_nodes.proofs.Words.{drop-append-le, length_push, last_end}
 use Rattle.jsonpath_owned_nodes.proofs.Cuts.{cut-more, last_within, AreEnds-more}
 use Rattle.jsonpath_owned_nodes.proofs.runs.Runs.push.Goals as goal
 

@@ -1,5 +1,5 @@
 use Rattle.std.proofs.Common.{◌≡◌, length, take, rules}
-use Rattle.jsonpath_owned_nodes.specs.Inside.Cut.{last_end}
+use Rattle.jsonpath_owned_nodes.proofs.Words.{last_end}
 use Rattle.jsonpath_owned_nodes.proofs.Cuts.{cut-kept, AreEnds-less, length-kept}
 use Rattle.jsonpath_owned_nodes.proofs.runs.Runs.restart.Goals as goal
 

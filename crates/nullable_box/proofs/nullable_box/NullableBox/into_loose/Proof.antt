@@ -1,36 +1,8 @@
 -- `into_loose` gives nothing at null, and else the pointer with the allocator.
-use Rattle.std.proofs.Common.{◌≡◌, List, [], ◌∷◌, ◌++◌, refl, sym, ap, ◌∙◌, subst, lit<}
-use mir.Syntax.{a_type}
-use mir.Val.{Val, vptr, vcons, vnil}
-use mir.MapTy.{inst_fn}
-use base.Logic.{SProp, emp, ent, id⊢}
-use base.Fml.{ftrue, flft}
-use prog.Wp.{WpFn}
-use types.Kit.{‵, raw, ◌⊛◌, at_ret, ◌$◌, ◌∵◌, !, qed, by, move, keep, split, fsplit, fjoin, suffices, use0, use1}
-use types.Run.{stop, fld, lit, of_opd, bin, no_more, and_then, first, branches, exec, returns, enter}
-use types.ByLocal.{alloc_all, pass_all, free_all, look_at, get, get_in, sets, sets_last, env}
-use types.Part.{agg, sub, whole}
-use types.Match.{live}
-use contract.Monad.{fact, fact_i}
-use contract.Running.{tables}
-use denote.Exit.{no, yes}
-use denote.Param.{param, layout, layouts}
-use denote.RattleType.{RattleType, owns}
-use denote.RawPtr.{Ptr, block_ptr, null_ptr, ptr_val, tests_null}
-use denote.Signature.{types_at, type_at, plain}
-use denote.Steps.{nothing}
-use denote.Triple.Walked.{Stays, stay_dropped, walk_of, Goes-dropped}
-use Rattle.core.proofs.alloc.Calls.{handle_tells}
-use Rattle.core.proofs.alloc.Shapes.{after}
-use Rattle.core.proofs.cell.Inside.{Good}
-use Rattle.core.proofs.option.Made.{Some-of, none_of}
-use Rattle.std.proofs.raw_atomic.Walks.{proved_at, leaves}
+use Rattle.std.proofs.Common.{◌≡◌, List, [], ◌∷◌, ◌++◌, refl, sym, ap, ◌∙◌, subst, lit<, None, Some}
+use Rattle.nullable_box.proofs.Words.{a_type, Val, vptr, vcons, vnil, inst_fn, SProp, emp, ent, id⊢, ftrue, flft, WpFn, ‵, raw, ◌⊛◌, at_ret, ◌$◌, ◌∵◌, !, qed, by, move, keep, split, fsplit, fjoin, suffices, use0, use1, stop, fld, lit, of_opd, bin, no_more, and_then, first, branches, exec, returns, enter, alloc_all, pass_all, free_all, look_at, get, get_in, sets, sets_last, env, agg, sub, whole, live, fact, fact_i, tables, no, yes, param, layout, layouts, RattleType, owns, Ptr, block_ptr, null_ptr, ptr_val, tests_null, types_at, type_at, plain, nothing, Stays, stay_dropped, walk_of, Goes-dropped, handle_tells, after, Good, Some-of, none_of, proved_at, leaves, ghosts, and_tt, held}
 use Rattle.std.specs.contracts.alloc.Global as heap
 use Rattle.std.proofs.alloc.Global.TheLaws as heap_laws
-use Rattle.std.specs.contracts.impls.GlobalAllocator.TheImpl.{ghosts}
-use Rattle.std.specs.Prelude.{None, Some}
-use Rattle.std_alloc.proofs.ResultValues.{and_tt}
-use Rattle.nullable_box.specs.Held.{held}
 use Rattle.nullable_box.specs.contracts.nullable_box.NullableBox as nullable
 use Rattle.nullable_box.proofs.Owners.{single, pair, owner_out, Loose, allocator, loose_good, loose_in}
 use Rattle.nullable_box.proofs.Held.{either_held}

@@ -1,25 +1,6 @@
 -- Nothing is null.
-use Rattle.std.proofs.Common.{◌≡◌, [], ◌∷◌, refl, lit<}
-use mir.Syntax.{a_type}
-use mir.Val.{Val}
-use mir.MapTy.{inst_fn}
-use base.Logic.{SProp, emp}
-use base.Fml.{ftrue, flft}
-use types.Kit.{‵, raw, ◌⊛◌, ◌$◌, ◌∵◌, !, qed, by, keep, split, use0}
-use types.Run.{lit, no_more, and_then, returns, enter}
-use types.ByLocal.{alloc_all, pass_all, free_all, look_at, sets}
-use types.Part.{agg}
-use contract.Monad.{fact, fact_i}
-use contract.Running.{tables}
-use denote.Param.{param, layouts}
-use denote.RattleType.{RattleType, owns}
-use denote.RawPtr.{ptr_val, null_ptr}
-use denote.Signature.{types_at}
-use denote.Steps.{nothing}
-use denote.Triple.Walked.{Stays, walk_of}
-use Rattle.std.proofs.raw_atomic.Walks.{proved_at, leaves}
-use Rattle.std.specs.Prelude.{Option, None}
-use Rattle.nullable_box.specs.Held.{held}
+use Rattle.std.proofs.Common.{◌≡◌, [], ◌∷◌, refl, lit<, Option, None}
+use Rattle.nullable_box.proofs.Words.{a_type, Val, inst_fn, SProp, emp, ftrue, flft, ‵, raw, ◌⊛◌, ◌$◌, ◌∵◌, !, qed, by, keep, split, use0, lit, no_more, and_then, returns, enter, alloc_all, pass_all, free_all, look_at, sets, agg, fact, fact_i, tables, param, layouts, RattleType, owns, ptr_val, null_ptr, types_at, nothing, Stays, walk_of, proved_at, leaves, held}
 use Rattle.nullable_box.proofs.Owners.{single, owner_in}
 use Rattle.nullable_box.specs.contracts.nullable_box.NullableBox.none.{ended, clauses}
 use Rattle.nullable_box.specs.contracts.nullable_box.NullableBox.none.Key.{name as key}

@@ -1,10 +1,10 @@
 -- The pointer goes from the nullable box into the handle.
 use Rattle.nullable_box.proofs.Moved.{nullable_box, moved}
 use Rattle.jsonpath_c.specs.contracts.compiled.Compiled.{the_row}
-use Rattle.jsonpath_c.specs.contracts.handle.path.PathHandle.of.Key.{name as key}
+use Rattle.jsonpath_c.specs.contracts.handle.path.PathHandleHandle.of.Key.{name as key}
 use Rattle.jsonpath_c.proofs.Owners.{path_owner as owner}
-use Rattle.jsonpath_c.proofs.handle.path.PathHandle.of.Statement.{statement}
-use Rattle.jsonpath_c.proofs.handle.path.PathHandle.of.Code as code
+use Rattle.jsonpath_c.proofs.handle.path.PathHandleHandle.of.Statement.{statement}
+use Rattle.jsonpath_c.proofs.handle.path.PathHandleHandle.of.Code as code
 
 pub of_spec : {M : Type 1} → statement M
 of_spec 𝓤 𝓛 𝓜 𝓡 wired = moved (nullable_box the_row) owner 𝓤 𝓛 𝓜 𝓡 key (code.unfolded 𝓤 𝓛.H 𝓜 𝓡 wired)

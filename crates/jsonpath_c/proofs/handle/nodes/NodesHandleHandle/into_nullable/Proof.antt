@@ -1,10 +1,10 @@
 -- The pointer goes from the handle into the nullable box.
 use Rattle.nullable_box.proofs.Moved.{nullable_box, moved}
 use Rattle.jsonpath_c.specs.contracts.handle.nodes.Nodes.{the_row}
-use Rattle.jsonpath_c.specs.contracts.handle.nodes.NodesHandle.into_nullable.Key.{name as key}
+use Rattle.jsonpath_c.specs.contracts.handle.nodes.NodesHandleHandle.into_nullable.Key.{name as key}
 use Rattle.jsonpath_c.proofs.Owners.{nodes_owner as owner}
-use Rattle.jsonpath_c.proofs.handle.nodes.NodesHandle.into_nullable.Statement.{statement}
-use Rattle.jsonpath_c.proofs.handle.nodes.NodesHandle.into_nullable.Code as code
+use Rattle.jsonpath_c.proofs.handle.nodes.NodesHandleHandle.into_nullable.Statement.{statement}
+use Rattle.jsonpath_c.proofs.handle.nodes.NodesHandleHandle.into_nullable.Code as code
 
 pub into_nullable_spec : {M : Type 1} → statement M
 into_nullable_spec 𝓤 𝓛 𝓜 𝓡 wired = moved owner (nullable_box the_row) 𝓤 𝓛 𝓜 𝓡 key (code.unfolded 𝓤 𝓛.H 𝓜 𝓡 wired)

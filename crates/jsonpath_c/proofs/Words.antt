@@ -1,0 +1,18 @@
+-- The words of definitions and lemmas that proofs cite, from one place.
+pub use Rattle.jsonpath_c.specs.Exports.{IsReportedWith, IsTold, hint_text}
+pub use Rattle.jsonpath_c.specs.Handles.{AreFirstLines, AreFirstNodes, IsBeyond, IsNodeBeyond, all_name_bytes, name_bytes}
+pub use Rattle.jsonpath_c.specs.Inside.{AreWithin, FilledLines, FilledList, HasNoRoomFor, IsLeftAfter, TookLines, TookList}
+pub use Rattle.jsonpath_c.specs.Words.{CallsByPatternOn, Form, IsLine, IsLineOfEach, IsNoPath, IsReportIn, IsUtf8, KeptNode, Located, builtin_functions, compact_lines, first_places, kept, located, message_of, rest}
+pub use Rattle.jsonpath_c.specs.declared.bounded.BoundedLines.{BoundedLines}
+pub use Rattle.jsonpath_c.specs.declared.bounded_list.BoundedList.{BoundedList}
+pub use Rattle.jsonpath_c.specs.declared.limits.Limits.{Limits}
+pub use Rattle.jsonpath_lines.proofs.Pieces.{lines_pushed}
+pub use Rattle.jsonpath_lines.specs.Distinct.{AreEnough}
+pub use Rattle.jsonpath_program.specs.declared.report.DocumentError.TheVariants.{NotJson}
+pub use Rattle.jsonpath_program.specs.declared.report.ReportError.TheVariants.{Document, Path, Query}
+pub use Rattle.serde_json_path_functions.proofs.Sets.{before_itself}
+pub use Rattle.serde_json_path_functions.specs.declared.error.QueryError.{QueryError}
+pub use Rattle.serde_json_path_functions.specs.declared.error.QueryError.TheVariants.{Pattern}
+pub use Rattle.std.proofs.lemmas.List.{drop_more, length_push, map-append, map_push, take-append-drop}
+pub use Rattle.std.proofs.lemmas.List.Sums.{sum_by_push}
+pub use Rattle.std.specs.Borrow.{Bor}
