@@ -535,7 +535,7 @@ fn misuse_of(options: &Options<'_>) -> Option<Misuse>
     None
 }
 
-/// What is told of a misuse, in the form of the errors of `clap`.
+/// The message about a misuse, in the form of the errors of `clap`.
 fn refused<'a>(
     alloc: Global,
     mut command: Command<'_>,
@@ -549,8 +549,8 @@ fn refused<'a>(
 }
 
 /// What an answer of `clap` without matches asks for.
-fn told<'a>(alloc: Global, error: &Error) -> Result<Request<'a>, AllocError>
-    ensures told { IfOk result (IsTold (kind_of error.now)) }
+fn reported<'a>(alloc: Global, error: &Error) -> Result<Request<'a>, AllocError>
+    ensures fault { IfOk result (IsTold (kind_of error.now)) }
     ensures memory { kind_of error.now ≡ ErrorKind.OutOfMemory → IsErr result }
 {
     match error.kind() {
@@ -586,7 +586,7 @@ fn asked_of<'a>(
 ///
 /// Two forms, as `-v -l`, no path, `--check` with a file, and `--strict` without `--lines` are wrong use too. `clap` could find
 /// these by rules of one argument on another, but then no clause of it says when a parse fails. So they are looked for here,
-/// and told in the words and in the form of `clap`.
+/// and reported in the words and in the form of `clap`.
 ///
 /// ```text
 /// read(alloc, &["jpq", "-v", "$.a", "x.json"])
@@ -598,7 +598,7 @@ pub fn read<'a, S: AsStr>(alloc: Global, words: &'a [S]) -> Result<Request<'a>, 
     let mut command = command(alloc)?;
     match command.try_get_matches_from_mut(words) {
         Ok(matches) => asked_of(alloc, command, &matches),
-        Err(error) => told(alloc, &error),
+        Err(error) => reported(alloc, &error),
     }
 }
 

@@ -15,7 +15,7 @@ use serde_json_path::{JsonPath, QueryError};
 use std::alloc::{AllocError, Global};
 
 /// Appends a text to another; where that is empty, it becomes the text. An error appends nothing.
-pub(crate) fn join(text: &mut String, more: String) -> Result<(), AllocError>
+fn join(text: &mut String, more: String) -> Result<(), AllocError>
     ensures joined { OnOk result
         (string_bytes text.new ≡ string_bytes text.old ++ string_bytes more) }
     ensures unchanged { IfErr result (λ e. string_bytes text.new ≡ string_bytes text.old) }

@@ -1,9 +1,9 @@
-//! The documents, and what is shown and told of each.
+//! The documents, what is shown of each, and what is reported.
 
 ghost use Rattle.serde_json_path_functions.specs.Functions.{FunctionSet};
 ghost use Rattle.serde_json_path.specs.Fitting.{TakesBuiltin, TakesBuiltin-prop};
 
-use crate::answers::{join, push_answer};
+use crate::answers::push_answer;
 use crate::colours::push_colored;
 use crate::inputs::Inputs;
 use crate::paths::AskedPath;
@@ -35,8 +35,8 @@ pub(crate) struct Answering<'a, F: Functions> {
     ghost takes: { TakesBuiltin (F.set functions.now) } by { TakesBuiltin-prop (F.set functions.now) },
 }
 
-/// The name of an input as it is told, and as lines begin with it.
-fn told_name(name: &str) -> &str {
+/// The name of an input, as messages and lines begin with it.
+fn shown_name(name: &str) -> &str {
     if name == "-" { "standard input" } else { name }
 }
 
@@ -46,7 +46,7 @@ impl<F: Functions> Answering<'_, F> {
     fn head(&self, name: &str, number: usize) -> Result<String, AllocError> {
         let mut head = String::new(self.alloc);
         if self.names_files {
-            write!(head, "{}\t", told_name(name))?;
+            write!(head, "{}\t", shown_name(name))?;
         }
         if self.paths.len() > 1 {
             write!(head, "{number}\t")?;
@@ -54,14 +54,13 @@ impl<F: Functions> Answering<'_, F> {
         Ok(head)
     }
 
-    /// Appends the answer of a path, in colours where they are wanted, and returns whether a node was chosen.
-    fn push_path(
+    /// The answer of a path, in colours where they are wanted, and whether a node was chosen.
+    fn answer_of(
         &self,
         path: &AskedPath,
         head: &str,
         document: &Value,
-        text: &mut String,
-    ) -> Result<bool, QueryError> {
+    ) -> Result<(String, bool), QueryError> {
         let mut plain = String::new(self.alloc);
         let selected = push_answer(
             self.alloc,
@@ -72,12 +71,18 @@ impl<F: Functions> Answering<'_, F> {
             document,
             &mut plain,
         )?;
-        if self.colored {
-            push_colored(self.alloc, text, plain.as_str(), head, self.output.form)?;
-        } else {
-            join(text, plain)?;
+        if !self.colored {
+            return Ok((plain, selected));
         }
-        Ok(selected)
+        let mut text = String::new(self.alloc);
+        push_colored(
+            self.alloc,
+            &mut text,
+            plain.as_str(),
+            head,
+            self.output.form,
+        )?;
+        Ok((text, selected))
     }
 
     /// Answers a document: writes what each path selects, and tells what is refused.
@@ -87,19 +92,24 @@ impl<F: Functions> Answering<'_, F> {
         document: &Value,
         streams: &mut Streams<'_, W, E>,
     ) -> Result<(), Stop> {
-        let mut text = String::new(self.alloc);
+        let mut answers = Vec::new(self.alloc);
         for (index, path) in self.paths.iter().enumerate() {
             let head = self.head(name, index.saturating_add(1))?;
-            match self.push_path(path, head.as_str(), document, &mut text) {
-                Ok(selected) => streams.outcome.selected = streams.outcome.selected || selected,
+            match self.answer_of(path, head.as_str(), document) {
+                Ok((text, selected)) => {
+                    streams.outcome.selected = streams.outcome.selected || selected;
+                    answers.push(text)?;
+                }
                 Err(e) => {
-                    let name = told_name(name);
-                    let told = format!(in self.alloc; "jpq: {name}: the query is refused: {e}\n")?;
-                    streams.tell_refusal(told.as_str());
+                    let name = shown_name(name);
+                    let message = format!(in self.alloc;
+                        "jpq: {name}: the query is refused: {e}\n"
+                    )?;
+                    streams.tell_refusal(message.as_str());
                 }
             }
         }
-        streams.write(text.as_str())?;
+        streams.write(answers.as_slice())?;
         if self.output.form == Form::Nothing && streams.outcome.selected {
             return Err(Stop::Found);
         }
@@ -123,7 +133,7 @@ impl<F: Functions> Answering<'_, F> {
             line: e.line.saturating_add(line.saturating_sub(1)),
             ..e
         };
-        let name = told_name(name);
+        let name = shown_name(name);
         streams.tell_refusal(format!(in self.alloc; "jpq: {name}: {e}\n")?.as_str());
         if self.strict {
             Err(Stop::Refused)
@@ -139,7 +149,7 @@ impl<F: Functions> Answering<'_, F> {
         e: &io::Error,
         streams: &mut Streams<'_, W, E>,
     ) -> Result<(), Stop> {
-        let name = told_name(name);
+        let name = shown_name(name);
         streams.tell_refusal(format!(in self.alloc;
             "jpq: {name}: cannot be read: {e}\n"
         )?.as_str());

@@ -6,14 +6,14 @@
 #![tactic(auto)]
 
 pub mod answers;
+mod caret;
 mod colours;
 mod counted;
 mod documents;
-mod found;
+mod empty_answer;
 pub mod inputs;
-mod nothing;
 mod paths;
-mod place;
 mod refusal;
 pub mod run;
 mod streams;
+mod tokens;

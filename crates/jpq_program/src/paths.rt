@@ -23,7 +23,7 @@ pub(crate) struct AskedPath {
 #[derive(Clone, Copy, Drop)]
 struct PathReading {
     alloc: Global,
-    /// Whether there are several paths, so that each is told by its number.
+    /// Whether there are several paths, so that messages give its number.
     several: bool,
     /// Whether a refusal has a hint.
     hints: bool,
@@ -53,11 +53,11 @@ impl PathReading {
         if e.kind() == ParseErrorKind::NoMemory {
             return Err(Stop::Memory);
         }
-        let mut told = String::new(self.alloc);
+        let mut message = String::new(self.alloc);
         let name = self.name(number)?;
         let hint = if self.hints { hint(text, &e) } else { None };
-        push_refusal(&mut told, name.as_str(), text, &e, hint)?;
-        streams.tell_refusal(told.as_str());
+        push_refusal(&mut message, name.as_str(), text, &e, hint)?;
+        streams.tell_refusal(message.as_str());
         Ok(None)
     }
 

@@ -1,7 +1,7 @@
-//! A path's refusal, told for a person.
+//! The message about a refused path, for a person.
 
-use crate::found::{first_piece, open_quote};
-use crate::place::push_place;
+use crate::caret::push_with_caret;
+use crate::tokens::{first_token, open_quote};
 use serde_json_path::{ParseError, ParseErrorKind};
 use std::alloc::AllocError;
 
@@ -38,7 +38,7 @@ fn words(kind: ParseErrorKind) -> &'static str {
     }
 }
 
-/// Whether what stands at the place is told after the words: where something else was expected, or the name says it.
+/// Whether the words are followed by what stands at the place: where something else was expected, or the name says it.
 fn tells_found(kind: ParseErrorKind) -> bool {
     use ParseErrorKind as Kind;
     matches!(
@@ -66,7 +66,7 @@ fn place_of(text: &str, e: &ParseError) -> usize {
 /// Appends what stands at a place, the number of a byte from 1.
 fn push_found(to: &mut String, text: &str, place: usize) -> Result<(), AllocError> {
     let rest = text.get(place.saturating_sub(1)..).unwrap_or("");
-    match first_piece(rest) {
+    match first_token(rest) {
         "" => to.push_str(", found the end"),
         "'" => to.push_str(", found a quote"),
         piece => write!(to, ", found '{piece}'"),
@@ -89,7 +89,7 @@ pub(crate) fn push_refusal(
         push_found(to, text, place)?;
     }
     to.push('\n')?;
-    push_place(to, text, place)?;
+    push_with_caret(to, text, place)?;
     match hint {
         Some(hint) if hint.starts_with('`') => write!(to, "  write {hint}\n"),
         Some(hint) => write!(to, "  {hint}\n"),

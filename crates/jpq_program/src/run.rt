@@ -5,12 +5,12 @@ ghost use Rattle.serde_json_path_functions.specs.Functions.{FunctionSet};
 ghost use Rattle.jpq_options.specs.Options.{AsksFor};
 ghost use Rattle.jpq_options.specs.declared.options.Request as input;
 ghost use Rattle.serde_json_path.specs.Fitting.{TakesBuiltin};
-ghost use Rattle.jpq_program.specs.Query.{IsStatus, IsStatusOf};
+ghost use Rattle.jpq_program.specs.Query.{IsStatusOf};
 
 use crate::counted::Counted;
 use crate::documents::Answering;
+use crate::empty_answer::reason_of;
 use crate::inputs::Inputs;
-use crate::nothing::reason_of;
 use crate::paths::{AskedPath, asked_paths};
 use crate::streams::{OUTPUT_FAILED, REFUSED, SELECTED, Stop, Streams, WRONG_USE};
 use jpq_options::options::{Color, Options, Request, read};
@@ -19,6 +19,7 @@ use serde_json_path::functions::{CachedPatterns, Functions, Numbers, PatternStor
 use std::alloc::Global;
 use std::cell::Cell;
 use std::io::Write;
+use std::slice;
 
 /// Writes each path in its canonical form.
 fn check<W: Write, E: Write>(
@@ -31,7 +32,7 @@ fn check<W: Write, E: Write>(
         write!(text, "{}\n", path.path)?;
     }
     streams.outcome.selected = true;
-    streams.write(text.as_str())
+    streams.write(slice::from_ref(&text))
 }
 
 /// Tells why nothing may have been selected, where a path shows it.
@@ -55,7 +56,7 @@ fn tell_floats<W: Write, E: Write>(
     floats: usize,
     streams: &mut Streams<'_, W, E>,
 ) -> Result<(), Stop> {
-    let told = match floats {
+    let message = match floats {
         0 => return Ok(()),
         1 => format!(in alloc;
             "jpq: 1 number that was compared is not held as an integer: it equals nothing and is not ordered\n"
@@ -64,7 +65,7 @@ fn tell_floats<W: Write, E: Write>(
             "jpq: {n} numbers that were compared are not held as integers: they equal nothing and are not ordered\n"
         )?,
     };
-    streams.tell(told.as_str());
+    streams.tell(message.as_str());
     Ok(())
 }
 
@@ -210,7 +211,6 @@ pub fn run<I: Inputs, W: Write, E: Write>(
     out: &mut W,
     err: &mut E,
 ) -> u8
-    ensures one_of { IsStatus result }
     ensures status { ((asked : input.Request) × AsksFor (map string_bytes words.now) asked
         × IsStatusOf asked result) ⊎ (result ≡ 2) }
 {
@@ -222,7 +222,7 @@ pub fn run<I: Inputs, W: Write, E: Write>(
         }
         Ok(Request::Print(text)) => {
             streams.outcome.selected = true;
-            streams.write(text.as_str())
+            streams.write(slice::from_ref(&text))
         }
         Ok(Request::WrongUse(_, text)) => {
             streams.tell(text.as_str());

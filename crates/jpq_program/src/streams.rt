@@ -1,4 +1,4 @@
-//! What is written, what is told on standard error, and what comes of a run.
+//! What is written, what is reported on standard error, and what comes of a run.
 
 ghost use Rattle.std.specs.Prelude.{◌≤◌};
 
@@ -46,7 +46,7 @@ pub(crate) enum Stop {
     OutputFailed,
     /// Who read the output went away, as `head` does.
     ReaderGone,
-    /// What can't be done without was refused, and told.
+    /// What can't be done without was refused, and that was reported.
     Refused,
     /// Something was selected, and nothing is shown.
     Found,
@@ -76,7 +76,7 @@ impl<T: Drop> From<AllocFailed<T>> for Stop {
     }
 }
 
-/// Where lines are written and faults are told, and what became of the documents.
+/// Where lines are written and faults are reported, and what became of the documents.
 #[derive(Drop)]
 pub(crate) struct Streams<'a, W, E> {
     pub(crate) out: &'a mut W,
@@ -94,23 +94,27 @@ impl<'a, W: Write, E: Write> Streams<'a, W, E> {
         Streams { out, err, outcome }
     }
 
-    /// Writes a text and flushes it, so that a pipe sees it at once.
-    pub(crate) fn write(&mut self, text: &str) -> Result<(), Stop> {
-        if text.is_empty() {
+    /// Writes texts, one after the other, and flushes them.
+    fn put(&mut self, texts: &[String]) -> io::Result<()> {
+        for text in texts {
+            self.out.write_all(text.as_bytes())?;
+        }
+        self.out.flush()
+    }
+
+    /// Writes texts and flushes them, so that a pipe sees them at once.
+    pub(crate) fn write(&mut self, texts: &[String]) -> Result<(), Stop> {
+        if texts.iter().all(|text| text.is_empty()) {
             return Ok(());
         }
-        match self
-            .out
-            .write_all(text.as_bytes())
-            .and_then(|_| self.out.flush())
-        {
+        match self.put(texts) {
             Ok(()) => Ok(()),
             Err(e) if e.kind() == io::ErrorKind::BrokenPipe => Err(Stop::ReaderGone),
             Err(_) => Err(Stop::OutputFailed),
         }
     }
 
-    /// Tells a text on standard error. What can't be told is not.
+    /// Writes a message on standard error, as far as it can be written.
     pub(crate) fn tell(&mut self, text: &str) {
         let _ = self.err.write_all(text.as_bytes());
     }

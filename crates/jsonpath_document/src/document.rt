@@ -272,7 +272,7 @@ fn before_bracket(text: &str) -> &str
     text.strip_suffix(['[', '{']).unwrap_or(text)
 }
 
-/// What is told of a place in a text, by what stands before it and from there on, and the text before what is told. How deep
+/// What a fault says of a place in a text, by what stands before it and from there on, and the text before that. How deep
 /// the place is, is not looked at.
 fn met<'t>(text: &'t str, before: &'t str, rest: &str) -> (&'t str, DocumentFault)
     requires { text.now ≡ before.now ++ rest.now }
@@ -381,7 +381,7 @@ fn refused(bytes: &[u8], error: &Error) -> DocumentError
 /// of floats, and of a name that an object has twice the last value.
 ///
 /// It fails where the bytes are no such document, with the place of the fault and what is met there. It fails with
-/// [`DocumentFault::Memory`], told at the first character, where memory is refused.
+/// [`DocumentFault::Memory`], at the first character, where memory is refused.
 ///
 /// ```text
 /// read_document(alloc, b"{\"a\": 1,\n}")

@@ -11,7 +11,7 @@
 //! [`run::run`] reads the document, writes the lines or tells a fault in a line, and answers the exit status of the program.
 //! [`arguments::words_after_first`] takes the program's name off its words.
 //!
-//! Definitions are in `specs/`: `Report` says what a report is, `Run` what the statuses mean and what is told. A document's reading
+//! Definitions are in `specs/`: `Report` says what a report is, `Run` what the statuses mean and what is reported. A document's reading
 //! is that of `jsonpath_document`, and lines are those of `jsonpath_lines`.
 #![tactic(auto)]
 

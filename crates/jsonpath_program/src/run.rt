@@ -12,7 +12,7 @@ ghost use Rattle.jsonpath_program.specs.Report.{IsNoPath};
 ghost use Rattle.jsonpath_program.specs.Run.{status_of, line_of, IsStatus, IsDocumentLine, IsQueryLine, IsOneWord, IsReportOfRun, MayBeDocument, AppendsBeginning};
 
 use crate::report::{DocumentError, ReportError, report};
-use serde_json_path::functions::{CachedPatterns, PatternStore};
+use serde_json_path::functions::NoFunctions;
 use serde_json_path::{ParseError, ParseErrorKind, QueryError};
 use std::alloc::Global;
 use std::io;
@@ -53,7 +53,7 @@ fn write_text<W: Write>(text: &str, to: &mut W) -> io::Result<()>
     Err(io::Error::from(io::ErrorKind::TimedOut))
 }
 
-/// Tells why a path is refused. Where memory for the line is refused, only its beginning is told.
+/// Tells why a path is refused. Where memory for the line is refused, only its beginning is written.
 fn tell_path<E: Write>(alloc: Global, e: &ParseError, err: &mut E)
     requires { kind_of e.now ≡ ParseErrorKind.NoMemory → position_of e.now ≡ 1 }
     ensures { AppendsBeginning (E.contents err.old) (E.contents err.new)
@@ -94,7 +94,7 @@ pub fn refuse<E: Write>(alloc: Global, e: &ReportError, err: &mut E) -> u8
     requires { (path : path_error.ParseError) → e.now ≡ ReportError.Path path
         → kind_of path ≡ ParseErrorKind.NoMemory → position_of path ≡ 1 }
     ensures status { result ≡ status_of e.now }
-    ensures told { AppendsBeginning (E.contents err.old) (E.contents err.new) (line_of e.now) }
+    ensures reported { AppendsBeginning (E.contents err.old) (E.contents err.new) (line_of e.now) }
 {
     match e {
         ReportError::Path(e) => {
@@ -126,8 +126,8 @@ fn print<W: Write, E: Write>(lines: &str, out: &mut W, err: &mut E) -> u8
     ensures either { (result ≡ 0) ⊎ (result ≡ 3) }
     ensures whole { result ≡ 0 → Appends (W.contents out.old) (W.contents out.new) lines.now }
     ensures beginning { AppendsBeginning (W.contents out.old) (W.contents out.new) lines.now }
-    ensures silent { result ≡ 0 → err.new ≡ err.old }
-    ensures told { result ≡ 3
+    ensures nothing_reported { result ≡ 0 → err.new ≡ err.old }
+    ensures reported { result ≡ 3
         → AppendsBeginning (E.contents err.old) (E.contents err.new)
         (codes "jsonpath: output failed\n") }
 {
@@ -141,7 +141,7 @@ fn print<W: Write, E: Write>(lines: &str, out: &mut W, err: &mut E) -> u8
 /// The program: `jsonpath PATH` with a document as its input. Returns the exit status.
 ///
 /// With exactly one word the input is read to its end, then the path and the document are read, then all lines are made,
-/// and only then written. Any fault is told to `err` in its line, or a beginning of it, which may be empty, and then nothing
+/// and only then written. Any fault is reported to `err` in its line, or a beginning of it, which may be empty, and then nothing
 /// goes to `out`, unless it is the write that failed:
 ///
 /// | Status | When |
@@ -169,7 +169,7 @@ pub fn run<R: Read, W: Write, E: Write>(
     ensures report_out { result ≡ 0
         → (text : List ℕ) × IsReportOfRun words.now (R.remaining input.old) text
         × Appends (W.contents out.old) (W.contents out.new) text }
-    ensures nothing_told { result ≡ 0 → err.new ≡ err.old }
+    ensures nothing_reported { result ≡ 0 → err.new ≡ err.old }
 
     // Nothing else goes out, but a part of the lines where writing failed.
     ensures nothing_out { result ≢ 0 → result ≢ 3 → out.new ≡ out.old }
@@ -177,11 +177,11 @@ pub fn run<R: Read, W: Write, E: Write>(
         ⊎ ((text : List ℕ) × IsReportOfRun words.now (R.remaining input.old) text
         × AppendsBeginning (W.contents out.old) (W.contents out.new) text) }
 
-    // A fault is told in its line, or a beginning of it. A path is refused only as the parse refuses it.
-    ensures usage_told { result ≡ 64
+    // A fault is reported in its line, or a beginning of it. A path is refused only as the parse refuses it.
+    ensures usage_reported { result ≡ 64
         → AppendsBeginning (E.contents err.old) (E.contents err.new)
         (codes "usage: jsonpath PATH\n") }
-    ensures path_told { result ≡ 1 → (path : List ℕ) × IsOneWord words.now path
+    ensures path_reported { result ≡ 1 → (path : List ℕ) × IsOneWord words.now path
         × ((e : path_error.ParseError)
         × IsParseOf path_view builtin_functions.signature path (Err e)
         × ReportsFirst path_view builtin_functions.signature path (Err e)
@@ -192,11 +192,11 @@ pub fn run<R: Read, W: Write, E: Write>(
         → (result ≡ 1) ⊎ ((result ≡ 2)
         × AppendsBeginning (E.contents err.old) (E.contents err.new)
         (codes "jsonpath: document: cannot be read\n")) }
-    ensures document_told { result ≡ 2
+    ensures document_reported { result ≡ 2
         → (line : List ℕ) × IsDocumentLine (R.remaining input.old) line
         × AppendsBeginning (E.contents err.old) (E.contents err.new) line }
     ensures query_last { result ≡ 3 → MayBeDocument (R.remaining input.old) }
-    ensures query_told { result ≡ 3
+    ensures query_reported { result ≡ 3
         → (line : List ℕ) × IsQueryLine words.now (R.remaining input.old) line
         × ((line ≡ codes "jsonpath: output failed\n") ⊎ (out.new ≡ out.old))
         × AppendsBeginning (E.contents err.old) (E.contents err.new) line }
@@ -210,9 +210,7 @@ pub fn run<R: Read, W: Write, E: Write>(
         let _ = write_text("jsonpath: document: cannot be read\n", err);
         return DOCUMENT_REFUSED;
     }
-    let store = PatternStore::new();
-    let functions = CachedPatterns::new(alloc, &store);
-    match report(alloc, path.as_str(), document.as_slice(), &functions) {
+    match report(alloc, path.as_str(), document.as_slice(), &NoFunctions) {
         Ok(lines) => print(lines.as_str(), out, err),
         Err(e) => refuse(alloc, &e, err),
     }

@@ -8,8 +8,8 @@
 //! assert_eq!(rt; hint(text, &e), Some("equality is written =="));
 //! ```
 //!
-//! The slips are tables, by the kind of refusal at which they are told. Definitions are in `specs/`: `Hints` says which of the
-//! slips is told, `Conditions` what is said of the text on either side of a place.
+//! The slips are tables, by the kind of refusal that they explain. Definitions are in `specs/`: `Hints` says which of the
+//! slips is named, `Conditions` what is said of the text on either side of a place.
 #![tactic(auto)]
 
 mod condition;

@@ -1,4 +1,4 @@
-//! The table of slips, by the kind of refusal. Of two slips that are both there, the first is told.
+//! The table of slips, by the kind of refusal. Of two slips that are both there, the first is named.
 
 mod calls;
 mod expressions;

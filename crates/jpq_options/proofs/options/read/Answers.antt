@@ -17,5 +17,5 @@ returns g c =
     let kind = kind_of c.in-Err.error in
     let by = subst (λ (x : App). (kind ≡ OutOfMemory) ⊎ IsAmong kind (fault_of x words)) h.2
     (c.in-Err.ensures.kinds (ap is_simple_and_free h.2 ∙ jpq_is_free h.0)) in
-    IfOk-weaker c.told.result _ _ (λ a told. (h.0, h.1, told))
-    (told_answers kind (fault_of (jpq h.0) words) (matches_of (jpq h.0) words) c.told.result by c.told.ensures.memory c.told.ensures.told)
+    IfOk-weaker c.reported.result _ _ (λ a told. (h.0, h.1, told))
+    (told_answers kind (fault_of (jpq h.0) words) (matches_of (jpq h.0) words) c.reported.result by c.reported.ensures.memory c.reported.ensures.fault)

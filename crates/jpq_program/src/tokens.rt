@@ -1,8 +1,8 @@
-//! What stands at a place of a path's text.
+//! What stands at a place of a path's text: a token, or a string that is left open.
 
 use unicode_segmentation::UnicodeSegmentation;
 
-/// How many bytes of a word are told at most.
+/// How many bytes of a word a message gives at most.
 const LONGEST_WORD: usize = 24;
 
 /// Whether a character is one of a word.
@@ -15,7 +15,7 @@ fn is_of_operator(c: char) -> bool {
     matches!(c, '=' | '!' | '<' | '>' | '&' | '|' | '~')
 }
 
-/// The characters at the start of a text that pass a test, up to those that are told.
+/// The characters at the start of a text that pass a test, as far as a message gives them.
 fn front<P: Fn(char) -> bool>(text: &str, passes: P) -> &str
     requires { P.IsAlwaysCallable passes }
 {
@@ -24,7 +24,7 @@ fn front<P: Fn(char) -> bool>(text: &str, passes: P) -> &str
 }
 
 /// What a text begins with: a word, an operator, or a character as it is seen; nothing of an empty one.
-pub(crate) fn first_piece(text: &str) -> &str {
+pub(crate) fn first_token(text: &str) -> &str {
     match (front(text, is_of_word), front(text, is_of_operator)) {
         ("", "") => text.graphemes(true).next().unwrap_or(""),
         ("", operator) => operator,

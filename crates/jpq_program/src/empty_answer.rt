@@ -1,4 +1,4 @@
-//! Why a path may have selected nothing.
+//! Why an answer may be empty, as the path's tree shows.
 
 ghost use Rattle.std.specs.Prelude.{ℕ, ◌≤◌, length};
 ghost use Rattle.serde_json_path_syntax.specs.Words.{NamesBelow, nodes_in, parts_bound};
@@ -57,13 +57,13 @@ impl Slip {
 
     /// Whether this segment is one of some parts of a tree, or below them.
     #[tactic(auto, using(serde_json_path_syntax::proofs::Tree::NamedParts::within_get))]
-    fn is_among(&self, tree: &Checked, parts: &[Part]) -> bool
+    fn is_below(&self, tree: &Checked, parts: &[Part]) -> bool
         requires { parts_bound parts.now ≤ length (nodes_in tree.now) }
     {
         for part in parts {
             let node = tree.node(*part);
             let (below, others) = parts_below(node);
-            if self.is_at(tree, node) || self.is_among(tree, below) || self.is_among(tree, others) {
+            if self.is_at(tree, node) || self.is_below(tree, below) || self.is_below(tree, others) {
                 return true;
             }
         }
@@ -103,7 +103,7 @@ fn parts_below(node: &Node) -> (&[Part], &[Part])
 /// A reason why a path selects nothing, if its tree shows one.
 pub(crate) fn reason_of(tree: &Checked) -> Option<&'static str> {
     for (slip, reason) in REASONS {
-        if slip.is_among(tree, tree.segments()) {
+        if slip.is_below(tree, tree.segments()) {
             return Some(*reason);
         }
     }

@@ -113,7 +113,7 @@ fn escaped_columns(cluster: &str) -> usize {
 
 /// Appends a text in a line that is indented by two spaces, cut round a place, and below it a caret under that place, the number
 /// of a byte from 1.
-pub(crate) fn push_place(to: &mut String, text: &str, place: usize) -> Result<(), AllocError> {
+pub(crate) fn push_with_caret(to: &mut String, text: &str, place: usize) -> Result<(), AllocError> {
     let window = Window::new(text, place);
     to.push_str("  ")?;
     window.push_text(to)?;
