@@ -1,9 +1,10 @@
 -- The words of definitions and lemmas that proofs cite, from one place.
+unfoldable pub use Rattle.json.specs.Print.{ArePrintable, escape_byte, print_from}
 pub use Rattle.json.proofs.Printed.Decimals.{IsNumber-decimal, IsNumber-signed_decimal}
 pub use Rattle.json.proofs.Printed.Tokens.{print_from-append, tokens-print}
 pub use Rattle.json.proofs.Printed.Trees.{ArePrintable-json_tokens, value-json_tokens}
 pub use Rattle.json.specs.Lex.{tokens}
-pub use Rattle.json.specs.Print.{ArePrintable, ArePrintableOrBad, ends, escape_byte, print, print_from, token_text}
+pub use Rattle.json.specs.Print.{ArePrintableOrBad, ends, print, token_text}
 pub use Rattle.json.specs.Token.{Token, end_object}
 pub use Rattle.json.specs.Tree.{HasNumbers, ItemsHaveNumbers, items_tokens, json_tokens, members_tokens}
 pub use Rattle.jsonpath_lines.specs.Distinct.{AreEnough, IsExceeded}

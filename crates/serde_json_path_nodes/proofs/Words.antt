@@ -1,10 +1,11 @@
 -- The words that proofs cite, from one place.
+unfoldable pub use Rattle.serde_json_path_nodes.specs.Text.{in_decimal}
 pub use Rattle.serde_json_path_nodes.specs.Inside.NodeOrder.{AreNumbered, node_cmp}
 pub use Rattle.serde_json_path_nodes.specs.Inside.StepOrder.{location_cmp, step_cmp}
 pub use Rattle.serde_json_path_nodes.specs.Lists.{first_places, first_places_after, is_among}
 pub use Rattle.serde_json_path_nodes.specs.Location.{IsProper, Step, by_name, by_position}
 pub use Rattle.serde_json_path_nodes.specs.Same.{same_step, same_steps, same_steps_decides}
-pub use Rattle.serde_json_path_nodes.specs.Text.{escape_of, in_decimal, in_pointer, in_quotes, is_escaped, normal, normal_step, pointer}
+pub use Rattle.serde_json_path_nodes.specs.Text.{escape_of, in_pointer, in_quotes, is_escaped, normal, normal_step, pointer}
 pub use Rattle.serde_json_path_nodes.specs.Views.{end_of, located, location_of, step_view}
 pub use Rattle.serde_json_path_nodes.specs.declared.located_node.LocatedNode.{LocatedNode}
 pub use Rattle.serde_json_path_nodes.specs.declared.path_element.PathElement.{PathElement}
