@@ -211,6 +211,7 @@ pub fn run<I: Inputs, W: Write, E: Write>(
     out: &mut W,
     err: &mut E,
 ) -> u8
+    ensures one_of { (result ≤ 3) ⊎ (result ≡ 64) }
     ensures status { ((asked : input.Request) × AsksFor (map string_bytes words.now) asked
         × IsStatusOf asked result) ⊎ (result ≡ 2) }
 {
