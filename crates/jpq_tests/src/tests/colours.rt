@@ -2,7 +2,7 @@
 
 use crate::tests::forms::form;
 use jsonpath_lines::colored;
-use serde_json_path_core_tests::rows::{Table, fields};
+use serde_json_path_core_tests::{Table, fields};
 use std::alloc::Global;
 use std::test::Fail;
 

@@ -1,8 +1,7 @@
 //! Documents that are refused: where, and why.
 
 use jsonpath_document::read_document;
-use serde_json_path_core_tests::rows::Table;
-use serde_json_path_core_tests::texts::long;
+use serde_json_path_core_tests::{Table, long};
 use std::alloc::Global;
 use std::test::Fail;
 

@@ -4,7 +4,7 @@ use jsonpath_lines::{Form, Layout, LineEnd, Output, write_nodes};
 use serde_json::Value;
 use serde_json_path::JsonPath;
 use serde_json_path::functions::Builtin;
-use serde_json_path_core_tests::rows::{Table, fields};
+use serde_json_path_core_tests::{Table, fields};
 use std::alloc::Global;
 use std::test::Fail;
 

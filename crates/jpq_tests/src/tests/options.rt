@@ -2,7 +2,7 @@
 
 use jpq_options::options::{Color, Options, Request, command, read};
 use jsonpath_lines::{Form, Layout, LineEnd};
-use serde_json_path_core_tests::rows::{Table, hold_rows};
+use serde_json_path_core_tests::{Table, hold_rows};
 use std::alloc::{AllocError, Global};
 use std::test::Fail;
 

@@ -1,7 +1,7 @@
 //! The paths in a file's text.
 
 use jpq_options::options::paths_in;
-use serde_json_path_core_tests::rows::hold_rows;
+use serde_json_path_core_tests::hold_rows;
 use std::alloc::Global;
 use std::test::Fail;
 

@@ -1,7 +1,7 @@
 //! What a person is told of a refused path.
 
 use crate::tests::inputs::run_line;
-use serde_json_path_core_tests::rows::{Table, ends, fields};
+use serde_json_path_core_tests::{Table, ends, fields};
 use std::alloc::Global;
 use std::test::Fail;
 

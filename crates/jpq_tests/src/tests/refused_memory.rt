@@ -7,7 +7,7 @@ use crate::tests::inputs::run_line;
 use crate::tests::options::{of_asked, words_of};
 use jpq_options::options::{command, paths_in, read};
 use jsonpath_document::{DocumentFault, read_document};
-use serde_json_path_core_tests::rows::{fields, hold_answers};
+use serde_json_path_core_tests::{fields, hold_answers};
 use std::alloc::Global;
 use std::test::Fail;
 

@@ -1,7 +1,7 @@
 //! What is written of documents, in each form, and the exit status.
 
 use crate::tests::inputs::run_line;
-use serde_json_path_core_tests::rows::Table;
+use serde_json_path_core_tests::Table;
 use std::alloc::Global;
 use std::test::Fail;
 

@@ -3,8 +3,7 @@
 use crate::tests::reports::READINGS;
 use jsonpath_program::report::{DocumentError, ReportError, report};
 use serde_json_path::functions::Builtin;
-use serde_json_path_core_tests::rows::{Table, holds};
-use serde_json_path_core_tests::texts::BOOKSTORE;
+use serde_json_path_core_tests::{BOOKSTORE, Table, holds};
 use std::alloc::Global;
 use std::test::Fail;
 

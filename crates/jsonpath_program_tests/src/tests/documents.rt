@@ -3,8 +3,7 @@
 use crate::tests::cuts::cut;
 use crate::tests::reports::{refusal, reported};
 use serde_json_path::functions::Builtin;
-use serde_json_path_core_tests::rows::{Table, fields, hold_rows};
-use serde_json_path_core_tests::texts::long;
+use serde_json_path_core_tests::{Table, fields, hold_rows, long};
 use std::alloc::Global;
 use std::test::Fail;
 

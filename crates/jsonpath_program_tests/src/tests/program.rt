@@ -7,7 +7,7 @@ use crate::tests::failing::{Reader, Writer};
 use jsonpath_program::report::ReportError;
 use jsonpath_program::run::{refuse, run};
 use serde_json_path::QueryError;
-use serde_json_path_core_tests::rows::{Table, holds};
+use serde_json_path_core_tests::{Table, holds};
 use std::alloc::{AllocError, Global};
 use std::io;
 use std::io::Write;

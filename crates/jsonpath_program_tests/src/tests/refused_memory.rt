@@ -8,8 +8,9 @@ use jsonpath_program::report::{DocumentError, ReportError, report};
 use serde_json::Value;
 use serde_json_path::functions::{Builtin, Functions};
 use serde_json_path::{JsonPath, ParseErrorKind, QueryError};
-use serde_json_path_core_tests::rows::{fields, hold_answers, hold_rows, holds};
-use serde_json_path_core_tests::texts::{of_calls, of_located, of_nodes, of_walk};
+use serde_json_path_core_tests::{
+    fields, hold_answers, hold_rows, holds, of_calls, of_located, of_nodes, of_walk,
+};
 use std::alloc::Global;
 use std::test::Fail;
 

@@ -3,8 +3,7 @@
 use jsonpath_lines::Form;
 use jsonpath_program::report::{report, report_in};
 use serde_json_path::functions::{Builtin, Functions, Numbers, Ruled};
-use serde_json_path_core_tests::rows::{Table, fields, hold_rows};
-use serde_json_path_core_tests::texts::{BOOKSTORE, long};
+use serde_json_path_core_tests::{BOOKSTORE, Table, fields, hold_rows, long};
 use std::alloc::{AllocError, Global};
 use std::test::Fail;
 

@@ -5,8 +5,7 @@ use crate::tests::sample_set::Samples;
 use serde_json::Value;
 use serde_json_path::JsonPath;
 use serde_json_path::functions::{Builtin, Functions};
-use serde_json_path_core_tests::rows::{Table, fields, hold_rows};
-use serde_json_path_core_tests::texts::locations;
+use serde_json_path_core_tests::{Table, fields, hold_rows, locations};
 use std::alloc::Global;
 use std::test::Fail;
 
