@@ -5,7 +5,6 @@ mod documents;
 mod failing;
 mod forms;
 mod inputs;
-mod nodes;
 mod options;
 mod paths;
 mod refusals;

@@ -1,4 +1,4 @@
-//! Reports, runs of the program and the sample functions on worked rows.
+//! Reports, also under a set, and runs of the program.
 
 mod cuts;
 mod documents;
@@ -6,5 +6,3 @@ mod failing;
 mod program;
 mod refused_memory;
 mod reports;
-mod sample_set;
-mod samples;

@@ -1,5 +1,6 @@
 //! What comes of queries and walks, as texts, and texts that are given.
 
+use crate::rows::{Called, Came};
 use serde_json_path_core::Walk;
 use serde_json_path_functions::{Functions, QueryError};
 use serde_json_path_nodes::{LocatedNode, LocatedNodeList, NodeList, Nodes};
@@ -33,8 +34,21 @@ pub fn long(
     Ok(text)
 }
 
+/// The beginning, the opening, the middle, the closing and the end of a text, in which opening and closing stand as often.
+pub type Nesting<'t> = (&'t str, &'t str, &'t str, &'t str, &'t str);
+
+/// The text in which opening and closing stand so many times.
+pub fn nested(
+    alloc: Global,
+    (beginning, opening, middle, closing, end): Nesting<'_>,
+    times: usize,
+) -> Result<String, AllocError> {
+    let opened = long(alloc, beginning, opening, times, middle)?;
+    long(alloc, opened.as_str(), closing, times, end)
+}
+
 /// The locations of nodes, with a space between them.
-pub fn locations(alloc: Global, nodes: &LocatedNodeList<'_>) -> Result<String, Fail> {
+pub fn locations(alloc: Global, nodes: &LocatedNodeList<'_>) -> Came {
     let mut text = String::new(alloc);
     for location in nodes.locations() {
         if !text.is_empty() {
@@ -46,7 +60,7 @@ pub fn locations(alloc: Global, nodes: &LocatedNodeList<'_>) -> Result<String, F
 }
 
 /// Values as compact JSON, with a space between them.
-pub fn values(alloc: Global, nodes: Nodes<'_, '_>) -> Result<String, Fail> {
+pub fn values(alloc: Global, nodes: Nodes<'_, '_>) -> Came {
     let mut text = String::new(alloc);
     for value in nodes {
         if !text.is_empty() {
@@ -58,7 +72,7 @@ pub fn values(alloc: Global, nodes: Nodes<'_, '_>) -> Result<String, Fail> {
 }
 
 /// The locations and the values of nodes, or `nothing` for none.
-pub fn located(alloc: Global, nodes: &LocatedNodeList<'_>) -> Result<String, Fail> {
+pub fn located(alloc: Global, nodes: &LocatedNodeList<'_>) -> Came {
     if nodes.is_empty() {
         return Ok(String::from_str(alloc, "nothing")?);
     }
@@ -68,10 +82,7 @@ pub fn located(alloc: Global, nodes: &LocatedNodeList<'_>) -> Result<String, Fai
 }
 
 /// The values that a query gives, or nothing where memory is refused.
-pub fn of_nodes(
-    alloc: Global,
-    answer: Result<NodeList<'_>, QueryError>,
-) -> Result<Option<String>, Fail> {
+pub fn of_nodes(alloc: Global, answer: Result<NodeList<'_>, QueryError>) -> Called {
     match answer {
         Err(QueryError::Memory) => Ok(None),
         answer => Ok(Some(values(alloc, answer?.iter())?)),
@@ -79,10 +90,7 @@ pub fn of_nodes(
 }
 
 /// The locations that a query gives, or nothing where memory is refused.
-pub fn of_located(
-    alloc: Global,
-    answer: Result<LocatedNodeList<'_>, QueryError>,
-) -> Result<Option<String>, Fail> {
+pub fn of_located(alloc: Global, answer: Result<LocatedNodeList<'_>, QueryError>) -> Called {
     match answer {
         Err(QueryError::Memory) => Ok(None),
         answer => Ok(Some(locations(alloc, &answer?)?)),
@@ -119,7 +127,7 @@ fn given<F: Functions>(alloc: Global, walk: &mut Walk<'_, '_, F>) -> Result<(Str
 pub fn of_walk<F: Functions + Drop>(
     alloc: Global,
     answer: Result<Walk<'_, '_, F>, QueryError>,
-) -> Result<Option<String>, Fail> {
+) -> Called {
     let mut walk = match answer {
         Err(QueryError::Memory) => return Ok(None),
         answer => answer?,
@@ -131,10 +139,7 @@ pub fn of_walk<F: Functions + Drop>(
 }
 
 /// The locations that a walk gives, of which a call that is refused is made again.
-pub fn of_calls<F: Functions + Drop>(
-    alloc: Global,
-    mut walk: Walk<'_, '_, F>,
-) -> Result<String, Fail> {
+pub fn of_calls<F: Functions + Drop>(alloc: Global, mut walk: Walk<'_, '_, F>) -> Came {
     match given(alloc, &mut walk)? {
         (text, true) => Ok(format!(in alloc; "{text}, after no memory")?),
         (text, false) => Ok(text),

@@ -8,7 +8,6 @@ mod compared_values;
 mod comparisons;
 mod cuts;
 mod descendants;
-mod errors;
 mod filter_refusals;
 mod filters;
 mod fitting;

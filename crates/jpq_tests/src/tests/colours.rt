@@ -2,7 +2,7 @@
 
 use crate::tests::forms::form;
 use jsonpath_lines::colored;
-use serde_json_path_core_tests::rows::{Table, fields};
+use serde_json_path_core_tests::{Came, fields, hold_rows};
 use std::alloc::Global;
 use std::test::Fail;
 
@@ -27,7 +27,7 @@ const LINES: &[&str] = &[
 ];
 
 /// A line in colours, with the short signs of the rows. The first field is its form.
-fn with_signs(alloc: Global, given: &str) -> Result<String, Fail> {
+fn with_signs(alloc: Global, given: &str) -> Came {
     let (name, line) = fields(given)?;
     let mut text = String::new(alloc);
     let line = colored(alloc, line, form(name)?)?;
@@ -45,10 +45,8 @@ fn with_signs(alloc: Global, given: &str) -> Result<String, Fail> {
 
 /// Appends a part that begins with a colour, or the first part.
 fn push_coloured(text: &mut String, part: &str) -> Result<(), Fail> {
-    match part
-        .strip_prefix("[3")
-        .and_then(|rest| rest.split_once('m'))
-    {
+    let coloured = part.strip_prefix("[3");
+    match coloured.and_then(|rest| rest.split_once('m')) {
         Some((digit, plain)) => Ok(write!(text, "<{digit}{plain}")?),
         None => Ok(text.push_str(part)?),
     }
@@ -56,7 +54,5 @@ fn push_coloured(text: &mut String, part: &str) -> Result<(), Fail> {
 
 #[test]
 fn lines_in_colours(rt: HostRuntime) -> Result<(), Fail> {
-    let mut table = Table::new(&rt);
-    table.hold_each("colours", LINES, with_signs);
-    table.end()
+    hold_rows(&rt, LINES, with_signs)
 }

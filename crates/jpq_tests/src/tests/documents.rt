@@ -1,8 +1,7 @@
 //! Documents that are refused: where, and why.
 
 use jsonpath_document::read_document;
-use serde_json_path_core_tests::rows::Table;
-use serde_json_path_core_tests::texts::long;
+use serde_json_path_core_tests::{Came, Nesting, hold_nested, hold_pairs, hold_rows};
 use std::alloc::Global;
 use std::test::Fail;
 
@@ -49,17 +48,15 @@ const LATER_BYTE: &str = "line 2, column 3: a byte that is not UTF-8";
 const FIRST_BYTE: &str = "line 1, column 1: a byte that is not UTF-8";
 
 /// What is told of bytes, or the JSON of the document that they are.
-fn told(alloc: Global, bytes: &[u8]) -> Result<String, Fail> {
+fn told(alloc: Global, bytes: &[u8]) -> Came {
     Ok(match read_document(alloc, bytes) {
         Ok(value) => value.to_string(alloc)?,
         Err(e) => format!(in alloc; "{e}")?,
     })
 }
 
-/// Whether an array of a text with brackets and of arrays within each other is read, or what is told of it.
-fn nested(alloc: Global, levels: usize) -> Result<String, Fail> {
-    let text = long(alloc, "[\"]\\\"{\",\n", "[", levels.saturating_sub(1), "0")?;
-    let text = long(alloc, text.as_str(), "]", levels, "")?;
+/// Whether a text is read, or what is told of it.
+fn outcome(alloc: Global, text: &str) -> Came {
     Ok(match read_document(alloc, text.as_bytes()) {
         Ok(_) => String::from_str(alloc, "read")?,
         Err(e) => format!(in alloc; "{e}")?,
@@ -67,15 +64,15 @@ fn nested(alloc: Global, levels: usize) -> Result<String, Fail> {
 }
 
 /// Bytes that are no document, and the number of the byte where that shows.
-const POSITIONS: &[(&str, &str)] = &[
-    ("", "1"),
-    ("[1,2", "5"),
-    ("{\"\u{e9}\":1,\n'a'}", "10"),
-    ("[\"\u{1f600}\",\n // x\n1]", "11"),
+const POSITIONS: &[&str] = &[
+    " -> 1",
+    "[1,2 -> 5",
+    "{\"\u{e9}\":1,\n'a'} -> 10",
+    "[\"\u{1f600}\",\n // x\n1] -> 11",
 ];
 
 /// The number of the byte where bytes turn out to be no document.
-fn position(alloc: Global, text: &str) -> Result<String, Fail> {
+fn position(alloc: Global, text: &str) -> Came {
     Ok(match read_document(alloc, text.as_bytes()) {
         Ok(value) => value.to_string(alloc)?,
         Err(e) => e.position.to_string(alloc)?,
@@ -84,32 +81,25 @@ fn position(alloc: Global, text: &str) -> Result<String, Fail> {
 
 #[test]
 fn tells_the_byte(rt: HostRuntime) -> Result<(), Fail> {
-    let mut table = Table::new(&rt);
-    for &(text, wanted) in POSITIONS {
-        table.hold(("positions", text, wanted), position(rt.alloc(), text));
-    }
-    table.end()
+    hold_rows(&rt, POSITIONS, position)
 }
+
+/// An array of a text with brackets and of arrays within each other.
+const ARRAYS: Nesting<'static> = ("[\"]\\\"{\",\n", "[", "0", "]", "]");
 
 #[test]
 fn takes_127_levels(rt: HostRuntime) -> Result<(), Fail> {
     let deep = "line 2, column 127: more than 127 levels of arrays and objects";
-    let mut table = Table::new(&rt);
-    table.hold(("documents", "127 levels", "read"), nested(rt.alloc(), 127));
-    table.hold(("documents", "128 levels", deep), nested(rt.alloc(), 128));
-    table.hold(("documents", "1000 levels", deep), nested(rt.alloc(), 1000));
-    table.end()
+    let rows = [
+        (ARRAYS, 126, "read"),
+        (ARRAYS, 127, deep),
+        (ARRAYS, 999, deep),
+    ];
+    hold_nested(&rt, &rows, outcome)
 }
 
 #[test]
 fn tells_what_is_no_document(rt: HostRuntime) -> Result<(), Fail> {
-    let mut table = Table::new(&rt);
-    table.hold_each("documents", REFUSED, |alloc, text| {
-        told(alloc, text.as_bytes())
-    });
-    for &(bytes, wanted) in NOT_UTF8 {
-        let given = format!(in rt.alloc(); "{bytes:?}")?;
-        table.hold(("bytes", given.as_str(), wanted), told(rt.alloc(), bytes));
-    }
-    table.end()
+    hold_rows(&rt, REFUSED, |alloc, text| told(alloc, text.as_bytes()))?;
+    hold_pairs(&rt, NOT_UTF8, told)
 }

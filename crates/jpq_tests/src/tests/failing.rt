@@ -2,10 +2,12 @@
 
 ghost use Rattle.std.specs.Prelude.{None};
 
-use crate::tests::inputs::{MemoryInputs, words};
+use crate::tests::inputs::{MemoryInputs, run_on, words};
 use jpq_program::run::run;
+use serde_json_path_core_tests::{Came, hold_rows};
 use std::alloc::Global;
 use std::io;
+use std::io::ErrorKind::{BrokenPipe, WriteZero};
 use std::io::Write;
 use std::test::Fail;
 
@@ -53,13 +55,11 @@ impl Write for Writer {
 }
 
 /// The status, what was taken and what was told of a run whose output fails at a call.
-fn run_writing(alloc: Global, fails_at: usize, kind: io::ErrorKind) -> Result<String, Fail> {
+fn run_writing(alloc: Global, call: &str, kind: io::ErrorKind) -> Came {
     let words = words(alloc, "-v  $.*  one.json  two.json")?;
-    let mut inputs = MemoryInputs {
-        standard: "",
-        fails_at: usize::MAX,
-    };
-    let mut out = Writer::new(alloc, fails_at, kind);
+    let (standard, fails_at) = ("", usize::MAX);
+    let mut inputs = MemoryInputs { standard, fails_at };
+    let mut out = Writer::new(alloc, call.parse::<usize>()?, kind);
     let mut err: Vec<u8> = Vec::new(alloc);
     let status = run(alloc, &words, false, &mut inputs, &mut out, &mut err);
     let taken = str::from_utf8(out.taken.as_slice())?;
@@ -67,53 +67,37 @@ fn run_writing(alloc: Global, fails_at: usize, kind: io::ErrorKind) -> Result<St
     Ok(format!(in alloc; "{status}: {taken:?} {told:?}")?)
 }
 
-#[test]
-fn each_write_fails(rt: HostRuntime) -> Result<(), Fail> {
-    let failed = r#""jpq: the output failed\n""#;
-    let taken = [
-        "\"\"",
-        r#""one.json\t1\n""#,
-        r#""one.json\t1\n""#,
-        r#""one.json\t1\ntwo.json\t2\n""#,
-    ];
-    for (fails_at, taken) in taken.iter().enumerate() {
-        let came = run_writing(rt.alloc(), fails_at, io::ErrorKind::WriteZero)?;
-        let wanted = format!(in rt.alloc(); "3: {taken} {failed}")?;
-        assert_eq!(rt; came.as_str(), wanted.as_str(), "call {fails_at}");
-    }
-    let came = run_writing(rt.alloc(), 4, io::ErrorKind::WriteZero)?;
-    assert_eq!(rt; came.as_str(), r#"0: "one.json\t1\ntwo.json\t2\n" """#);
-    Ok(())
-}
+/// The call of the output that fails, and what comes of the run.
+const FAILED: &[&str] = &[
+    r#"0 -> 3: "" "jpq: the output failed\n""#,
+    r#"1 -> 3: "one.json\t1\n" "jpq: the output failed\n""#,
+    r#"2 -> 3: "one.json\t1\n" "jpq: the output failed\n""#,
+    r#"3 -> 3: "one.json\t1\ntwo.json\t2\n" "jpq: the output failed\n""#,
+    r#"4 -> 0: "one.json\t1\ntwo.json\t2\n" """#,
+];
 
 #[test]
-fn a_reader_that_goes_away_ends_the_run_without_a_message(rt: HostRuntime) -> Result<(), Fail> {
-    for (fails_at, wanted) in [(0, r#"0: "" """#), (2, r#"0: "one.json\t1\n" """#)] {
-        let came = run_writing(rt.alloc(), fails_at, io::ErrorKind::BrokenPipe)?;
-        assert_eq!(rt; came.as_str(), wanted, "call {fails_at}");
-    }
-    Ok(())
+fn each_write_fails(rt: HostRuntime) -> Result<(), Fail> {
+    hold_rows(&rt, FAILED, |alloc, at| run_writing(alloc, at, WriteZero))
+}
+
+/// The same of a reader that goes away, which ends the run without a message.
+const GONE: &[&str] = &[r#"0 -> 0: "" """#, r#"2 -> 0: "one.json\t1\n" """#];
+
+#[test]
+fn a_reader_that_goes_away_ends_the_run(rt: HostRuntime) -> Result<(), Fail> {
+    hold_rows(&rt, GONE, |alloc, at| run_writing(alloc, at, BrokenPipe))
 }
 
 #[test]
 fn each_read_fails(rt: HostRuntime) -> Result<(), Fail> {
+    let wanted = "jpq: standard input: cannot be read: connection reset\n";
     for line in ["-v  $.a", "-L  -v  $.a"] {
         for fails_at in 0..2 {
-            let words = words(rt.alloc(), line)?;
-            let mut inputs = MemoryInputs {
-                standard: "{\"a\":1}",
-                fails_at,
-            };
-            let mut out: Vec<u8> = Vec::new(rt.alloc());
-            let mut err: Vec<u8> = Vec::new(rt.alloc());
-            let status = run(rt.alloc(), &words, false, &mut inputs, &mut out, &mut err);
-            let told = str::from_utf8(err.as_slice())?;
-            assert_eq!(rt; (status, out.len()), (2, 0), "{line}, call {fails_at}");
-            assert_eq!(rt;
-                told,
-                "jpq: standard input: cannot be read: connection reset\n",
-                "{line}"
-            );
+            let standard = "{\"a\":1}";
+            let ran = run_on(rt.alloc(), line, MemoryInputs { standard, fails_at })?;
+            assert!(rt; ran.status == 2 && ran.out.is_empty(), "{line}");
+            assert_eq!(rt; ran.err.as_str(), wanted, "{line}");
         }
     }
     Ok(())

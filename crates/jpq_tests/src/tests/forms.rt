@@ -1,38 +1,12 @@
-//! What is shown in each form and layout.
+//! What is shown in each form and layout, and of which nodes.
 
 use jsonpath_lines::{Form, Layout, LineEnd, Output, write_nodes};
 use serde_json::Value;
 use serde_json_path::JsonPath;
 use serde_json_path::functions::Builtin;
-use serde_json_path_core_tests::rows::{Table, fields};
+use serde_json_path_core_tests::{Came, fields, hold_rows};
 use std::alloc::Global;
 use std::test::Fail;
-
-/// A form in a layout, with line feeds, of all nodes.
-pub(crate) const fn output(form: Form, layout: Layout) -> Output {
-    Output {
-        form,
-        layout,
-        end: LineEnd::LineFeed,
-        unique: false,
-        most: None,
-    }
-}
-
-/// How many nodes of a path and a document are chosen, and what is written of them, each line after a head.
-pub(crate) fn shown(
-    alloc: Global,
-    output: &Output,
-    head: &str,
-    given: &str,
-) -> Result<String, Fail> {
-    let (path, document) = fields(given)?;
-    let path = JsonPath::parse_with(alloc, path, &Builtin)?;
-    let document = Value::from_str(alloc, document)?;
-    let walk = path.walk(alloc, &document, &Builtin)?;
-    let written = write_nodes(alloc, output, head, String::new(alloc), walk)?;
-    Ok(format!(in alloc; "{} |{}", written.count, written.text)?)
-}
 
 /// The form of this name.
 pub(crate) fn form(name: &str) -> Result<Form, Fail> {
@@ -49,14 +23,52 @@ pub(crate) fn form(name: &str) -> Result<Form, Fail> {
     }
 }
 
-/// What [`shown`] gives in a layout, in the form that the first field names.
-fn laid_out(alloc: Global, layout: Layout, given: &str) -> Result<String, Fail> {
-    let (name, given) = fields(given)?;
-    shown(alloc, &output(form(name)?, layout), "", given)
+/// The output that words tell: a form, and whether it is pretty, ends lines by U+0000, shows each location once, and how many
+/// nodes at most.
+fn output(words: &str) -> Result<Output, Fail> {
+    let mut output = Output {
+        form: Form::Nothing,
+        layout: Layout::Compact,
+        end: LineEnd::LineFeed,
+        unique: false,
+        most: None,
+    };
+    for word in words.split(", ") {
+        match word {
+            "pretty" => output.layout = Layout::Pretty,
+            "headed" => output.end = LineEnd::Nul,
+            "once" => output.unique = true,
+            _ => match word.parse::<u64>() {
+                Ok(most) => output.most = Some(most),
+                Err(_) => output.form = form(word)?,
+            },
+        }
+    }
+    Ok(output)
 }
 
-/// A form, a path, a document, how many nodes are chosen, and their lines.
-const COMPACT: &[&str] = &[
+/// How many nodes of a path and a document are chosen, and what is written of them, or why the query is refused. The first
+/// field tells the output, in which lines that end by U+0000 come after a head.
+fn shown(alloc: Global, given: &str) -> Came {
+    let (words, given) = fields(given)?;
+    let (path, document) = fields(given)?;
+    let path = JsonPath::parse_with(alloc, path, &Builtin)?;
+    let document = Value::from_str(alloc, document)?;
+    let walk = path.walk(alloc, &document, &Builtin)?;
+    let output = output(words)?;
+    let head = if output.end == LineEnd::Nul {
+        "a.json\t"
+    } else {
+        ""
+    };
+    match write_nodes(alloc, &output, head, String::new(alloc), walk) {
+        Ok(written) => Ok(format!(in alloc; "{} |{}", written.count, written.text)?),
+        Err(e) => Ok(format!(in alloc; "{e}")?),
+    }
+}
+
+/// An output, a path, a document, how many nodes are chosen, and their lines.
+const FORMS: &[&str] = &[
     "location and value ~ $ ~ null -> 1 |$\tnull\n",
     "location and value ~ $.a ~ [] -> 0 |",
     "location and value ~ $[*] ~ [false,true,-7,18446744073709551615,1.5] -> 5 |$[0]\tfalse\n$[1]\ttrue\n$[2]\t-7\n$[3]\t18446744073709551615\n$[4]\t1.5\n",
@@ -73,59 +85,45 @@ const COMPACT: &[&str] = &[
     "count ~ $[*] ~ [1,2,3] -> 3 |3\n",
     "nothing ~ $.a ~ {} -> 0 |",
     "nothing ~ $[*] ~ [1,2,3] -> 1 |",
-];
-
-/// The same in the pretty layout.
-const PRETTY: &[&str] = &[
-    "location and value ~ $[*] ~ [{\"a\":[1,null]},[]] -> 2 |$[0]\t{\n  \"a\": [\n    1,\n    null\n  ]\n}\n$[1]\t[]\n",
-    "value ~ $[*] ~ [{\"a\":{}},-1] -> 2 |{\n  \"a\": {}\n}\n-1\n",
-    "raw ~ $[*] ~ [\"a b\",[true]] -> 2 |a b\n[\n  true\n]\n",
-    "json ~ $.a ~ {} -> 0 |[]\n",
-    "json ~ $[*] ~ [{\"a\":[1.5]},\"\\n\"] -> 2 |[\n  {\n    \"path\": \"$[0]\",\n    \"value\": {\n      \"a\": [\n        1.5\n      ]\n    }\n  },\n  {\n    \"path\": \"$[1]\",\n    \"value\": \"\\n\"\n  }\n]\n",
-    "count ~ $[*] ~ [1,2,3] -> 3 |3\n",
+    "location and value, pretty ~ $[*] ~ [{\"a\":[1,null]},[]] -> 2 |$[0]\t{\n  \"a\": [\n    1,\n    null\n  ]\n}\n$[1]\t[]\n",
+    "value, pretty ~ $[*] ~ [{\"a\":{}},-1] -> 2 |{\n  \"a\": {}\n}\n-1\n",
+    "raw, pretty ~ $[*] ~ [\"a b\",[true]] -> 2 |a b\n[\n  true\n]\n",
+    "json, pretty ~ $.a ~ {} -> 0 |[]\n",
+    "json, pretty ~ $[*] ~ [{\"a\":[1.5]},\"\\n\"] -> 2 |[\n  {\n    \"path\": \"$[0]\",\n    \"value\": {\n      \"a\": [\n        1.5\n      ]\n    }\n  },\n  {\n    \"path\": \"$[1]\",\n    \"value\": \"\\n\"\n  }\n]\n",
+    "count, pretty ~ $[*] ~ [1,2,3] -> 3 |3\n",
+    "location and value, headed ~ $[*] ~ [1,2] -> 2 |a.json\t$[0]\t1\0a.json\t$[1]\t2\0",
+    "location and value, headed ~ $.a ~ [] -> 0 |",
+    "raw, headed ~ $ ~ \"x\" -> 1 |a.json\tx\0",
+    "json, headed ~ $ ~ 1 -> 1 |a.json\t[{\"path\":\"$\",\"value\":1}]\0",
+    "count, headed ~ $ ~ 1 -> 1 |a.json\t1\0",
+    "nothing, headed ~ $ ~ 1 -> 1 |",
+    // Which nodes are chosen.
+    "location ~ $[0,0,1] ~ [1,2] -> 3 |$[0]\n$[0]\n$[1]\n",
+    "location, 2 ~ $[0,0,1] ~ [1,2] -> 2 |$[0]\n$[0]\n",
+    "location, 2 ~ $[0] ~ [1] -> 1 |$[0]\n",
+    "location, 0 ~ $ ~ 1 -> 0 |",
+    "location, once ~ $[1,0,1,0] ~ [1,2] -> 2 |$[1]\n$[0]\n",
+    "location, once ~ $..* ~ [] -> 0 |",
+    "location, once, 2 ~ $[0,0,1,1,2] ~ [1,2,3] -> 2 |$[0]\n$[1]\n",
+    "location, once, 2 ~ $[0,0] ~ [1] -> 1 |$[0]\n",
+    "location, once, 0 ~ $ ~ 1 -> 0 |",
+    // Whether there is a node.
+    "nothing, 0 ~ $[*] ~ [1,2] -> 0 |",
+    "nothing, 9 ~ $[*] ~ [1,2] -> 1 |",
+    "nothing, 9 ~ $[*] ~ [] -> 0 |",
+    "nothing, once ~ $[0,0] ~ [1,2] -> 1 |",
+    "nothing, once ~ $[*] ~ [] -> 0 |",
+    // A second node, which would be refused, is not asked for beyond the last.
+    "location, 1 ~ $[?@ == 'a' || match(@, '\\\\w{1000}{10}')] ~ [\"a\",\"b\"] -> 1 |$[0]\n",
+    "count, 1 ~ $[?@ == 'a' || match(@, '\\\\w{1000}{10}')] ~ [\"a\",\"b\"] -> 1 |1\n",
+    "nothing ~ $[?@ == 'a' || match(@, '\\\\w{1000}{10}')] ~ [\"a\",\"b\"] -> 1 |",
+    "nothing, once ~ $[?@ == 'a' || match(@, '\\\\w{1000}{10}')] ~ [\"a\",\"b\"] -> 1 |",
+    "location, 0 ~ $[?@ == 'a' || match(@, '\\\\w{1000}{10}')] ~ [\"a\",\"b\"] -> 0 |",
+    // A refused query is told.
+    "location ~ $[?@ == 'a' || match(@, '\\\\w{1000}{10}')] ~ [\"a\",\"b\"] -> pattern refused",
 ];
 
 #[test]
-fn forms_in_compact_layout(rt: HostRuntime) -> Result<(), Fail> {
-    let mut table = Table::new(&rt);
-    table.hold_each("compact", COMPACT, |alloc, row| {
-        laid_out(alloc, Layout::Compact, row)
-    });
-    table.end()
-}
-
-#[test]
-fn forms_in_pretty_layout(rt: HostRuntime) -> Result<(), Fail> {
-    let mut table = Table::new(&rt);
-    table.hold_each("pretty", PRETTY, |alloc, row| {
-        laid_out(alloc, Layout::Pretty, row)
-    });
-    table.end()
-}
-
-/// The same after a head, with lines that end in U+0000.
-const HEADED: &[&str] = &[
-    "location and value ~ $[*] ~ [1,2] -> 2 |a.json\t$[0]\t1\0a.json\t$[1]\t2\0",
-    "location and value ~ $.a ~ [] -> 0 |",
-    "raw ~ $ ~ \"x\" -> 1 |a.json\tx\0",
-    "json ~ $ ~ 1 -> 1 |a.json\t[{\"path\":\"$\",\"value\":1}]\0",
-    "count ~ $ ~ 1 -> 1 |a.json\t1\0",
-    "nothing ~ $ ~ 1 -> 1 |",
-];
-
-/// What [`shown`] gives after a head, in the form that the first field names, with lines that end in U+0000.
-fn headed(alloc: Global, given: &str) -> Result<String, Fail> {
-    let (name, given) = fields(given)?;
-    let output = Output {
-        end: LineEnd::Nul,
-        ..output(form(name)?, Layout::Compact)
-    };
-    shown(alloc, &output, "a.json\t", given)
-}
-
-#[test]
-fn heads_and_ends(rt: HostRuntime) -> Result<(), Fail> {
-    let mut table = Table::new(&rt);
-    table.hold_each("headed", HEADED, headed);
-    table.end()
+fn forms_and_layouts(rt: HostRuntime) -> Result<(), Fail> {
+    hold_rows(&rt, FORMS, shown)
 }

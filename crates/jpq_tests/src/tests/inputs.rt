@@ -24,12 +24,7 @@ const FILES: &[(&str, &str)] = &[
 
 /// The text of a file, if there is one of that name.
 fn file(name: &str) -> Option<&'static str> {
-    for &(file, text) in FILES {
-        if file == name {
-            return Some(text);
-        }
-    }
-    None
+    FILES.iter().find(|file| file.0 == name).map(|file| file.1)
 }
 
 /// A reader of bytes that fails at one of its calls.
@@ -65,21 +60,16 @@ impl<'a> Inputs for MemoryInputs<'a> {
     type Input = MemoryInput<'a>;
 
     fn open(&mut self, name: &str) -> io::Result<MemoryInput<'a>> {
-        if name == "-" {
-            return Ok(MemoryInput {
-                left: self.standard.as_bytes(),
-                calls: 0,
-                fails_at: self.fails_at,
-            });
-        }
-        match file(name) {
-            Some(text) => Ok(MemoryInput {
-                left: text.as_bytes(),
-                calls: 0,
-                fails_at: self.fails_at,
-            }),
-            None => Err(io::Error::from(io::ErrorKind::NotFound)),
-        }
+        let text: &'a str = match file(name) {
+            Some(text) => text,
+            None if name == "-" => self.standard,
+            None => return Err(io::Error::from(io::ErrorKind::NotFound)),
+        };
+        Ok(MemoryInput {
+            left: text.as_bytes(),
+            calls: 0,
+            fails_at: self.fails_at,
+        })
     }
 }
 
@@ -103,11 +93,13 @@ pub(crate) struct Ran {
 
 /// Runs a command line on a text as standard input.
 pub(crate) fn run_line(alloc: Global, line: &str, standard: &str) -> Result<Ran, Fail> {
+    let fails_at = usize::MAX;
+    run_on(alloc, line, MemoryInputs { standard, fails_at })
+}
+
+/// Runs a command line on inputs.
+pub(crate) fn run_on(alloc: Global, line: &str, mut inputs: MemoryInputs<'_>) -> Result<Ran, Fail> {
     let words = words(alloc, line)?;
-    let mut inputs = MemoryInputs {
-        standard,
-        fails_at: usize::MAX,
-    };
     // With room for all that is written, so that each request of the run is one of the program.
     let mut out: Vec<u8> = Vec::with_capacity(alloc, 16_384)?;
     let mut err: Vec<u8> = Vec::with_capacity(alloc, 16_384)?;

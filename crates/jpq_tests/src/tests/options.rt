@@ -2,7 +2,7 @@
 
 use jpq_options::options::{Color, Options, Request, command, read};
 use jsonpath_lines::{Form, Layout, LineEnd};
-use serde_json_path_core_tests::rows::{Table, hold_rows};
+use serde_json_path_core_tests::{Came, hold_pairs, hold_row, hold_rows};
 use std::alloc::{AllocError, Global};
 use std::test::Fail;
 
@@ -112,14 +112,6 @@ const HELP: &str = concat!(
     "was refused, 3 the output failed, 64 wrong use\n"
 );
 
-/// Appends a text where it holds.
-fn push_where(text: &mut String, is_so: bool, what: &str) -> Result<(), AllocError> {
-    if is_so {
-        text.push_str(what)?;
-    }
-    Ok(())
-}
-
 /// Some words, each after a title but for the first word, which may be without.
 fn joined(alloc: Global, first: &str, title: &str, words: &[&str]) -> Result<String, AllocError> {
     let mut text = String::new(alloc);
@@ -142,14 +134,20 @@ fn settings(alloc: Global, options: &Options<'_>) -> Result<String, AllocError> 
     if options.color != Color::Auto {
         write!(&mut text, ", colors {:?}", options.color)?;
     }
-    push_where(&mut text, options.layout == Layout::Pretty, ", pretty")?;
-    push_where(&mut text, options.end == LineEnd::Nul, ", NUL")?;
-    push_where(&mut text, options.unique, ", unique")?;
-    push_where(&mut text, options.lines, ", lines")?;
-    push_where(&mut text, options.strict, ", strict")?;
-    push_where(&mut text, options.check, ", check")?;
-    push_where(&mut text, options.whole_numbers, ", whole numbers")?;
-    push_where(&mut text, options.silent, ", silent")?;
+    for (is_so, word) in [
+        (options.layout == Layout::Pretty, "pretty"),
+        (options.end == LineEnd::Nul, "NUL"),
+        (options.unique, "unique"),
+        (options.lines, "lines"),
+        (options.strict, "strict"),
+        (options.check, "check"),
+        (options.whole_numbers, "whole numbers"),
+        (options.silent, "silent"),
+    ] {
+        if is_so {
+            write!(&mut text, ", {word}")?;
+        }
+    }
     Ok(text)
 }
 
@@ -185,51 +183,32 @@ pub(crate) fn words_of(alloc: Global, given: &str) -> Result<Vec<&str>, Fail> {
 }
 
 /// What words ask for.
-fn of_words(alloc: Global, words: &[&str]) -> Result<String, Fail> {
+fn of_words(alloc: Global, words: &[&str]) -> Came {
     Ok(of_asked(alloc, read(alloc, words)?)?)
 }
 
 /// What the words of a row ask for.
-fn asked(alloc: Global, given: &str) -> Result<String, Fail> {
+fn asked(alloc: Global, given: &str) -> Came {
     of_words(alloc, words_of(alloc, given)?.as_slice())
 }
 
 #[test]
-fn asks_for_options(rt: HostRuntime) -> Result<(), Fail> {
-    hold_rows(&rt, ASKED, asked)
-}
-
-#[test]
-fn tells_wrong_use(rt: HostRuntime) -> Result<(), Fail> {
+fn asks_for_options_or_tells_wrong_use(rt: HostRuntime) -> Result<(), Fail> {
+    hold_rows(&rt, ASKED, asked)?;
     hold_rows(&rt, WRONG, asked)
 }
 
-#[test]
-fn has_help(rt: HostRuntime) -> Result<(), Fail> {
-    let mut table = Table::new(&rt);
-    let mut command = command(rt.alloc())?;
-    table.hold(("jpq", "its help", HELP), Ok(command.render_help()?));
-    table.end()
-}
+/// Words, and what they print.
+const PRINTED: &[(&[&str], &str)] = &[
+    (&["jpq", "--help"], HELP),
+    (&["/usr/bin/jpq", "-h"], HELP),
+    (&["jpq", "-V"], "jpq 0.7.2\n"),
+    (&["jpq", "--version"], "jpq 0.7.2\n"),
+];
 
 #[test]
 fn prints_help(rt: HostRuntime) -> Result<(), Fail> {
-    let mut table = Table::new(&rt);
-    table.hold(
-        ("jpq", "--help", HELP),
-        of_words(rt.alloc(), &["jpq", "--help"]),
-    );
-    table.hold(
-        ("jpq", "-h", HELP),
-        of_words(rt.alloc(), &["/usr/bin/jpq", "-h"]),
-    );
-    table.hold(
-        ("jpq", "-V", "jpq 0.7.2\n"),
-        of_words(rt.alloc(), &["jpq", "-V"]),
-    );
-    table.hold(
-        ("jpq", "--version", "jpq 0.7.2\n"),
-        of_words(rt.alloc(), &["jpq", "--version"]),
-    );
-    table.end()
+    let help = command(rt.alloc())?.render_help()?;
+    hold_row(&rt, ("jpq", "its help", HELP), Ok(help))?;
+    hold_pairs(&rt, PRINTED, of_words)
 }

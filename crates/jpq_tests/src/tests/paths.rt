@@ -1,7 +1,7 @@
 //! The paths in a file's text.
 
 use jpq_options::options::paths_in;
-use serde_json_path_core_tests::rows::hold_rows;
+use serde_json_path_core_tests::{Came, hold_rows};
 use std::alloc::Global;
 use std::test::Fail;
 
@@ -20,7 +20,7 @@ const PATHS: &[&str] = &[
 ];
 
 /// The paths in a text.
-fn found(alloc: Global, given: &str) -> Result<String, Fail> {
+fn found(alloc: Global, given: &str) -> Came {
     let mut text = String::new(alloc);
     for path in &paths_in(alloc, given)? {
         write!(&mut text, "<{path}>")?;

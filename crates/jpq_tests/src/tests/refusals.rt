@@ -1,7 +1,7 @@
 //! What a person is told of a refused path.
 
 use crate::tests::inputs::run_line;
-use serde_json_path_core_tests::rows::{Table, ends, fields};
+use serde_json_path_core_tests::{Came, Table, ends, fields, hold_rows};
 use std::alloc::Global;
 use std::test::Fail;
 
@@ -34,7 +34,7 @@ const REFUSALS: &[&str] = &[
 ];
 
 /// What is told of a refused path. Fails where its status is not 2, or something is written.
-fn told(alloc: Global, path: &str) -> Result<String, Fail> {
+fn told(alloc: Global, path: &str) -> Came {
     let ran = run_line(alloc, path, "null")?;
     if ran.status != 2 || !ran.out.is_empty() {
         return Err(Fail::new(format_args!("status {}, written {}", ran.status, ran.out)));
@@ -44,7 +44,7 @@ fn told(alloc: Global, path: &str) -> Result<String, Fail> {
 
 /// What is told of a refused path, whole: the byte of the caret, what is wrong there, and what was probably meant are told
 /// in lines of their own.
-fn whole(alloc: Global, path: &str, parts: &str) -> Result<String, Fail> {
+fn whole(alloc: Global, path: &str, parts: &str) -> Came {
     let (place, parts) = fields(parts)?;
     let (wrong, meant) = fields(parts)?;
     let bytes = place.parse::<usize>()?.saturating_sub(1);
@@ -67,31 +67,13 @@ fn shows_where_a_path_is_refused(rt: HostRuntime) -> Result<(), Fail> {
 
 /// The path, and what is told, whole: wide and combining characters, a tab, a line feed, a long path.
 const SHOWN: &[&str] = &[
-    "$['日本' x] -> jpq: the path is refused at byte 12: expected closing ']', found 'x'
-  $['日本' x]
-           ^
-  write `'it\\'s'`: a quote in a string follows `\\`
-",
-    "$['e\u{301}' x] -> jpq: the path is refused at byte 9: expected closing ']', found 'x'
-  $['e\u{301}' x]
-        ^
-  write `'it\\'s'`: a quote in a string follows `\\`
-",
-    "$['a'\t\n x] -> jpq: the path is refused at byte 9: expected closing ']', found 'x'
-  $['a'\t\\n x]
-       \t   ^
-  write `'it\\'s'`: a quote in a string follows `\\`
-",
-    "$.aaaaaaaaaabbbbbbbbbbccccccccccddddddddddeeeeeeeeeeffffffffffgggggggggg;12345678901234567890123456789012345678901234567890 -> jpq: the path is refused at byte 73: the path ends before this, found ';'
-  ...bbbbbbbbbbccccccccccddddddddddeeeeeeeeeeffffffffffgggggggggg;123456789012345678901234567890123456789...
-                                                                 ^
-  no `;` after a path
-",
+    "$['日本' x] -> jpq: the path is refused at byte 12: expected closing ']', found 'x'\n  $['日本' x]\n           ^\n  write `'it\\'s'`: a quote in a string follows `\\`\n",
+    "$['e\u{301}' x] -> jpq: the path is refused at byte 9: expected closing ']', found 'x'\n  $['e\u{301}' x]\n        ^\n  write `'it\\'s'`: a quote in a string follows `\\`\n",
+    "$['a'\t\n x] -> jpq: the path is refused at byte 9: expected closing ']', found 'x'\n  $['a'\t\\n x]\n       \t   ^\n  write `'it\\'s'`: a quote in a string follows `\\`\n",
+    "$.aaaaaaaaaabbbbbbbbbbccccccccccddddddddddeeeeeeeeeeffffffffffgggggggggg;12345678901234567890123456789012345678901234567890 -> jpq: the path is refused at byte 73: the path ends before this, found ';'\n  ...bbbbbbbbbbccccccccccddddddddddeeeeeeeeeeffffffffffgggggggggg;123456789012345678901234567890123456789...\n                                                                 ^\n  no `;` after a path\n",
 ];
 
 #[test]
 fn shows_wide_characters_tabs_and_long_paths(rt: HostRuntime) -> Result<(), Fail> {
-    let mut table = Table::new(&rt);
-    table.hold_each("a refusal", SHOWN, told);
-    table.end()
+    hold_rows(&rt, SHOWN, told)
 }

@@ -7,20 +7,18 @@ use crate::tests::inputs::run_line;
 use crate::tests::options::{of_asked, words_of};
 use jpq_options::options::{command, paths_in, read};
 use jsonpath_document::{DocumentFault, read_document};
-use serde_json_path_core_tests::rows::{fields, hold_answers};
+use serde_json_path_core_tests::{Called, fields, hold_answers};
 use std::alloc::Global;
 use std::test::Fail;
 
 /// The words after the program's name, and what they ask for.
-const WORDS: &[&str] = &["-v -n 3 $.a x.json y.json -> $.a, of x.json, of y.json, Value, most 3"];
-
-/// The same of wrong use.
-const WRONG: &[&str] = &[
+const WORDS: &[&str] = &[
+    "-v -n 3 $.a x.json y.json -> $.a, of x.json, of y.json, Value, most 3",
     "-v -l $.a -> ArgumentConflict: error: the argument '--values' cannot be used with '--locations'",
 ];
 
 /// What the words of a row ask for, or nothing where memory is refused.
-fn asked(alloc: Global, given: &str) -> Result<Option<String>, Fail> {
+fn asked(alloc: Global, given: &str) -> Called {
     let words = words_of(alloc, given)?;
     match read(alloc, words.as_slice()) {
         Ok(asked) => Ok(Some(of_asked(alloc, asked)?)),
@@ -31,11 +29,6 @@ fn asked(alloc: Global, given: &str) -> Result<Option<String>, Fail> {
 #[test]
 fn read_words(rt: HostRuntime) -> Result<(), Fail> {
     hold_answers(&rt, WORDS, asked)
-}
-
-#[test]
-fn read_wrong_use(rt: HostRuntime) -> Result<(), Fail> {
-    hold_answers(&rt, WRONG, asked)
 }
 
 /// The version that the command prints.
@@ -77,9 +70,8 @@ fn read_documents(rt: HostRuntime) -> Result<(), Fail> {
     })
 }
 
-/// What a run writes and tells, after its status, or nothing where it tells of memory. A row has the words, with two blanks
-/// between them, and standard input.
-fn answered(alloc: Global, given: &str) -> Result<Option<String>, Fail> {
+/// What a run writes and tells, after its status, or nothing where it tells of memory.
+fn answered(alloc: Global, given: &str) -> Called {
     let (line, standard) = fields(given)?;
     let ran = run_line(alloc, line, standard)?;
     if ran.err.contains("memory") {
@@ -88,36 +80,16 @@ fn answered(alloc: Global, given: &str) -> Result<Option<String>, Fail> {
     Ok(Some(format!(in alloc; "{}: {}{}", ran.status, ran.out, ran.err)?))
 }
 
-#[test]
-fn run_of_lines(rt: HostRuntime) -> Result<(), Fail> {
-    let row = "$..b[?@ > 1.5] ~ {\"a\":{\"b\":[1,2]}} -> 0: $['a']['b'][1]\t2\n";
-    hold_answers(&rt, &[row], answered)
-}
+/// The words, with two blanks between them, and standard input, and the status, what is written and what is told.
+const RUNS: &[&str] = &[
+    "$..b[?@ > 1.5] ~ {\"a\":{\"b\":[1,2]}} -> 0: $['a']['b'][1]\t2\n",
+    "-j  --pretty  -u  $[0,0] ~ [\"a\"] -> 0: [\n  {\n    \"path\": \"$[0]\",\n    \"value\": \"a\"\n  }\n]\n",
+    "-L  --color=always  -v  -e  $.a  -e  $.b ~ {\"a\":1}\n{\"b\":2} -> 0: 1\t\u{1b}[36m1\u{1b}[0m\n2\t\u{1b}[36m2\u{1b}[0m\n",
+    "$[?@.price = 10] ~ null -> 2: jpq: the path is refused at byte 12: expected closing ']', found '='\n  $[?@.price = 10]\n             ^\n  equality is written ==\n",
+    "-c  --whole-numbers  $[?@ == 1] ~ [1,1.5] -> 0: 1\njpq: 1 number that was compared is not held as an integer: it equals nothing and is not ordered\n",
+];
 
 #[test]
-fn run_of_an_array(rt: HostRuntime) -> Result<(), Fail> {
-    let row =
-        "-j  --pretty  -u  $[0,0] ~ [\"a\"] -> 0: [\n  {\n    \"path\": \"$[0]\",\n    \"value\": \"a\"\n  }\n]\n";
-    hold_answers(&rt, &[row], answered)
-}
-
-#[test]
-fn run_of_documents_in_lines(rt: HostRuntime) -> Result<(), Fail> {
-    let row =
-        "-L  --color=always  -v  -e  $.a  -e  $.b ~ {\"a\":1}\n{\"b\":2} -> 0: 1\t\u{1b}[36m1\u{1b}[0m\n2\t\u{1b}[36m2\u{1b}[0m\n";
-    hold_answers(&rt, &[row], answered)
-}
-
-#[test]
-fn run_of_a_refused_path(rt: HostRuntime) -> Result<(), Fail> {
-    let row =
-        "$[?@.price = 10] ~ null -> 2: jpq: the path is refused at byte 12: expected closing ']', found '='\n  $[?@.price = 10]\n             ^\n  equality is written ==\n";
-    hold_answers(&rt, &[row], answered)
-}
-
-#[test]
-fn run_of_counted_numbers(rt: HostRuntime) -> Result<(), Fail> {
-    let row =
-        "-c  --whole-numbers  $[?@ == 1] ~ [1,1.5] -> 0: 1\njpq: 1 number that was compared is not held as an integer: it equals nothing and is not ordered\n";
-    hold_answers(&rt, &[row], answered)
+fn run_of_words(rt: HostRuntime) -> Result<(), Fail> {
+    hold_answers(&rt, RUNS, answered)
 }

@@ -1,7 +1,7 @@
 //! What is written of documents, in each form, and the exit status.
 
 use crate::tests::inputs::run_line;
-use serde_json_path_core_tests::rows::Table;
+use serde_json_path_core_tests::{Came, hold_rows};
 use std::alloc::Global;
 use std::test::Fail;
 
@@ -78,7 +78,7 @@ const NOT_HELD: &str =
     " that were compared are not held as integers: they equal nothing and are not ordered";
 
 /// The status and what is written, and what is told, if anything is, as in a row.
-fn of_run(alloc: Global, given: &str) -> Result<String, Fail> {
+fn of_run(alloc: Global, given: &str) -> Came {
     let (line, standard) = given.split_once(" ~ ").unwrap_or((given, ""));
     let ran = run_line(alloc, line, standard)?;
     let before = if ran.err.is_empty() { "" } else { ", told " };
@@ -88,15 +88,7 @@ fn of_run(alloc: Global, given: &str) -> Result<String, Fail> {
 }
 
 #[test]
-fn writes_what_is_selected(rt: HostRuntime) -> Result<(), Fail> {
-    let mut table = Table::new(&rt);
-    table.hold_each("runs", RUNS, of_run);
-    table.end()
-}
-
-#[test]
-fn tells_what_is_refused(rt: HostRuntime) -> Result<(), Fail> {
-    let mut table = Table::new(&rt);
-    table.hold_each("runs", TOLD, of_run);
-    table.end()
+fn writes_what_is_selected_and_tells_what_is_refused(rt: HostRuntime) -> Result<(), Fail> {
+    hold_rows(&rt, RUNS, of_run)?;
+    hold_rows(&rt, TOLD, of_run)
 }

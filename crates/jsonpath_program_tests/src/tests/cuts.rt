@@ -3,8 +3,7 @@
 use crate::tests::reports::READINGS;
 use jsonpath_program::report::{DocumentError, ReportError, report};
 use serde_json_path::functions::Builtin;
-use serde_json_path_core_tests::rows::{Table, holds};
-use serde_json_path_core_tests::texts::BOOKSTORE;
+use serde_json_path_core_tests::{BOOKSTORE, Came, Table, holds};
 use std::alloc::Global;
 use std::test::Fail;
 
@@ -52,7 +51,7 @@ fn is_line_or_no_json(alloc: Global, document: &[u8]) -> Result<(), Fail> {
 }
 
 /// Reports on each beginning of a document.
-pub(crate) fn cut(alloc: Global, document: &[u8]) -> Result<String, Fail> {
+pub(crate) fn cut(alloc: Global, document: &[u8]) -> Came {
     for end in 0..document.len() + 1 {
         if let Some(start) = document.get(..end) {
             is_line_or_no_json(alloc, start)?;

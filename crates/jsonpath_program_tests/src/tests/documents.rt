@@ -3,8 +3,7 @@
 use crate::tests::cuts::cut;
 use crate::tests::reports::{refusal, reported};
 use serde_json_path::functions::Builtin;
-use serde_json_path_core_tests::rows::{Table, fields, hold_rows};
-use serde_json_path_core_tests::texts::long;
+use serde_json_path_core_tests::{Came, fields, hold_row, hold_rows, long};
 use std::alloc::Global;
 use std::test::Fail;
 
@@ -42,13 +41,11 @@ const NO_JSON: &[&[u8]] = &[
 
 #[test]
 fn refuses_what_is_no_json(rt: HostRuntime) -> Result<(), Fail> {
-    let mut table = Table::new(&rt);
     for &document in NO_JSON {
-        let given = format!(in rt.alloc(); "{document:?}")?;
-        let came = refusal(rt.alloc(), "$", document);
-        table.hold(("documents", given.as_str(), "not JSON"), came);
+        let came = refusal(rt.alloc(), "$", document)?;
+        assert_eq!(rt; came.as_str(), "not JSON", "{document:?}");
     }
-    table.end()
+    Ok(())
 }
 
 /// A path, a document, and the lines of their report.
@@ -67,10 +64,10 @@ const UNUSUAL: &[&str] = &[
 ];
 
 /// The report of a row's path and document, which is cut at each byte.
-fn cut_and_reported(alloc: Global, given: &str) -> Result<String, Fail> {
-    let (path, document) = fields(given)?;
-    let _cut = cut(alloc, document.as_bytes())?;
-    reported(alloc, &Builtin, path, document)
+fn cut_and_reported(alloc: Global, given: &str) -> Came {
+    let row = fields(given)?;
+    cut(alloc, row.1.as_bytes())?;
+    reported(alloc, &Builtin, row)
 }
 
 #[test]
@@ -82,8 +79,6 @@ fn reports_unusual_names_and_texts(rt: HostRuntime) -> Result<(), Fail> {
 fn reports_a_million_letters(rt: HostRuntime) -> Result<(), Fail> {
     let document = long(rt.alloc(), "[\"", "abcdefghij", 100_000, "\"]")?;
     let lines = long(rt.alloc(), "$[0]\t\"", "abcdefghij", 100_000, "\"\n")?;
-    let came = reported(rt.alloc(), &Builtin, "$[0]", document.as_str());
-    let mut table = Table::new(&rt);
-    table.hold((document.as_str(), "$[0]", lines.as_str()), came);
-    table.end()
+    let came = reported(rt.alloc(), &Builtin, ("$[0]", document.as_str()));
+    hold_row(&rt, ("a million letters", "$[0]", lines.as_str()), came)
 }

@@ -4,10 +4,10 @@ ghost use Rattle.std.specs.Prelude.{Some, None};
 
 use crate::tests::program::{words, wrote};
 use jsonpath_program::run::run;
+use serde_json_path_core_tests::holds;
 use std::alloc::Global;
 use std::io;
 use std::io::{Read, Write};
-use std::process::Abort;
 use std::test::Fail;
 
 /// A reader that gives one byte at a time, is interrupted before each, and fails at one of its calls.
@@ -67,9 +67,12 @@ impl Writer {
         }
     }
 
-    /// Whether the call of that number fails.
-    fn fails(&self, call: usize) -> bool {
-        call == self.fails_at || (call > self.fails_at && !self.recovers)
+    /// Fails at the call of that number, if it is one that fails.
+    fn fail(&self, call: usize) -> io::Result<()> {
+        if call == self.fails_at || (call > self.fails_at && !self.recovers) {
+            return Err(io::Error::from(io::ErrorKind::BrokenPipe));
+        }
+        Ok(())
     }
 }
 
@@ -79,9 +82,7 @@ impl Write for Writer {
     fn write(&mut self, buf: &[u8]) -> io::Result<usize> {
         let call = self.calls;
         self.calls = call.saturating_add(1);
-        if self.fails(call) {
-            return Err(io::Error::from(io::ErrorKind::BrokenPipe));
-        }
+        self.fail(call)?;
         if call % 2 == 0 {
             return Err(io::Error::from(io::ErrorKind::Interrupted));
         }
@@ -94,20 +95,12 @@ impl Write for Writer {
     fn flush(&mut self) -> io::Result<()> {
         let call = self.calls;
         self.calls = call.saturating_add(1);
-        if self.fails(call) {
-            return Err(io::Error::from(io::ErrorKind::BrokenPipe));
-        }
-        Ok(())
+        self.fail(call)
     }
 }
 
 /// The status of a run whose reader fails at a call, and whether that call was made. What is said is held to the status.
-fn run_reading(
-    rt: &impl Abort,
-    alloc: Global,
-    path: &str,
-    fails_at: usize,
-) -> Result<(u8, bool), Fail> {
+fn run_reading(alloc: Global, path: &str, fails_at: usize) -> Result<(u8, bool), Fail> {
     let words = words(alloc, &[path])?;
     let mut input = Reader::new(b"[1, 2]", fails_at);
     let mut out = Vec::new(alloc);
@@ -118,8 +111,8 @@ fn run_reading(
         1 => ("", "jsonpath: path: at position 1, expected '$'\n"),
         _ => ("", "jsonpath: document: cannot be read\n"),
     };
-    wrote(rt, out.as_slice(), lines);
-    wrote(rt, err.as_slice(), told);
+    wrote(out.as_slice(), lines)?;
+    wrote(err.as_slice(), told)?;
     Ok((status, input.calls > fails_at))
 }
 
@@ -127,7 +120,7 @@ fn run_reading(
 fn each_read_fails(rt: HostRuntime) -> Result<(), Fail> {
     for (path, done) in [("$[1]", 0), ("x", 1)] {
         for fails_at in 0..20 {
-            let (status, was_called) = run_reading(&rt, rt.alloc(), path, fails_at)?;
+            let (status, was_called) = run_reading(rt.alloc(), path, fails_at)?;
             let wanted = if was_called { 2 } else { done };
             assert_eq!(rt; status, wanted, "{path}, call {fails_at}");
             assert!(rt; was_called || fails_at > 12);
@@ -137,14 +130,13 @@ fn each_read_fails(rt: HostRuntime) -> Result<(), Fail> {
 }
 
 /// Holds what a writer took that failed at a call to the beginning of a text that ends with a flush.
-fn holds_taken(rt: &impl Abort, writer: &Writer, text: &str) {
+fn holds_taken(writer: &Writer, text: &str) -> Result<(), Fail> {
     let taken = text.get(..text.len().min(writer.fails_at / 2));
-    wrote(rt, writer.taken.as_slice(), taken.unwrap_or(text));
+    wrote(writer.taken.as_slice(), taken.unwrap_or(text))
 }
 
 /// Holds a run whose two writers fail at a call each to what they took, and returns its status.
 fn run_writing(
-    rt: &impl Abort,
     alloc: Global,
     (path, document): (&str, &str),
     (lines, mut out): (&str, Writer),
@@ -153,27 +145,21 @@ fn run_writing(
     let words = words(alloc, &[path])?;
     let mut input = document.as_bytes();
     let status = run(alloc, &words, &mut input, &mut out, &mut err);
-    holds_taken(rt, &out, lines);
-    holds_taken(rt, &err, told);
+    holds_taken(&out, lines)?;
+    holds_taken(&err, told)?;
     Ok(status)
 }
 
-/// Holds a run to its status whose output, of four bytes, fails at a call: these take eight calls, and the flush is the ninth.
-fn fails_to_write(
-    rt: &impl Abort,
-    alloc: Global,
-    fails_at: usize,
-    recovers: bool,
-) -> Result<(), Fail> {
-    let (told, wanted) = match fails_at < 9 {
-        true => ("jsonpath: output failed\n", 3),
-        false => ("", 0),
-    };
+/// Fails where a run has another status whose output, of four bytes, fails at a call: these take eight calls, and the flush is
+/// the ninth.
+fn fails_to_write(alloc: Global, fails_at: usize, recovers: bool) -> Result<(), Fail> {
+    let failed = ("jsonpath: output failed\n", 3);
+    let (told, wanted) = if fails_at < 9 { failed } else { ("", 0) };
     for err_fails_at in [fails_at, 1000] {
         let out = ("$\t1\n", Writer::new(alloc, fails_at, recovers));
         let err = (told, Writer::new(alloc, err_fails_at, recovers));
-        let status = run_writing(rt, alloc, ("$", "1"), out, err)?;
-        assert_eq!(rt; status, wanted, "call {fails_at}");
+        let status = run_writing(alloc, ("$", "1"), out, err)?;
+        holds(status == wanted, "another status")?;
     }
     Ok(())
 }
@@ -181,8 +167,8 @@ fn fails_to_write(
 #[test]
 fn each_write_fails(rt: HostRuntime) -> Result<(), Fail> {
     for fails_at in 0..12 {
-        fails_to_write(&rt, rt.alloc(), fails_at, true)?;
-        fails_to_write(&rt, rt.alloc(), fails_at, false)?;
+        fails_to_write(rt.alloc(), fails_at, true)?;
+        fails_to_write(rt.alloc(), fails_at, false)?;
     }
     Ok(())
 }
@@ -199,7 +185,7 @@ fn each_write_of_a_refusal_fails(rt: HostRuntime) -> Result<(), Fail> {
         for fails_at in 0..100 {
             let out = ("", Writer::new(rt.alloc(), 1000, true));
             let err = (told, Writer::new(rt.alloc(), fails_at, true));
-            let status = run_writing(&rt, rt.alloc(), (path, document), out, err)?;
+            let status = run_writing(rt.alloc(), (path, document), out, err)?;
             assert_eq!(rt; status, wanted, "{path}, call {fails_at}");
         }
     }
@@ -213,7 +199,7 @@ fn a_pattern_is_refused(rt: HostRuntime) -> Result<(), Fail> {
         let out = ("", Writer::new(rt.alloc(), 1000, true));
         let told = "jsonpath: query: pattern refused\n";
         let err = (told, Writer::new(rt.alloc(), fails_at, true));
-        assert_eq!(rt; run_writing(&rt, rt.alloc(), run, out, err)?, 3);
+        assert_eq!(rt; run_writing(rt.alloc(), run, out, err)?, 3);
     }
     Ok(())
 }

@@ -7,11 +7,10 @@ use crate::tests::failing::{Reader, Writer};
 use jsonpath_program::report::ReportError;
 use jsonpath_program::run::{refuse, run};
 use serde_json_path::QueryError;
-use serde_json_path_core_tests::rows::{Table, holds};
+use serde_json_path_core_tests::{Came, hold_pairs, holds};
 use std::alloc::{AllocError, Global};
 use std::io;
 use std::io::Write;
-use std::process::Abort;
 use std::test::Fail;
 
 /// A writer that has room for so many bytes, and takes none once it is full.
@@ -34,6 +33,7 @@ impl Write for Full {
     }
 }
 
+/// The words of a command line.
 pub(crate) fn words(alloc: Global, of: &[&str]) -> Result<Vec<String>, AllocError> {
     let mut words = Vec::new(alloc);
     for word in of {
@@ -42,23 +42,23 @@ pub(crate) fn words(alloc: Global, of: &[&str]) -> Result<Vec<String>, AllocErro
     Ok(words)
 }
 
-/// Asserts what was written.
-pub(crate) fn wrote(rt: &impl Abort, written: &[u8], wanted: &str) {
-    assert_eq!(rt; written, wanted.as_bytes());
+/// Fails where another text was written.
+pub(crate) fn wrote(written: &[u8], wanted: &str) -> Result<(), Fail> {
+    holds(written == wanted.as_bytes(), wanted)
 }
 
-/// The words, the input, and the status and the texts on the output and on the output of errors.
-const RUNS: &[(&[&str], &str, &str)] = &[
-    (&["$.a"], r#"{"a":[1]}"#, "0, $['a']\t[1]\n, "),
-    (&["$['a','a']"], r#"{"a":[1]}"#, TWICE),
-    (&["$.b"], r#"{"a":[1]}"#, "0, , "),
-    (&["$"], "null", "0, $\tnull\n, "),
-    (&["$.a"], "{", "2, , jsonpath: document: not JSON\n"),
-    (&["$"], "1 2", "2, , jsonpath: document: not JSON\n"),
-    (&["x"], "{", NO_ROOT),
-    (&[""], "null", NO_ROOT),
-    (&[], "null", "64, , usage: jsonpath PATH\n"),
-    (&["$", "$"], "null", "64, , usage: jsonpath PATH\n"),
+/// The words and the input, and the status and the texts on the output and on the output of errors.
+const RUNS: &[((&[&str], &str), &str)] = &[
+    ((&["$.a"], r#"{"a":[1]}"#), "0, $['a']\t[1]\n, "),
+    ((&["$['a','a']"], r#"{"a":[1]}"#), TWICE),
+    ((&["$.b"], r#"{"a":[1]}"#), "0, , "),
+    ((&["$"], "null"), "0, $\tnull\n, "),
+    ((&["$.a"], "{"), "2, , jsonpath: document: not JSON\n"),
+    ((&["$"], "1 2"), "2, , jsonpath: document: not JSON\n"),
+    ((&["x"], "{"), NO_ROOT),
+    ((&[""], "null"), NO_ROOT),
+    ((&[], "null"), "64, , usage: jsonpath PATH\n"),
+    ((&["$", "$"], "null"), "64, , usage: jsonpath PATH\n"),
 ];
 
 const TWICE: &str = "0, $['a']\t[1]\n$['a']\t[1]\n, ";
@@ -66,11 +66,12 @@ const TWICE: &str = "0, $['a']\t[1]\n$['a']\t[1]\n, ";
 const NO_ROOT: &str = "1, , jsonpath: path: at position 1, expected '$'\n";
 
 /// The status and the texts of a run. Fails where it reads its input and words are wrong, or does not and they are right.
-fn ran(alloc: Global, words: &[String], document: &str) -> Result<String, Fail> {
+fn ran(alloc: Global, (given, document): (&[&str], &str)) -> Came {
+    let words = words(alloc, given)?;
     let mut input = Reader::new(document.as_bytes(), usize::MAX);
     let mut out = Vec::new(alloc);
     let mut err = Vec::new(alloc);
-    let status = run(alloc, words, &mut input, &mut out, &mut err);
+    let status = run(alloc, &words, &mut input, &mut out, &mut err);
     holds((input.calls == 0) == (status == 64), "the input is read")?;
     let out = str::from_utf8(out.as_slice())?;
     let err = str::from_utf8(err.as_slice())?;
@@ -79,14 +80,7 @@ fn ran(alloc: Global, words: &[String], document: &str) -> Result<String, Fail> 
 
 #[test]
 fn statuses_and_texts(rt: HostRuntime) -> Result<(), Fail> {
-    let mut table = Table::new(&rt);
-    for &(given, document, wanted) in RUNS {
-        let name = format!(in rt.alloc(); "{given:?}")?;
-        let words = words(rt.alloc(), given)?;
-        let came = ran(rt.alloc(), &words, document);
-        table.hold((document, name.as_str(), wanted), came);
-    }
-    table.end()
+    hold_pairs(&rt, RUNS, ran)
 }
 
 /// Runs the program on the bytes of a document. What its contract says of readers and writers that tell their bytes is
@@ -115,10 +109,9 @@ fn runs_on_bytes(rt: HostRuntime) -> Result<(), Fail> {
         let status = run_on_bytes(rt.alloc(), &path, b"[1.5,null]", &mut out, &mut err);
         assert_eq!(rt; status, wanted);
     }
-    wrote(&rt, out.as_slice(), "$[0]\t1.5\n$[1]\tnull\n");
+    wrote(out.as_slice(), "$[0]\t1.5\n$[1]\tnull\n")?;
     let refused = "jsonpath: path: at position 1, expected '$'\n";
-    wrote(&rt, err.as_slice(), refused);
-    Ok(())
+    wrote(err.as_slice(), refused)
 }
 
 /// The writer takes a byte at each odd call, and fails from one of these on.
@@ -130,7 +123,7 @@ fn short_and_interrupted_writes(rt: HostRuntime) -> Result<(), Fail> {
         let mut err = Vec::new(rt.alloc());
         let answer = run(rt.alloc(), &root, &mut "1".as_bytes(), &mut out, &mut err);
         assert_eq!(rt; answer, status);
-        wrote(&rt, out.taken.as_slice(), written);
+        wrote(out.taken.as_slice(), written)?;
     }
     Ok(())
 }
@@ -138,19 +131,20 @@ fn short_and_interrupted_writes(rt: HostRuntime) -> Result<(), Fail> {
 #[test]
 fn full_writers(rt: HostRuntime) -> Result<(), Fail> {
     let root = words(rt.alloc(), &["$"])?;
-    for (room, status, written, told) in [
+    let rows = [
         (4, 0, "$\t1\n", ""),
         (2, 3, "$\t", "jsonpath:"),
         (0, 3, "", "jsonpath:"),
-    ] {
+    ];
+    for (room, status, written, told) in rows {
         let taken = Vec::new(rt.alloc());
         let mut out = Full { taken, room };
         let taken = Vec::new(rt.alloc());
         let mut err = Full { taken, room: 9 };
         let answer = run(rt.alloc(), &root, &mut "1".as_bytes(), &mut out, &mut err);
         assert_eq!(rt; answer, status);
-        wrote(&rt, out.taken.as_slice(), written);
-        wrote(&rt, err.taken.as_slice(), told);
+        wrote(out.taken.as_slice(), written)?;
+        wrote(err.taken.as_slice(), told)?;
     }
     Ok(())
 }
@@ -164,7 +158,7 @@ fn reports_refused_queries(rt: HostRuntime) -> Result<(), Fail> {
         let mut err = Vec::new(rt.alloc());
         let status = refuse(rt.alloc(), &ReportError::Query(error), &mut err);
         assert_eq!(rt; status, 3);
-        wrote(&rt, err.as_slice(), line);
+        wrote(err.as_slice(), line)?;
     }
     Ok(())
 }

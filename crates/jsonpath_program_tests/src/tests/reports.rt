@@ -3,9 +3,8 @@
 use jsonpath_lines::Form;
 use jsonpath_program::report::{report, report_in};
 use serde_json_path::functions::{Builtin, Functions, Numbers, Ruled};
-use serde_json_path_core_tests::rows::{Table, fields, hold_rows};
-use serde_json_path_core_tests::texts::{BOOKSTORE, long};
-use std::alloc::{AllocError, Global};
+use serde_json_path_core_tests::{BOOKSTORE, Came, Own, fields, hold_rows, nested};
+use std::alloc::Global;
 use std::test::Fail;
 
 /// Readings with messages, and a threshold.
@@ -43,39 +42,36 @@ const OF_BOOKSTORE: &[&str] = &[
 ];
 
 /// The report of a path and a document under a set.
-pub(crate) fn reported<F: Functions>(
-    alloc: Global,
-    functions: &F,
-    path: &str,
-    document: &str,
-) -> Result<String, Fail> {
-    Ok(report(alloc, path, document.as_bytes(), functions)?)
+pub(crate) fn reported<F: Functions>(alloc: Global, functions: &F, row: (&str, &str)) -> Came {
+    Ok(report(alloc, row.0, row.1.as_bytes(), functions)?)
 }
 
 /// The same of a path and a document, the two fields of a row.
-pub(crate) fn of_row<F: Functions>(
-    alloc: Global,
-    functions: &F,
-    given: &str,
-) -> Result<String, Fail> {
-    let (path, document) = fields(given)?;
-    reported(alloc, functions, path, document)
+fn of_row<F: Functions>(alloc: Global, functions: &F, given: &str) -> Came {
+    reported(alloc, functions, fields(given)?)
 }
 
 #[test]
 fn lines_of_paths(rt: HostRuntime) -> Result<(), Fail> {
-    let mut table = Table::new(&rt);
-    table.hold_each(
-        "built-in functions",
-        LINES,
-        |alloc, row| of_row(alloc, &Builtin, row),
-    );
+    hold_rows(&rt, LINES, |alloc, row| of_row(alloc, &Builtin, row))?;
     for (document, rows) in [(READINGS, OF_READINGS), (BOOKSTORE, OF_BOOKSTORE)] {
-        table.hold_each(document, rows, |alloc, path| {
-            reported(alloc, &Builtin, path, document)
-        });
+        hold_rows(&rt, rows, |alloc, path| {
+            reported(alloc, &Builtin, (path, document))
+        })?;
     }
-    table.end()
+    Ok(())
+}
+
+/// A path that calls [`Own`], a document, and the lines of their report.
+const OF_OWN: &[&str] = &[
+    "$[?first(@.*) == 4] ~ [[4],[5,5],[5]] -> $[0]\t[4]\n",
+    "$[?first(@.*) == 5 && length(@) == 1] ~ [[4],[5,5],[5]] -> $[2]\t[5]\n",
+];
+
+#[test]
+fn lines_under_a_set(rt: HostRuntime) -> Result<(), Fail> {
+    let own = Own::refusing(0);
+    hold_rows(&rt, OF_OWN, |alloc, row| of_row(alloc, &own, row))
 }
 
 /// A path, a document, the lines of its locations, and those of its values.
@@ -87,7 +83,7 @@ const HALVES: &[&str] = &[
 ];
 
 /// The report of a path and a document in each of the two forms.
-fn halves(alloc: Global, given: &str) -> Result<String, Fail> {
+fn halves(alloc: Global, given: &str) -> Came {
     let (path, document) = fields(given)?;
     let document = document.as_bytes();
     let locations = report_in(alloc, Form::Location, path, document, &Builtin)?;
@@ -108,13 +104,10 @@ const RULES: &[&str] = &[
 ];
 
 /// The report of a path and a document under each rule for numbers.
-fn by_rules(alloc: Global, given: &str) -> Result<String, Fail> {
-    let [whole, all] = [Numbers::Whole, Numbers::All].map(|numbers| Ruled {
-        functions: Builtin,
-        numbers,
-    });
-    let whole = of_row(alloc, &whole, given)?;
-    let all = of_row(alloc, &all, given)?;
+fn by_rules(alloc: Global, given: &str) -> Came {
+    let functions = Builtin;
+    let [whole, all] = [Numbers::Whole, Numbers::All].map(|numbers| Ruled { functions, numbers });
+    let (whole, all) = (of_row(alloc, &whole, given)?, of_row(alloc, &all, given)?);
     Ok(format!(in alloc; "{whole} ~ {all}")?)
 }
 
@@ -134,7 +127,7 @@ const REFUSED: &[&str] = &[
 ];
 
 /// Why the report of a path and a document is refused, or `accepted`.
-pub(crate) fn refusal(alloc: Global, path: &str, document: &[u8]) -> Result<String, Fail> {
+pub(crate) fn refusal(alloc: Global, path: &str, document: &[u8]) -> Came {
     match report(alloc, path, document, &Builtin) {
         Ok(_) => Ok(String::from_str(alloc, "accepted")?),
         Err(e) => Ok(e.to_string(alloc)?),
@@ -149,19 +142,13 @@ fn refusals_of_paths_and_documents(rt: HostRuntime) -> Result<(), Fail> {
     })
 }
 
-/// So many empty arrays within each other.
-fn nested(alloc: Global, depth: usize) -> Result<String, AllocError> {
-    let opened = long(alloc, "", "[", depth, "")?;
-    long(alloc, opened.as_str(), "]", depth, "")
-}
-
 #[test]
 fn nested_arrays(rt: HostRuntime) -> Result<(), Fail> {
     let alloc = rt.alloc();
-    let most = nested(alloc, 127)?;
+    let most = nested(alloc, ("", "[", "", "]", ""), 127)?;
     let lines = report(alloc, "$", most.as_str().as_bytes(), &Builtin)?;
     assert!(rt; lines.len() == 2 + 2 * 127 + 1);
-    let more = nested(alloc, 128)?;
+    let more = nested(alloc, ("", "[", "", "]", ""), 128)?;
     let refused = refusal(alloc, "$", more.as_str().as_bytes())?;
     assert!(rt; refused.as_str() == "not JSON");
     Ok(())

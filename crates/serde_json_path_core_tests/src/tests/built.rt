@@ -5,16 +5,14 @@ ghost use Rattle.serde_json_path_syntax.specs.Parts.{IsPart, calls_in, signature
 ghost use Rattle.serde_json_path_syntax.specs.Branch.{a_selector};
 ghost use Rattle.serde_json_path_syntax.specs.Tree.{name};
 
-use crate::rows::Table;
-use crate::texts::located;
+use crate::{Came, hold_row, holds, located};
 use serde_json::Value;
 use serde_json_path_core::{
     Checked, Part, Parts, QueryKind, SegmentKind, Slice, SyntaxBuilder, Walk, evaluate,
     evaluate_located, walk,
 };
-use serde_json_path_functions::{Builtin, QueryError};
+use serde_json_path_functions::Builtin;
 use std::alloc::Global;
-use std::process::Abort;
 use std::test::Fail;
 
 /// The query `$.a[0]`.
@@ -77,11 +75,8 @@ fn all_and_all_but_the_first(alloc: Global) -> Result<Checked, Fail>
     let mut builder = SyntaxBuilder::new(alloc);
     let below = builder.dot_wildcard(SegmentKind::Descendant)?;
     let all = builder.wildcard()?;
-    let rest = builder.slice(Slice {
-        start: Some(1),
-        end: None,
-        step: None,
-    })?;
+    let (start, end, step) = (Some(1), None, None);
+    let rest = builder.slice(Slice { start, end, step })?;
     let selectors = Parts::from(vec![in alloc; all, rest]?);
     let bracket = builder.long_hand(SegmentKind::Child, selectors)?;
     let segments = Parts::from(vec![in alloc; below, bracket]?);
@@ -90,7 +85,7 @@ fn all_and_all_but_the_first(alloc: Global) -> Result<Checked, Fail>
 }
 
 /// What a query selects in a document.
-fn selected(alloc: Global, query: &Checked, document: &str) -> Result<String, Fail>
+fn selected(alloc: Global, query: &Checked, document: &str) -> Came
     requires { signatures_of query.now ≡ [] }
 {
     let root = Value::from_str(alloc, document)?;
@@ -100,55 +95,47 @@ fn selected(alloc: Global, query: &Checked, document: &str) -> Result<String, Fa
 #[test]
 fn selects_by_parts(rt: HostRuntime) -> Result<(), Fail> {
     let alloc = rt.alloc();
-    let mut table = Table::new(&rt);
     let row = (r#"{"a":[1,2]}"#, "$.a[0]", "$['a'][0] ~ 1");
-    let query = first_of_member(alloc)?;
-    table.hold(row, selected(alloc, &query, row.0));
+    hold_row(&rt, row, selected(alloc, &first_of_member(alloc)?, row.0))?;
     let row = (r#"{"b":2,"a":1}"#, "$['a', 'b']", "$['a'] $['b'] ~ 1 2");
-    let query = made_from_the_end(alloc)?;
-    table.hold(row, selected(alloc, &query, row.0));
+    hold_row(&rt, row, selected(alloc, &made_from_the_end(alloc)?, row.0))?;
     let row = ("[[1,2]]", "$..*[*,1:]", "$[0][0] $[0][1] $[0][1] ~ 1 2 2");
     let query = all_and_all_but_the_first(alloc)?;
-    table.hold(row, selected(alloc, &query, row.0));
-    table.end()
+    hold_row(&rt, row, selected(alloc, &query, row.0))
 }
 
-/// Holds a walk to one node, and to one place at most.
-fn gives_one(rt: &impl Abort, walk: &mut Walk<'_, '_, Builtin>) -> Result<(), QueryError> {
-    assert!(rt; walk.places() <= 1);
-    assert!(rt; walk.next()?.is_some());
-    assert!(rt; walk.next()?.is_none());
-    assert!(rt; walk.places() == 0);
-    Ok(())
+/// Fails where a walk does not give one node, or keeps more than one place.
+fn gives_one(walk: &mut Walk<'_, '_, Builtin>) -> Result<(), Fail> {
+    holds(walk.places() <= 1, "more than one place")?;
+    holds(
+        walk.next()?.is_some() && walk.next()?.is_none(),
+        "not one node",
+    )?;
+    holds(walk.places() == 0, "a place is left")
 }
 
 /// The one node that a query selects in a document, as a list, as values and in a walk.
-fn selected_alone(
-    rt: &impl Abort,
-    alloc: Global,
-    query: &Checked,
-    document: &str,
-) -> Result<String, Fail>
+fn selected_alone(alloc: Global, query: &Checked, document: &str) -> Came
     requires { signatures_of query.now ≡ [] }
 {
     let root = Value::from_str(alloc, document)?;
     let count = evaluate(alloc, query, &root, Builtin)?.len();
-    assert!(rt; count == 1);
-    gives_one(rt, &mut walk(alloc, query, &root, Builtin)?)?;
+    holds(count == 1, "not one value")?;
+    gives_one(&mut walk(alloc, query, &root, Builtin)?)?;
     selected(alloc, query, document)
 }
 
 #[test]
 fn gives_one_node_in_each_way(rt: HostRuntime) -> Result<(), Fail> {
     let alloc = rt.alloc();
-    let mut table = Table::new(&rt);
     let row = (r#"{"a":[1]}"#, "$", r#"$ ~ {"a":[1]}"#);
-    let query = Checked::new(alloc);
-    table.hold(row, selected_alone(&rt, alloc, &query, row.0));
+    hold_row(&rt, row, selected_alone(alloc, &Checked::new(alloc), row.0))?;
     let row = (r#"{"a":[1]}"#, "$.a[0]", "$['a'][0] ~ 1");
-    let query = first_of_member(alloc)?;
-    table.hold(row, selected_alone(&rt, alloc, &query, row.0));
-    table.end()
+    hold_row(
+        &rt,
+        row,
+        selected_alone(alloc, &first_of_member(alloc)?, row.0),
+    )
 }
 
 #[test]

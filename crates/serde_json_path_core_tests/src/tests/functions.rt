@@ -5,16 +5,22 @@ mod builtin;
 mod errors;
 mod patterns;
 
-use crate::rows::Table;
+use crate::{Came, hold_pairs};
 use serde_json_path_functions::QueryError;
+use std::alloc::Global;
 use std::test::Fail;
+
+const ERRORS: &[(QueryError, &str)] = &[
+    (QueryError::Memory, "no memory"),
+    (QueryError::Pattern, "pattern refused"),
+];
+
+/// The text of an error.
+fn text(alloc: Global, error: QueryError) -> Came {
+    Ok(error.to_string(alloc)?)
+}
 
 #[test]
 fn prints_errors(rt: HostRuntime) -> Result<(), Fail> {
-    let mut table = Table::new(&rt);
-    let memory = QueryError::Memory.to_string(rt.alloc())?;
-    table.hold(("errors", "Memory", "no memory"), Ok(memory));
-    let pattern = QueryError::Pattern.to_string(rt.alloc())?;
-    table.hold(("errors", "Pattern", "pattern refused"), Ok(pattern));
-    table.end()
+    hold_pairs(&rt, ERRORS, text)
 }

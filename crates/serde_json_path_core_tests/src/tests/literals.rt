@@ -1,6 +1,6 @@
 //! Which literals may be arguments of the type of values (RFC 9535, section 2.4.3), and numbers as literals.
 
-use crate::rows::{fields, hold_rows};
+use crate::{Came, fields, hold_rows};
 use serde_json::Value;
 use serde_json_path_core::{Literal, NumberLiteral};
 use serde_json_path_numbers::ExactNumber;
@@ -32,7 +32,7 @@ fn literal(billionths: &str) -> Result<NumberLiteral, Fail> {
 }
 
 /// The billionths of a number, whether it may be a value, and its whole part.
-fn told(alloc: Global, billionths: &str) -> Result<String, Fail> {
+fn told(alloc: Global, billionths: &str) -> Came {
     let number = literal(billionths)?;
     let whole = number.value().to_string(alloc)?;
     let billionths = number.billionths();
@@ -59,7 +59,7 @@ const SAME: &[&str] = &[
 ];
 
 /// Whether a literal's exact number is that of a document's number.
-fn is_number(alloc: Global, given: &str) -> Result<String, Fail> {
+fn is_number(alloc: Global, given: &str) -> Came {
     let (billionths, text) = fields(given)?;
     let Value::Number(number) = Value::from_str(alloc, text)? else {
         return Err(Fail::new("no number"));

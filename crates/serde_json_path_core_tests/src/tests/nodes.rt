@@ -1,42 +1,42 @@
 //! Lists and locations: that calls succeed, and the texts that readers of the RFC expect.
 
-use crate::rows::{Table, holds};
-use crate::texts::locations;
+use crate::{Came, hold_pairs, hold_rows, holds, locations};
 use serde_json::Value;
 use serde_json_path_nodes::PathElement::{Index, Name};
 use serde_json_path_nodes::{
     LocatedNode, LocatedNodeList, NodeList, NormalizedPath, PathElement, escaped,
     law_texts_tell_locations,
 };
-use std::alloc::{AllocError, Global};
+use std::alloc::Global;
+use std::fmt::Display;
 use std::process::Abort;
 use std::test::Fail;
 
-// The location that these steps make up.
-fn location<'b>(
-    alloc: Global,
-    steps: &[PathElement<'b>],
-) -> Result<NormalizedPath<'b>, AllocError> {
+/// The steps of a location.
+type Steps = &'static [PathElement<'static>];
+
+/// The location that these steps make up.
+fn location<'b>(alloc: Global, steps: &[PathElement<'b>]) -> Result<NormalizedPath<'b>, Fail> {
     let mut elements = Vec::new(alloc);
     elements.extend_from_slice(steps)?;
     Ok(NormalizedPath::from_steps(elements))
 }
 
-// The node at each of these positions of an array, in that order.
+/// The node at each of these positions of an array, in that order.
 fn located<'b>(
     alloc: Global,
     node: &'b Value,
     positions: &[usize],
-) -> Result<LocatedNodeList<'b>, AllocError> {
+) -> Result<LocatedNodeList<'b>, Fail> {
     let mut nodes = Vec::new(alloc);
     for position in positions {
-        let steps = [Index(*position)];
-        nodes.push(LocatedNode::new(location(alloc, &steps)?, node))?;
+        let location = location(alloc, &[Index(*position)])?;
+        nodes.push(LocatedNode::new(location, node))?;
     }
     Ok(LocatedNodeList::from(nodes))
 }
 
-// A character, and what stands for it in a normalised path.
+/// A character, and what stands for it in a normalised path.
 const ESCAPES: &[(char, &str)] = &[
     ('\'', "\\'"),
     ('\\', "\\\\"),
@@ -57,22 +57,21 @@ const ESCAPES: &[(char, &str)] = &[
     ('\u{1f600}', "itself"),
 ];
 
-#[test]
-fn characters_print_as_the_rfc_says(rt: HostRuntime) -> Result<(), Fail> {
-    let mut table = Table::new(&rt);
-    for &(character, wanted) in ESCAPES {
-        let given = format!(in rt.alloc(); "{character:?}")?;
-        let came = String::from_str(rt.alloc(), escaped(character).unwrap_or("itself"))?;
-        table.hold(("escapes", given.as_str(), wanted), Ok(came));
-    }
-    table.end()
+/// What stands for a character.
+fn escape(alloc: Global, character: char) -> Came {
+    Ok(String::from_str(alloc, escaped(character).unwrap_or("itself"))?)
 }
 
-// A document with names that are escaped.
+#[test]
+fn characters_print_as_the_rfc_says(rt: HostRuntime) -> Result<(), Fail> {
+    hold_pairs(&rt, ESCAPES, escape)
+}
+
+/// A document with names that are escaped.
 const NAMED: &str = "{\"a/~\":[1],\"a'b\\\\\\u000b\":2,\"é\":{\"\":3},\"plain é'\\n😀 text\\\\\":4}";
 
-// Steps, and the normalised path and the JSON pointer of their location, and the number there, if it is one.
-const POINTED: &[(&[PathElement<'static>], &str)] = &[
+/// Steps, and the normalised path and the JSON pointer of their location, and the number there, if it is one.
+const POINTED: &[(Steps, &str)] = &[
     (&[], "$ ~  ~ None"),
     (&[Name("a/~")], "$['a/~'] ~ /a~1~0 ~ None"),
     (&[Name("a/~"), Index(0)], "$['a/~'][0] ~ /a~1~0/0 ~ Some(1)"),
@@ -85,30 +84,22 @@ const ESCAPED: &str = "$['a\\'b\\\\\\u000b'] ~ /a'b\\\u{b} ~ Some(2)";
 
 const PARTLY_ESCAPED: &str = "$['plain é\\'\\n😀 text\\\\'] ~ /plain é'\n😀 text\\ ~ Some(4)";
 
-// The normalised path and the JSON pointer of a location, and the number there, if it is one.
-fn pointed(alloc: Global, location: &NormalizedPath<'_>, document: &Value) -> Result<String, Fail> {
+/// The normalised path and the JSON pointer of a location, and the number that [`NAMED`] has there, if it is one.
+fn pointed(alloc: Global, steps: Steps) -> Came {
+    let document = Value::from_str(alloc, NAMED)?;
+    let location = location(alloc, steps)?;
     let pointer = location.to_json_pointer(alloc)?;
-    let number = match document.pointer(pointer.as_str()) {
-        Some(node) => node.as_u64(),
-        None => return Err(Fail::from("no node")),
-    };
-    Ok(format!(in alloc; "{location} ~ {pointer} ~ {number:?}")?)
+    let node = document.pointer(pointer.as_str()).ok_or("no node")?;
+    Ok(format!(in alloc; "{location} ~ {pointer} ~ {:?}", node.as_u64())?)
 }
 
 #[test]
 fn locations_print_and_point(rt: HostRuntime) -> Result<(), Fail> {
-    let document = Value::from_str(rt.alloc(), NAMED)?;
-    let mut table = Table::new(&rt);
-    for &(steps, wanted) in POINTED {
-        let location = location(rt.alloc(), steps)?;
-        let came = pointed(rt.alloc(), &location, &document);
-        table.hold((NAMED, wanted, wanted), came);
-    }
-    table.end()
+    hold_pairs(&rt, POINTED, pointed)
 }
 
-// Two steps.
-const STEPS: &[PathElement<'static>] = &[Name("a"), Index(7)];
+/// Two steps.
+const STEPS: Steps = &[Name("a"), Index(7)];
 
 #[test]
 fn locations_are_lists_of_steps(rt: HostRuntime) -> Result<(), Fail> {
@@ -119,29 +110,26 @@ fn locations_are_lists_of_steps(rt: HostRuntime) -> Result<(), Fail> {
     Ok(())
 }
 
-// Steps of two locations, and whether these are equal.
-const COMPARED: &[(&[PathElement<'static>], &[PathElement<'static>], &str)] = &[
-    (STEPS, STEPS, "true"),
-    (STEPS, &[Name("a")], "false"),
-    (&[Name("a")], &[Index(7)], "false"),
-    (&[Name("a"), Index(7)], &[Name("b"), Index(7)], "false"),
+/// Steps of two locations, and whether these are equal.
+const COMPARED: &[((Steps, Steps), &str)] = &[
+    ((STEPS, STEPS), "true"),
+    ((STEPS, &[Name("a")]), "false"),
+    ((&[Name("a")], &[Index(7)]), "false"),
+    ((&[Name("a"), Index(7)], &[Name("b"), Index(7)]), "false"),
 ];
+
+/// Whether the locations of two lists of steps are equal.
+fn equality(alloc: Global, (one, other): (Steps, Steps)) -> Came {
+    law_texts_tell_locations();
+    Ok(format!(in alloc; "{}", location(alloc, one)? == location(alloc, other)?)?)
+}
 
 #[test]
 fn locations_are_equal_by_their_steps(rt: HostRuntime) -> Result<(), Fail> {
-    law_texts_tell_locations();
-    let mut table = Table::new(&rt);
-    for &(one, other, wanted) in COMPARED {
-        let one = location(rt.alloc(), one)?;
-        let other = location(rt.alloc(), other)?;
-        let given = format!(in rt.alloc(); "{one} {other}")?;
-        let came = format!(in rt.alloc(); "{}", one == other)?;
-        table.hold(("steps", given.as_str(), wanted), Ok(came));
-    }
-    table.end()
+    hold_pairs(&rt, COMPARED, equality)
 }
 
-// Positions, and the locations that are left of them.
+/// Positions, and the locations that are left of them.
 const REPEATED: &[(&[usize], &str)] = &[
     (&[], ""),
     (&[4, 4], "$[4]"),
@@ -149,29 +137,17 @@ const REPEATED: &[(&[usize], &str)] = &[
     (&[2, 1, 2, 3, 1, 0], "$[2] $[1] $[3] $[0]"),
 ];
 
+/// The locations at positions, each once.
+fn once(alloc: Global, positions: &[usize]) -> Came {
+    locations(alloc, &located(alloc, &Value::Null, positions)?.dedup())
+}
+
 #[test]
 fn repeated_locations_leave_their_first_place(rt: HostRuntime) -> Result<(), Fail> {
-    let node = Value::Null;
-    let mut table = Table::new(&rt);
-    for &(positions, kept) in REPEATED {
-        let given = locations(rt.alloc(), &located(rt.alloc(), &node, positions)?)?;
-        let list = located(rt.alloc(), &node, positions)?.dedup();
-        let came = locations(rt.alloc(), &list);
-        table.hold(("items", given.as_str(), kept), came);
-    }
-    table.end()
+    hold_pairs(&rt, REPEATED, once)
 }
 
-// A list that has the node so many times.
-fn repeated(alloc: Global, node: &Value, times: usize) -> Result<NodeList<'_>, AllocError> {
-    let mut nodes = Vec::new(alloc);
-    for _ in 0..times {
-        nodes.push(node)?;
-    }
-    Ok(NodeList::from(nodes))
-}
-
-// Whether a list has so many nodes, by each call that tells of their number.
+/// Whether a list has so many nodes, by each call that tells of their number.
 fn has(list: &NodeList<'_>, count: usize) -> bool {
     list.len() == count
         && list.iter().count() == count
@@ -179,63 +155,50 @@ fn has(list: &NodeList<'_>, count: usize) -> bool {
         && list.first().is_some() == (count > 0)
 }
 
-// What a list answers where at most one node is expected.
-fn at_most(alloc: Global, list: &NodeList<'_>) -> Result<String, Fail> {
-    match list.at_most_one() {
+/// What a list answers where one node is expected, or one at most.
+fn found<E: Display + Drop>(alloc: Global, answer: Result<Option<&Value>, E>) -> Came {
+    match answer {
         Ok(None) => Ok(String::from_str(alloc, "none")?),
         Ok(Some(_)) => Ok(String::from_str(alloc, "one")?),
-        Err(error) => Ok(error.to_string(alloc)?),
+        Err(error) => Ok(format!(in alloc; "{error}")?),
     }
 }
 
-// What a list answers where one node is expected.
-fn exactly(alloc: Global, list: &NodeList<'_>) -> Result<String, Fail> {
-    match list.exactly_one() {
-        Ok(_) => Ok(String::from_str(alloc, "one")?),
-        Err(error) => Ok(error.to_string(alloc)?),
-    }
-}
+/// A number of nodes, and what the list answers where at most one is expected, and where one is.
+const COUNTED: &[&str] = &[
+    "0 -> none; one node expected, found none",
+    "1 -> one; one",
+    "2 -> at most one node expected, found 2; one node expected, found 2",
+];
 
-// What a list answers where at most one node is expected, and where one is. Fails where it has not so many nodes.
-fn answered(alloc: Global, list: NodeList<'_>, count: usize) -> Result<String, Fail> {
-    let most = at_most(alloc, &list)?;
-    let one = exactly(alloc, &list)?;
-    holds(
-        has(&list, count) && list.all().len() == count,
-        "another number",
-    )?;
+/// What a list of so many nodes answers. Fails where it tells another number.
+fn answered(alloc: Global, count: &str) -> Came {
+    let (count, node) = (count.parse::<usize>()?, Value::Null);
+    let mut nodes = Vec::new(alloc);
+    for _ in 0..count {
+        nodes.push(&node)?;
+    }
+    let list = NodeList::from(nodes);
+    let most = found(alloc, list.at_most_one())?;
+    let one = found(alloc, list.exactly_one().map(Some))?;
+    holds(has(&list, count), "another number")?;
+    holds(list.all().len() == count, "another number of all")?;
     Ok(format!(in alloc; "{most}; {one}")?)
 }
 
-// A number of nodes, and what the list answers where at most one is expected, and where one is.
-const COUNTED: &[(usize, &str)] = &[
-    (0, "none; one node expected, found none"),
-    (1, "one; one"),
-    (2, TWO_FOUND),
-];
-
-const TWO_FOUND: &str = "at most one node expected, found 2; one node expected, found 2";
-
 #[test]
 fn lists_answer_by_their_length(rt: HostRuntime) -> Result<(), Fail> {
-    let node = Value::Null;
-    let mut table = Table::new(&rt);
-    for &(count, wanted) in COUNTED {
-        let list = repeated(rt.alloc(), &node, count)?;
-        table.hold(("nulls", wanted, wanted), answered(rt.alloc(), list, count));
-    }
-    table.end()
+    hold_rows(&rt, COUNTED, answered)
 }
 
-// Holds a list to two pairs of null and a location of one step.
+/// Holds a list to two pairs of null and a location of one step.
 fn are_pairs(rt: &impl Abort, list: &LocatedNodeList<'_>) {
     assert!(rt; list.len() == 2 && !list.is_empty() && list.iter().len() == 2);
     assert!(rt; list.nodes().len() == 2 && list.locations().len() == 2);
     assert!(rt; list.nodes().all(|node| node.is_null()));
-    assert!(rt;
-        list.iter()
-            .all(|pair| pair.node().is_null() && pair.location().len() == 1)
-    );
+    for pair in list.iter() {
+        assert!(rt; pair.node().is_null() && pair.location().len() == 1);
+    }
 }
 
 #[test]
@@ -248,15 +211,15 @@ fn located_lists_answer_as_lists_of_pairs(rt: HostRuntime) -> Result<(), Fail> {
     Ok(())
 }
 
-// Positions, and why a list of the nodes there is not exactly one node, and not one at most.
+/// Positions, and why a list of the nodes there is not exactly one node, and not one at most.
 const LOCATED: &[(&[usize], &str)] = &[
     (&[], "Some(Empty), None"),
     (&[5], "None, None"),
     (&[5, 6], "Some(MoreThanOne(2)), Some(AtMostOneError(2))"),
 ];
 
-// Why a list of the nodes at positions is not exactly one node, and not one at most.
-fn refused(alloc: Global, positions: &[usize]) -> Result<String, Fail> {
+/// Why a list of the nodes at positions is not exactly one node, and not one at most.
+fn refused(alloc: Global, positions: &[usize]) -> Came {
     let node = Value::Null;
     let one = located(alloc, &node, positions)?.exactly_one().err();
     let most = located(alloc, &node, positions)?.at_most_one().err();
@@ -265,9 +228,5 @@ fn refused(alloc: Global, positions: &[usize]) -> Result<String, Fail> {
 
 #[test]
 fn located_lists_answer_by_their_length(rt: HostRuntime) -> Result<(), Fail> {
-    let mut table = Table::new(&rt);
-    for &(positions, wanted) in LOCATED {
-        table.hold(("nulls", wanted, wanted), refused(rt.alloc(), positions));
-    }
-    table.end()
+    hold_pairs(&rt, LOCATED, refused)
 }

@@ -1,40 +1,23 @@
 //! Comparisons that take all numbers, beside those that take whole numbers alone.
 
-use crate::tests::sets::Own;
-use serde_json::Value;
-use serde_json_path::JsonPath;
+use crate::tests::rows::read_with;
 use serde_json_path::functions::{AllNumbers, Both, Builtin, Functions};
-use serde_json_path_core_tests::rows::{Table, fields};
-use serde_json_path_core_tests::texts::{BOOKSTORE, locations};
+use serde_json_path_core_tests::{BOOKSTORE, Came, Own, fields, hold_row, hold_rows, locations};
 use std::alloc::Global;
 use std::test::Fail;
 
 /// The locations of what a path selects from a document under a set.
-fn located<F: Functions>(
-    alloc: Global,
-    functions: &F,
-    path: &str,
-    document: &str,
-) -> Result<String, Fail> {
-    let document = Value::from_str(alloc, document)?;
-    let path = JsonPath::parse_with(alloc, path, functions)?;
-    locations(
-        alloc,
-        &path.query_located_with(alloc, &document, functions)?,
-    )
+fn located<F: Functions>(alloc: Global, functions: &F, row: (&str, &str)) -> Came {
+    let (path, document) = read_with(alloc, functions, row)?;
+    let nodes = path.query_located_with(alloc, &document, functions)?;
+    locations(alloc, &nodes)
 }
 
 /// The same where comparisons take all numbers, and where they take whole numbers alone.
-fn by_both_rules(alloc: Global, path: &str, document: &str) -> Result<String, Fail> {
-    let all = located(alloc, &AllNumbers(Builtin), path, document)?;
-    let whole = located(alloc, &Builtin, path, document)?;
+fn by_both_rules(alloc: Global, row: (&str, &str)) -> Came {
+    let all = located(alloc, &AllNumbers(Builtin), row)?;
+    let whole = located(alloc, &Builtin, row)?;
     Ok(format!(in alloc; "{all} ~ {whole}")?)
-}
-
-/// The same of a path and a document.
-fn of_row(alloc: Global, given: &str) -> Result<String, Fail> {
-    let (path, document) = fields(given)?;
-    by_both_rules(alloc, path, document)
 }
 
 /// A path, and what it selects from [`BOOKSTORE`] by all numbers, and by whole numbers.
@@ -79,24 +62,27 @@ const ROWS: &[&str] = &[
 
 #[test]
 fn compares_all_numbers_where_the_set_says_so(rt: HostRuntime) -> Result<(), Fail> {
-    let mut table = Table::new(&rt);
-    table.hold_each("the bookstore", BOOKS, |alloc, path| {
-        by_both_rules(alloc, path, BOOKSTORE)
-    });
-    table.hold_each("both rules", ROWS, of_row);
-    table.end()
+    hold_rows(
+        &rt,
+        BOOKS,
+        |alloc, path| by_both_rules(alloc, (path, BOOKSTORE)),
+    )?;
+    hold_rows(&rt, ROWS, |alloc, row| by_both_rules(alloc, fields(row)?))
 }
 
 #[test]
 fn has_the_choice_of_the_first_set(rt: HostRuntime) -> Result<(), Fail> {
     let alloc = rt.alloc();
-    let row = |wanted| ("[1.5]", "$[?none() == none() && @ == 1.5]", wanted);
-    let ((document, path, _), mut table) = (row(""), Table::new(&rt));
+    let (path, document) = ("$[?none() == none() && @ == 1.5]", "[1.5]");
     let all = AllNumbers(Own::refusing(0));
-    table.hold(row("$[0]"), located(alloc, &all, path, document));
+    let found = (document, path, "$[0]");
+    hold_row(&rt, found, located(alloc, &all, (path, document)))?;
     let first = Both(all, Own::refusing(0));
-    table.hold(row("$[0]"), located(alloc, &first, path, document));
+    hold_row(&rt, found, located(alloc, &first, (path, document)))?;
     let second = Both(Own::refusing(0), AllNumbers(Builtin));
-    table.hold(row(""), located(alloc, &second, path, document));
-    table.end()
+    hold_row(
+        &rt,
+        (document, path, ""),
+        located(alloc, &second, (path, document)),
+    )
 }

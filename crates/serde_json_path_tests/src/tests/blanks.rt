@@ -1,7 +1,7 @@
 //! Blanks (RFC 9535, sections 2.1.1 and 2.5.1).
 
 /// A path, a document, and the locations and the values of what the path selects there.
-pub(crate) const BLANKS: &[&str] = &[
+pub(crate) const ROWS: &[&str] = &[
     r#"$ .a ~ {"a":1} -> $['a'] ~ 1"#,
     r#"$ ..a ~ {"a":1} -> $['a'] ~ 1"#,
     "$\t\n\r .a [0]\r\n..* ~ {\"a\":[[1]]} -> $['a'][0][0] ~ 1",

@@ -1,8 +1,7 @@
 //! The bookstore of RFC 9535, section 1.5.
 
 use crate::tests::rows::count;
-use serde_json_path_core_tests::rows::hold_rows;
-use serde_json_path_core_tests::texts::BOOKSTORE;
+use serde_json_path_core_tests::{BOOKSTORE, hold_rows};
 use std::test::Fail;
 
 /// A path, and the locations and the values of what it selects from [`BOOKSTORE`].

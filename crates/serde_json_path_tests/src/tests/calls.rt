@@ -8,7 +8,7 @@ pub(crate) const NAMES: &str = concat!(
 );
 
 /// A path, a document, and the locations and the values of what the path selects there.
-pub(crate) const CALLS: &[&str] = &[
+pub(crate) const ROWS: &[&str] = &[
     r#"$[?length(@) == 1] ~ ["😀","ab",[0],{"k":1},7] -> $[0] $[2] $[3] ~ "😀" [0] {"k":1}"#,
     r#"$[?length( @ )==1] ~ ["a","ab"] -> $[0] ~ "a""#,
     r#"$[?1 == length(@)] ~ ["a","ab"] -> $[0] ~ "a""#,
@@ -31,10 +31,7 @@ pub(crate) const CALLS: &[&str] = &[
     r#"$[?count(@..a) == 2] ~ [{"a":{"a":1}},{"a":1}] -> $[0] ~ {"a":{"a":1}}"#,
     r#"$[?value(@['a'].*) == 4] ~ [{"a":[4]},{"a":{"b":4}},{"a":[4,4]}] -> $[0] $[1] ~ {"a":[4]} {"a":{"b":4}}"#,
     r#"$[?length(value(@.*)) == 1] ~ [["ab"],["c"],["d","e"]] -> $[1] ~ ["c"]"#,
-];
-
-/// A path, a document, and the locations and the values of what the path selects there.
-pub(crate) const PATTERNS: &[&str] = &[
+    // By patterns.
     r#"$[?match(@,'b')] ~ ["abc","b"] -> $[1] ~ "b""#,
     r#"$[?search(@,'b')] ~ ["abc","b"] -> $[0] $[1] ~ "abc" "b""#,
     r#"$[?!match(@,'(')] ~ ["a"] -> $[0] ~ "a""#,

@@ -2,7 +2,7 @@
 
 use crate::tests::rows::nodes;
 use serde_json::Value;
-use serde_json_path_core_tests::rows::{fields, hold_rows};
+use serde_json_path_core_tests::{Came, fields, hold_rows};
 use std::alloc::Global;
 use std::test::Fail;
 
@@ -10,7 +10,7 @@ use std::test::Fail;
 const OPERATORS: &[&str] = &["==", "!=", "<", "<=", ">", ">="];
 
 /// The operators that hold between two sides for the one item of a document, with a space between them.
-fn holding(alloc: Global, given: &str) -> Result<String, Fail> {
+fn holding(alloc: Global, given: &str) -> Came {
     let (document, sides) = fields(given)?;
     let (left, right) = fields(sides)?;
     let document = Value::from_str(alloc, document)?;

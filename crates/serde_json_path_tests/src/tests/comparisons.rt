@@ -4,7 +4,7 @@
 pub(crate) const EXAMPLE: &str = r#"{"obj":{"x":"y"},"arr":[2,3]}"#;
 
 /// A path, a document, and the locations and the values of what the path selects there.
-pub(crate) const COMPARISONS: &[&str] = &[
+pub(crate) const ROWS: &[&str] = &[
     r#"$[?@.a == @.b] ~ [{},{"a":1},{"a":1,"b":1}] -> $[0] $[2] ~ {} {"a":1,"b":1}"#,
     r#"$[?@.a <= @.b] ~ [{},{"a":1}] -> $[0] ~ {}"#,
     r#"$[?@[0] == @[-1]] ~ [[],[1],[1,2],[2,1,2],{"0":1}] -> $[0] $[1] $[3] $[4] ~ [] [1] [2,1,2] {"0":1}"#,
@@ -25,8 +25,7 @@ pub(crate) const COMPARISONS: &[&str] = &[
     "$[?@ != 2] ~ [1,2,3] -> $[0] $[2] ~ 1 3",
 ];
 
-/// The examples of RFC 9535, section 2.3.5.3, of which each holds for both members or for none:
-/// a path, and the locations and the values of what it selects from [`EXAMPLE`].
+/// Examples of RFC 9535, section 2.3.5.3, of which each holds for both members of [`EXAMPLE`] or for none.
 pub(crate) const EXAMPLES: &[&str] = &[
     r#"$[?$.absent1 == $.absent2] -> $['arr'] $['obj'] ~ [2,3] {"x":"y"}"#,
     r#"$[?$.absent1 <= $.absent2] -> $['arr'] $['obj'] ~ [2,3] {"x":"y"}"#,

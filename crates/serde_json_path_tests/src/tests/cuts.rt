@@ -1,11 +1,10 @@
 //! Texts of paths that are cut at each character.
 
 use crate::tests::long_texts::CUT;
-use crate::tests::nesting::hold_nested;
-use crate::tests::tables::of_refusal;
+use crate::tests::tables::of_text;
 use serde_json_path::functions::{Builtin, Functions};
 use serde_json_path::{JsonPath, ParseError};
-use serde_json_path_core_tests::rows::holds;
+use serde_json_path_core_tests::{hold_nested, holds};
 use std::alloc::Global;
 use std::test::Fail;
 
@@ -63,5 +62,5 @@ pub(crate) fn cut<F: Functions>(alloc: Global, functions: &F, text: &str) -> Res
 
 #[test]
 fn cuts_long_texts(rt: HostRuntime) -> Result<(), Fail> {
-    hold_nested(&rt, CUT, |alloc, text| of_refusal(alloc, &Builtin, text))
+    hold_nested(&rt, CUT, |alloc, text| of_text(alloc, &Builtin, text))
 }

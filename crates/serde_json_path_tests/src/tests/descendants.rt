@@ -1,7 +1,7 @@
 //! Descendant segments (RFC 9535, section 2.5.2).
 
 /// A path, a document, and the locations and the values of what the path selects there.
-pub(crate) const DESCENDANTS: &[&str] = &[
+pub(crate) const ROWS: &[&str] = &[
     r#"$.foo..baz ~ {"foo":{"bar":{"baz":1},"baz":2},"baz":3} -> $['foo']['baz'] $['foo']['bar']['baz'] ~ 2 1"#,
     r#"$..baz ~ {"foo":{"bar":{"baz":1},"baz":2},"baz":3} -> $['baz'] $['foo']['baz'] $['foo']['bar']['baz'] ~ 3 2 1"#,
     r#"$..['baz'] ~ {"foo":{"bar":{"baz":1},"baz":2},"baz":3} -> $['baz'] $['foo']['baz'] $['foo']['bar']['baz'] ~ 3 2 1"#,

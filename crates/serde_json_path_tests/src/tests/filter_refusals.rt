@@ -1,7 +1,8 @@
 //! Texts with a filter that are no paths (RFC 9535, sections 2.3.5 and 2.4).
 
 /// A text, and the kind and the position of its refusal.
-pub(crate) const LOGIC: &[&str] = &[
+pub(crate) const ROWS: &[&str] = &[
+    // Logical expressions.
     "$[? -> ExpectedExpression 4",
     "$[?] -> ExpectedExpression 4",
     "$[?é] -> ExpectedExpression 4",
@@ -38,10 +39,7 @@ pub(crate) const LOGIC: &[&str] = &[
     "$[?@['a] -> ExpectedEndingQuote 9",
     "$[?$ -> ExpectedClosingBracket 5",
     "$[?@[?@] -> ExpectedClosingBracket 9",
-];
-
-/// A text, and the kind and the position of its refusal.
-pub(crate) const COMPARISONS: &[&str] = &[
+    // Comparisons.
     "$[?@.a == ] -> ExpectedExpression 11",
     "$[?@.a = 1] -> ExpectedClosingBracket 8",
     "$[?@.a = -> ExpectedClosingBracket 8",
@@ -83,10 +81,7 @@ pub(crate) const COMPARISONS: &[&str] = &[
     "$[?@ == é] -> ExpectedExpression 9",
     "$[?@ ==  -> ExpectedExpression 9",
     "$[?@.* && 1 == @.*] -> NonSingularQuery 16",
-];
-
-/// A text, and the kind and the position of its refusal.
-pub(crate) const LITERALS: &[&str] = &[
+    // Literals.
     "$[?01 == @] -> ExpectedComparisonOperator 5",
     "$[?@ == 01] -> ExpectedClosingBracket 10",
     "$[?-] -> ExpectedExpression 4",
@@ -127,10 +122,7 @@ pub(crate) const LITERALS: &[&str] = &[
     "$[?@ == 'a] -> ExpectedEndingQuote 12",
     r"$[?@ == '\x'] -> BadEscape 10",
     "$[?@ == 'a\t'] -> ControlCharacter 11",
-];
-
-/// A text, and the kind and the position of its refusal.
-pub(crate) const CALLS: &[&str] = &[
+    // Calls.
     "$[?first(@.*) == 4] -> UndefinedFunction 4",
     "$[?true(@)] -> UndefinedFunction 4",
     "$[?f1(@)] -> UndefinedFunction 4",
@@ -155,10 +147,7 @@ pub(crate) const CALLS: &[&str] = &[
     "$[?match(@,'a') = 1] -> ExpectedClosingBracket 17",
     "$[?!match(@,'a') == 1] -> ExpectedClosingBracket 18",
     "$[?length(@) && @] -> WrongReturnType 4",
-];
-
-/// A text, and the kind and the position of its refusal.
-pub(crate) const ARGUMENTS: &[&str] = &[
+    // Arguments.
     "$[?count()] -> WrongNumberOfArguments 4",
     "$[?count() == 1] -> WrongNumberOfArguments 4",
     "$[?count( ) == 1] -> WrongNumberOfArguments 4",

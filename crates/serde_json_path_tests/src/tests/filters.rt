@@ -7,7 +7,7 @@ pub(crate) const EXAMPLE: &str = concat!(
 );
 
 /// A path, a document, and the locations and the values of what the path selects there.
-pub(crate) const FILTERS: &[&str] = &[
+pub(crate) const ROWS: &[&str] = &[
     r#"$[?!@.a] ~ [{"a":null},{}] -> $[1] ~ {}"#,
     r#"$[? ! @.a ] ~ [{"a":null},{}] -> $[1] ~ {}"#,
     "$[?@ == 1 || @ == 2 && @ == 3] ~ [1,2,3] -> $[0] ~ 1",
@@ -34,10 +34,13 @@ pub(crate) const FILTERS: &[&str] = &[
     r#"$[?@.a=='x'&&!match(@ , "b")] ~ [{"a":"x"},{"a":"y"}] -> $[0] ~ {"a":"x"}"#,
     r#"$[?@.a == 1] ~ [{"a":1},{"a":2}] -> $[0] ~ {"a":1}"#,
     r#"$[?@['a'] == 1] ~ [{"a":1},{"a":2}] -> $[0] ~ {"a":1}"#,
+    // The examples of RFC 9535, section 2.6.1.
+    r#"$.b[?@] ~ {"a":null,"b":[null],"c":[{}],"null":1} -> $['b'][0] ~ null"#,
+    r#"$.b[?@==null] ~ {"a":null,"b":[null],"c":[{}],"null":1} -> $['b'][0] ~ null"#,
+    r#"$.c[?@.d==null] ~ {"a":null,"b":[null],"c":[{}],"null":1} -> nothing"#,
 ];
 
-/// The examples of RFC 9535, section 2.3.5.3: a path, and the locations and the values of what it
-/// selects from [`EXAMPLE`].
+/// Examples of RFC 9535, section 2.3.5.3: a path, and the locations and the values of what it selects from [`EXAMPLE`].
 pub(crate) const EXAMPLES: &[&str] = &[
     r#"$.a[?@.b == 'kilo'] -> $['a'][9] ~ {"b":"kilo"}"#,
     r#"$.a[?(@.b == 'kilo')] -> $['a'][9] ~ {"b":"kilo"}"#,
@@ -53,14 +56,6 @@ pub(crate) const EXAMPLES: &[&str] = &[
     r#"$.o[?@.u || @.x] -> $['o']['t'] ~ {"u":6}"#,
     "$.a[?@.b == $.x] -> $['a'][0] $['a'][1] $['a'][2] $['a'][3] $['a'][4] $['a'][5] ~ 3 5 1 2 4 6",
     r#"$.a[?@ == @] -> $['a'][0] $['a'][1] $['a'][2] $['a'][3] $['a'][4] $['a'][5] $['a'][6] $['a'][7] $['a'][8] $['a'][9] ~ 3 5 1 2 4 6 {"b":"j"} {"b":"k"} {"b":{}} {"b":"kilo"}"#,
-];
-
-/// The examples of RFC 9535, section 2.6.1: a path, a document, and the locations and the values of
-/// what the path selects there.
-pub(crate) const NULLS: &[&str] = &[
-    r#"$.b[?@] ~ {"a":null,"b":[null],"c":[{}],"null":1} -> $['b'][0] ~ null"#,
-    r#"$.b[?@==null] ~ {"a":null,"b":[null],"c":[{}],"null":1} -> $['b'][0] ~ null"#,
-    r#"$.c[?@.d==null] ~ {"a":null,"b":[null],"c":[{}],"null":1} -> nothing"#,
 ];
 
 /// Items of each kind.

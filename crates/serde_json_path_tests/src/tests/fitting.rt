@@ -10,8 +10,7 @@ ghost use Rattle.serde_json_path.specs.Paths.{path_tree};
 use serde_json::Value;
 use serde_json_path::functions::{Builtin, Functions};
 use serde_json_path::{JsonPath, NodeList, QueryError, law_set_before_itself};
-use serde_json_path_core_tests::rows::Table;
-use serde_json_path_core_tests::texts::values;
+use serde_json_path_core_tests::{Came, hold_row, values};
 use std::alloc::Global;
 use std::test::Fail;
 
@@ -28,8 +27,7 @@ fn query_if_it_fits<'b>(
     if !path.fits(&Builtin) {
         return Ok(None);
     }
-    let nodes = path.query(alloc, document)?;
-    Ok(Some(nodes))
+    Ok(Some(path.query(alloc, document)?))
 }
 
 /// The nodes that a path selects under a set, if it fits.
@@ -45,12 +43,11 @@ fn query_with_if_it_fits<'b, F: Functions>(
     if !path.fits(functions) {
         return Ok(None);
     }
-    let nodes = path.query_with(alloc, document, functions)?;
-    Ok(Some(nodes))
+    Ok(Some(path.query_with(alloc, document, functions)?))
 }
 
 /// The values that an answer gives, or `nothing` where the path does not fit.
-fn given(alloc: Global, answer: Result<Option<NodeList<'_>>, QueryError>) -> Result<String, Fail> {
+fn given(alloc: Global, answer: Result<Option<NodeList<'_>>, QueryError>) -> Came {
     match answer? {
         Some(nodes) => values(alloc, nodes.iter()),
         None => Ok(String::from_str(alloc, "nothing")?),
@@ -63,10 +60,8 @@ fn queries_where_the_path_fits(rt: HostRuntime) -> Result<(), Fail> {
     let row = ("[[1,2],[3]]", "$[?length(@) == 2]", "[1,2]");
     let document = Value::from_str(alloc, row.0)?;
     let path = JsonPath::parse(alloc, row.1)?;
-    let mut table = Table::new(&rt);
     let nodes = query_if_it_fits(alloc, &path, &document);
-    table.hold(row, given(alloc, nodes));
+    hold_row(&rt, row, given(alloc, nodes))?;
     let nodes = query_with_if_it_fits(alloc, &path, &document, &Builtin);
-    table.hold(row, given(alloc, nodes));
-    table.end()
+    hold_row(&rt, row, given(alloc, nodes))
 }

@@ -19,8 +19,7 @@ use serde_json_path::{
     JsonPath, LocatedNodeList, NormalizedPath, ParseErrorKind, PathElement, QueryError, law_append,
     law_locations_are_proper, law_normal, law_print, law_result_is_unique,
 };
-use serde_json_path_core_tests::rows::{Table, fields, hold_rows, holds};
-use serde_json_path_core_tests::texts::located;
+use serde_json_path_core_tests::{Came, fields, hold_row, hold_rows, holds, located};
 use std::alloc::Global;
 use std::test::Fail;
 
@@ -156,7 +155,7 @@ const FOUND: &[&str] = &[
 ];
 
 /// How many nodes a path selects. Fails where one of them is not found again, or where the path does not come back.
-fn found_again(alloc: Global, given: &str) -> Result<String, Fail> {
+fn found_again(alloc: Global, given: &str) -> Came {
     let (path, text) = fields(given)?;
     let document = Value::from_str(alloc, text)?;
     holds(lead_back(alloc, path, &document, &Builtin)?, "no way back")?;
@@ -178,9 +177,7 @@ fn appends_a_segment(rt: HostRuntime) -> Result<(), Fail> {
     let longer = JsonPath::parse_with(alloc, "$[*].a", &Builtin)?;
     let (nodes, more) = append(alloc, &shorter, &longer, &document, &Builtin)?;
     let all = r#"$[0] $[1] $[2] ~ {"a":1} {"b":2} {"a":3}"#;
-    let mut table = Table::new(&rt);
-    table.hold((text, "$[*]", all), located(alloc, &nodes));
+    hold_row(&rt, (text, "$[*]", all), located(alloc, &nodes))?;
     let row = (text, "$[*].a", "$[0]['a'] $[2]['a'] ~ 1 3");
-    table.hold(row, located(alloc, &more));
-    table.end()
+    hold_row(&rt, row, located(alloc, &more))
 }

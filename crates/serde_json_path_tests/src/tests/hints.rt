@@ -1,14 +1,15 @@
 //! What was probably meant by texts that are no paths.
 
-use crate::tests::nesting::{PARENTHESES, nested};
+use crate::tests::nesting::PARENTHESES;
 use serde_json_path::JsonPath;
-use serde_json_path_core_tests::rows::Table;
+use serde_json_path_core_tests::{Came, hold_nested, hold_rows};
 use serde_json_path_hints::hint;
 use std::alloc::Global;
 use std::test::Fail;
 
-/// A text, the kind and the position of its refusal, and what was probably meant, at the root and after the path.
-const PATHS: &[&str] = &[
+/// A text, the kind and the position of its refusal, and what was probably meant.
+const HINTS: &[&str] = &[
+    // At the root and after the path.
     "$.a.length() -> TextAfterPath 11 ~ a function only stands in a filter: `$[?length(@.a) > 1]`",
     "$.a.size() -> TextAfterPath 9 ~ a function only stands in a filter: `$[?length(@.a) > 1]`",
     "$.a-b -> TextAfterPath 4 ~ `$['a-b']`: such a name is quoted in brackets",
@@ -49,10 +50,7 @@ const PATHS: &[&str] = &[
     "$.a and $.b -> TextAfterPath 4 ~ a test only stands in a filter: `$[?@.a == 1]`",
     "$.é-b -> TextAfterPath 5 ~ `$['a-b']`: such a name is quoted in brackets",
     "é -> ExpectedRoot 1 ~ `$.` before it, as in `$.a.b`",
-];
-
-/// A text, the kind and the position of its refusal, and what was probably meant, at names after dots.
-const NAMES: &[&str] = &[
+    // At names after dots.
     "$. a -> BadMemberName 3 ~ no blank after a dot",
     "$.['a'] -> BadMemberName 3 ~ no dot before a bracket, as in `$['a']`",
     "$.[0] -> BadMemberName 3 ~ no dot before a bracket, as in `$['a']`",
@@ -72,10 +70,7 @@ const NAMES: &[&str] = &[
     "$..-a -> BadMemberName 4 ~ `$['-a']`: such a name is quoted in brackets",
     "$.a..0 -> BadMemberName 6 ~ `$..[0]` for items, `$..['0']` for members",
     "$.1 -> BadMemberName 3 ~ `$[0]` for an item, `$['0']` for a member",
-];
-
-/// A text, the kind and the position of its refusal, and what was probably meant, in brackets.
-const SELECTORS: &[&str] = &[
+    // In brackets.
     "$[(@.length-1)] -> ExpectedSelector 3 ~ `[-1]` for the last item",
     "$[@.length-1] -> ExpectedSelector 3 ~ `[-1]` for the last item",
     "$[“a”] -> ExpectedSelector 3 ~ straight quotes, as in `['a']`",
@@ -112,10 +107,7 @@ const SELECTORS: &[&str] = &[
     "$[’a’] -> ExpectedSelector 3 ~ straight quotes, as in `['a']`",
     "$[-a] -> ExpectedSelector 3 ~ `['-a']`: a name in brackets is quoted",
     "$[.a] -> ExpectedSelector 3 ~ `['a']`: a name in brackets is quoted",
-];
-
-/// A text, the kind and the position of its refusal, and what was probably meant, after an operand of a filter.
-const OPERATORS: &[&str] = &[
+    // After an operand of a filter.
     "$[?@.a = 1] -> ExpectedClosingBracket 8 ~ equality is written ==",
     "$[?@.a=1] -> ExpectedClosingBracket 7 ~ equality is written ==",
     "$[?@.a == 1 and @.b] -> ExpectedClosingBracket 13 ~ `&&`",
@@ -161,10 +153,7 @@ const OPERATORS: &[&str] = &[
     "$[?@.a)] -> ExpectedClosingBracket 7 ~ one `)` less",
     "$[?! @.a == 1] -> ExpectedClosingBracket 10 ~ `!(@.a == 1)`, or `!=`",
     "$[?@.a # 1] -> ExpectedClosingBracket 8 ~ nothing",
-];
-
-/// A text, the kind and the position of its refusal, and what was probably meant, after a literal or in parentheses.
-const OPERANDS: &[&str] = &[
+    // After a literal or in parentheses.
     "$[?'x' in @.a] -> ExpectedComparisonOperator 8 ~ `@.a == 'x' || @.a == 'y'`",
     "$[?(@.a + 1) == 2] -> ExpectedClosingParenthesis 9 ~ there is no arithmetic in paths",
     "$[?'a'] -> ExpectedComparisonOperator 7 ~ `['a']`, or `@.a == 'a'`: a literal alone is no test",
@@ -175,10 +164,7 @@ const OPERANDS: &[&str] = &[
     "$[?(@.a] -> ExpectedClosingParenthesis 8 ~ `)` before `]`",
     "$[?match(@.a, 'b'] -> ExpectedComparisonOperator 18 ~ `)` before `]`",
     "$[?length(@.a -> ExpectedClosingParenthesis 14 ~ the closing `)`",
-];
-
-/// A text, the kind and the position of its refusal, and what was probably meant, where an expression should start.
-const EXPRESSIONS: &[&str] = &[
+    // Where an expression should start.
     "$[?@.a === 1] -> ExpectedExpression 10 ~ `==`",
     "$[?@.a !== 1] -> ExpectedExpression 10 ~ `!=`",
     "$[?@.a <> 1] -> ExpectedExpression 9 ~ `!=`",
@@ -220,10 +206,7 @@ const EXPRESSIONS: &[&str] = &[
     "$[?match(@.a,)] -> ExpectedExpression 14 ~ no comma before `)`",
     "$[? -> ExpectedExpression 4 ~ an expression and the closing `]`",
     "$[?@.a == b] -> ExpectedExpression 11 ~ `'a'` for a text, `@.a` for a member",
-];
-
-/// A text, the kind and the position of its refusal, and what was probably meant, at calls.
-const FUNCTIONS: &[&str] = &[
+    // At calls.
     "$[?not(@.a)] -> UndefinedFunction 4 ~ `!`",
     "$[?contains(@.a, 'x')] -> UndefinedFunction 4 ~ `search(@.a, 'x')`",
     "$[?startswith(@.a, 'x')] -> UndefinedFunction 4 ~ `match(@.a, 'x.*')`",
@@ -256,10 +239,7 @@ const FUNCTIONS: &[&str] = &[
     "$[?leength(@.a) > 1] -> UndefinedFunction 4 ~ `length`",
     "$[?l(@.a)] -> UndefinedFunction 4 ~ nothing",
     "$[?match(@.a, 'b') == true] -> WrongReturnType 4 ~ `match(@.a, 'b.*')` alone: it is a test already",
-];
-
-/// A text, the kind and the position of its refusal, and what was probably meant, in strings and numbers.
-const STRINGS: &[&str] = &[
+    // In strings and numbers.
     "$[?@.a == 1e3] -> ExponentOrEmptyFraction 11 ~ `1000` for `1e3`, `1` for `1.`",
     "$[?@.a == 1.] -> ExponentOrEmptyFraction 11 ~ `1000` for `1e3`, `1` for `1.`",
     "$[?@.a == 0.0000000001] -> FractionTooLong 11 ~ at most nine digits after the point",
@@ -276,34 +256,18 @@ const STRINGS: &[&str] = &[
     r"$['C:\'] -> ExpectedEndingQuote 9 ~ `\\` for a backslash before the ending quote",
 ];
 
+const TOO_DEEP: &str =
+    "NestedTooDeep 131 ~ 128 filters, parentheses and calls in one another at most";
+
 /// How a text is refused, and what was probably meant, or `nothing`.
-fn hinted(alloc: Global, text: &str) -> Result<String, Fail> {
-    let Err(e) = JsonPath::parse(alloc, text) else {
-        return Err(Fail::new("accepted"));
-    };
+fn hinted(alloc: Global, text: &str) -> Came {
+    let e = JsonPath::parse(alloc, text).err().ok_or("accepted")?;
     let hint = hint(text, &e).unwrap_or("nothing");
     Ok(format!(in alloc; "{:?} {} ~ {hint}", e.kind(), e.position())?)
 }
 
 #[test]
 fn tells_what_was_meant(rt: HostRuntime) -> Result<(), Fail> {
-    let tables = [
-        PATHS,
-        NAMES,
-        SELECTORS,
-        OPERATORS,
-        OPERANDS,
-        EXPRESSIONS,
-        FUNCTIONS,
-        STRINGS,
-    ];
-    let mut table = Table::new(&rt);
-    for rows in tables {
-        table.hold_each("built-in functions", rows, hinted);
-    }
-    let deep = nested(rt.alloc(), PARENTHESES, 128)?;
-    let wanted = "NestedTooDeep 131 ~ 128 filters, parentheses and calls in one another at most";
-    let told = hinted(rt.alloc(), deep.as_str());
-    table.hold(("built-in functions", deep.as_str(), wanted), told);
-    table.end()
+    hold_rows(&rt, HINTS, hinted)?;
+    hold_nested(&rt, &[(PARENTHESES, 128, TOO_DEEP)], hinted)
 }

@@ -2,8 +2,7 @@
 
 use serde_json::Value;
 use serde_json_path::{FromJsonError, JsonPath, JsonPathExt};
-use serde_json_path_core_tests::rows::{fields, hold_rows};
-use serde_json_path_core_tests::texts::values;
+use serde_json_path_core_tests::{Came, fields, hold_rows, values};
 use std::alloc::Global;
 use std::test::Fail;
 
@@ -29,7 +28,7 @@ const READ: &[&str] = &[
 ];
 
 /// Why a value is not read as a path, or `accepted`.
-fn refusal(alloc: Global, value: &str) -> Result<String, Fail> {
+fn refusal(alloc: Global, value: &str) -> Came {
     let value = Value::from_str(alloc, value)?;
     match JsonPath::from_json(alloc, &value).err() {
         Some(e) => Ok(e.to_string(alloc)?),
@@ -45,7 +44,7 @@ fn refuses_values_that_are_not_paths(rt: HostRuntime) -> Result<(), Fail> {
 }
 
 /// The values that the path of a JSON string selects from a document, which is asked for them.
-fn read(alloc: Global, given: &str) -> Result<String, Fail> {
+fn read(alloc: Global, given: &str) -> Came {
     let (value, document) = fields(given)?;
     let value = Value::from_str(alloc, value)?;
     let path = JsonPath::from_json(alloc, &value)?;

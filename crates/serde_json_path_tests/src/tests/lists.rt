@@ -2,9 +2,7 @@
 
 use crate::tests::rows::{nodes, read};
 use serde_json::Value;
-use serde_json_path::LocatedNodeList;
-use serde_json_path_core_tests::rows::hold_rows;
-use serde_json_path_core_tests::texts::locations;
+use serde_json_path_core_tests::{Came, hold_rows, locations};
 use std::alloc::Global;
 use std::test::Fail;
 
@@ -15,14 +13,9 @@ const ONCE: &[&str] = &[
 ];
 
 /// The locations of what a path selects from a document, each once.
-fn once(alloc: Global, given: &str) -> Result<String, Fail> {
+fn once(alloc: Global, given: &str) -> Came {
     let (path, document) = read(alloc, given)?;
     locations(alloc, &path.query_located(alloc, &document)?.dedup())
-}
-
-#[test]
-fn keeps_each_location_once(rt: HostRuntime) -> Result<(), Fail> {
-    hold_rows(&rt, ONCE, once)
 }
 
 /// A path, a document, and the JSON pointers of what the path selects, with a `;` after each.
@@ -31,25 +24,14 @@ const POINTED: &[&str] = &[
     r#"$ ~ {"a/~":[0]} -> ;"#,
 ];
 
-/// The JSON pointers of nodes, with a `;` after each.
-fn pointers(alloc: Global, nodes: &LocatedNodeList<'_>) -> Result<String, Fail> {
+/// The JSON pointers of what a path selects from a document.
+fn pointed(alloc: Global, given: &str) -> Came {
+    let (path, document) = read(alloc, given)?;
     let mut text = String::new(alloc);
-    for location in nodes.locations() {
-        text.push_str(location.to_json_pointer(alloc)?.as_str())?;
-        text.push(';')?;
+    for location in path.query_located(alloc, &document)?.locations() {
+        write!(text, "{};", location.to_json_pointer(alloc)?)?;
     }
     Ok(text)
-}
-
-/// The JSON pointers of what a path selects from a document.
-fn pointed(alloc: Global, given: &str) -> Result<String, Fail> {
-    let (path, document) = read(alloc, given)?;
-    pointers(alloc, &path.query_located(alloc, &document)?)
-}
-
-#[test]
-fn points_at_each_node(rt: HostRuntime) -> Result<(), Fail> {
-    hold_rows(&rt, POINTED, pointed)
 }
 
 /// A path, how many nodes it selects from an object of two members, and how their list refuses to be exactly one node and
@@ -60,7 +42,7 @@ const COUNTED: &[&str] = &[
 ];
 
 /// How many nodes a path selects from an object of two members, and how their list refuses.
-fn counted(alloc: Global, path: &str) -> Result<String, Fail> {
+fn counted(alloc: Global, path: &str) -> Came {
     let document = Value::from_str(alloc, r#"{"a":1,"b":2}"#)?;
     let nodes = nodes(alloc, path, &document)?;
     let one = nodes.exactly_one().err();
@@ -69,6 +51,8 @@ fn counted(alloc: Global, path: &str) -> Result<String, Fail> {
 }
 
 #[test]
-fn refuses_by_the_number_of_nodes(rt: HostRuntime) -> Result<(), Fail> {
+fn lists_answer(rt: HostRuntime) -> Result<(), Fail> {
+    hold_rows(&rt, ONCE, once)?;
+    hold_rows(&rt, POINTED, pointed)?;
     hold_rows(&rt, COUNTED, counted)
 }

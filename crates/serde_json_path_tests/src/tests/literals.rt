@@ -1,7 +1,8 @@
 //! Literals in comparisons (RFC 9535, section 2.3.5.1).
 
 /// A path, a document, and the locations and the values of what the path selects there.
-pub(crate) const NUMBERS: &[&str] = &[
+pub(crate) const ROWS: &[&str] = &[
+    // Numbers.
     "$[?@ < 1.5] ~ [1,1.5] -> $[0] ~ 1",
     "$[?@ == 1.50] ~ [1,1.5] -> nothing",
     "$[?1.5 == 1.500000000] ~ [0] -> $[0] ~ 0",
@@ -15,10 +16,7 @@ pub(crate) const NUMBERS: &[&str] = &[
     "$[?@ == 18446744073709551615] ~ [18446744073709551615] -> $[0] ~ 18446744073709551615",
     "$[?@ == 18446744073709551615.0] ~ [18446744073709551615] -> $[0] ~ 18446744073709551615",
     "$[?@ == -9223372036854775808] ~ [-9223372036854775808,-9223372036854775807] -> $[0] ~ -9223372036854775808",
-];
-
-/// A path, a document, and the locations and the values of what the path selects there.
-pub(crate) const OTHERS: &[&str] = &[
+    // Other literals.
     r#"$[?@ == true] ~ [true,false,null,"true",1] -> $[0] ~ true"#,
     r#"$[?@ == false] ~ [true,false,null,"false",0] -> $[1] ~ false"#,
     r#"$[?@ == null] ~ [true,false,null,"null",0] -> $[2] ~ null"#,

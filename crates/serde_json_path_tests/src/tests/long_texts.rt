@@ -1,11 +1,12 @@
 //! Long texts, of paths and of documents.
 
-use crate::tests::nesting::{CALLS, COMPARED, FILTERS, Nesting, PARENTHESES, hold_nested, nested};
+use crate::tests::nesting::{CALLS, COMPARED, FILTERS, PARENTHESES};
 use crate::tests::rows::{count, parsed, selected, told};
 use serde_json_path::functions::Builtin;
 use serde_json_path::{JsonPath, PathSource, TextSource, parse_source};
-use serde_json_path_core_tests::rows::{Table, alike, fields, hold_rows, holds};
-use serde_json_path_core_tests::texts::long;
+use serde_json_path_core_tests::{
+    Came, Nesting, alike, fields, hold_nested, hold_row, hold_rows, holds, long, nested,
+};
 use std::alloc::Global;
 use std::test::Fail;
 
@@ -16,10 +17,9 @@ pub(crate) const CUT: &[(Nesting<'static>, usize, &str)] = &[
     (("$", " ", "x", "", ""), 10_000, "TextAfterPath 2"),
 ];
 
-/// Digits after a point.
+// Digits after a point, and calls, one after the other.
 const FRACTION: Nesting<'static> = ("$[?@ == 0.", "0", "]", "", "");
 
-/// Calls, one after the other.
 const SEVERAL: Nesting<'static> = ("$[?count(@) == 1", " || count(@) == 1", "]", "", "");
 
 /// The same, of texts of which the nesting of the last three ends and is not counted.
@@ -37,10 +37,10 @@ fn parses_long_texts(rt: HostRuntime) -> Result<(), Fail> {
 }
 
 /// What a path, which prints itself, selects from a document.
-fn of_path(alloc: Global, path: &str, document: &str) -> Result<String, Fail> {
+fn of_path(alloc: Global, path: &str, document: &str) -> Came {
     let printed = JsonPath::parse(alloc, path)?.to_text(alloc)?;
     holds(printed.as_str() == path, "the path prints otherwise")?;
-    selected(alloc, &Builtin, path, document)
+    selected(alloc, &Builtin, (path, document))
 }
 
 #[test]
@@ -49,9 +49,7 @@ fn selects_deep_nodes(rt: HostRuntime) -> Result<(), Fail> {
     let path = long(rt.alloc(), "$", "[0]", 20, "")?;
     let wanted = long(rt.alloc(), "$", "[0]", 20, " ~ 0")?;
     let came = of_path(rt.alloc(), path.as_str(), document.as_str());
-    let mut table = Table::new(&rt);
-    table.hold((document.as_str(), path.as_str(), wanted.as_str()), came);
-    table.end()
+    hold_row(&rt, ("a deep node", path.as_str(), wanted.as_str()), came)
 }
 
 /// Texts of which a thousand make a long name, each as it is in quotes of a path, and as it is in JSON.
@@ -64,29 +62,17 @@ const REPEATED: &[&str] = &[
     "😀 ~ 😀 -> selected",
 ];
 
-/// Fails where a path does not select the member of a long name.
-fn is_named(alloc: Global, in_path: &str, in_json: &str) -> Result<(), Fail> {
+/// Selects the member of a name of a thousand such texts, and the item that is equal to a literal of a thousand.
+fn of_repeated(alloc: Global, given: &str) -> Came {
+    let (in_path, in_json) = fields(given)?;
     let path = long(alloc, "$['", in_path, 1000, "']")?;
     let document = long(alloc, "{\"", in_json, 1000, "\":1}")?;
     let wanted = long(alloc, "$['", in_path, 1000, "'] ~ 1")?;
-    let _text = alike(of_path(alloc, path.as_str(), document.as_str())?, wanted)?;
-    Ok(())
-}
-
-/// Fails where a path does not select the item that is equal to a long literal.
-fn is_literal(alloc: Global, in_path: &str, in_json: &str) -> Result<(), Fail> {
+    alike(of_path(alloc, path.as_str(), document.as_str())?, wanted)?;
     let path = long(alloc, "$[?@ == '", in_path, 1000, "']")?;
     let document = long(alloc, "[0,\"", in_json, 1000, "\"]")?;
     let wanted = long(alloc, "$[1] ~ \"", in_json, 1000, "\"")?;
-    let _text = alike(of_path(alloc, path.as_str(), document.as_str())?, wanted)?;
-    Ok(())
-}
-
-/// Selects by a name and a literal of a thousand such texts.
-fn of_repeated(alloc: Global, given: &str) -> Result<String, Fail> {
-    let (in_path, in_json) = fields(given)?;
-    is_named(alloc, in_path, in_json)?;
-    is_literal(alloc, in_path, in_json)?;
+    alike(of_path(alloc, path.as_str(), document.as_str())?, wanted)?;
     Ok(String::from_str(alloc, "selected")?)
 }
 
@@ -98,14 +84,12 @@ fn selects_by_long_names_and_literals(rt: HostRuntime) -> Result<(), Fail> {
 #[test]
 fn counts_a_thousand_items(rt: HostRuntime) -> Result<(), Fail> {
     let zeros = long(rt.alloc(), "[0", ",0", 999, "]")?;
-    let mut table = Table::new(&rt);
     let came = count(rt.alloc(), "$..*", zeros.as_str());
-    table.hold(("a thousand zeros", "$..*", "1000"), came);
-    table.end()
+    hold_row(&rt, ("a thousand zeros", "$..*", "1000"), came)
 }
 
 /// What a parse answers, and the length of its text. Fails where it looks at a byte twice.
-fn of_looks(alloc: Global, text: &str) -> Result<String, Fail> {
+fn of_looks(alloc: Global, text: &str) -> Came {
     let mut source = TextSource::new(text);
     let told = told(alloc, parse_source(alloc, &mut source, &Builtin))?;
     holds(source.looks() <= source.len() as u128, "looks twice")?;
@@ -131,7 +115,7 @@ fn looks_at_texts(rt: HostRuntime) -> Result<(), Fail> {
 const CYCLES: &[&str] = &["1 -> 300", "2 -> 300", "12 -> 300", "300 -> 300"];
 
 /// How many of 300 members match their pattern, where these come again after so many members, and not the next pattern.
-fn of_cycle(alloc: Global, cycle: &str) -> Result<String, Fail> {
+fn of_cycle(alloc: Global, cycle: &str) -> Came {
     let cycle = cycle.parse::<usize>()?;
     let mut document = String::from_str(alloc, "[")?;
     for member in 0..300usize {
@@ -143,11 +127,8 @@ fn of_cycle(alloc: Global, cycle: &str) -> Result<String, Fail> {
         )?;
     }
     document.push(']')?;
-    count(
-        alloc,
-        "$[?match(@[0], @[1]) && !search(@[0], @[2])]",
-        document.as_str(),
-    )
+    let path = "$[?match(@[0], @[1]) && !search(@[0], @[2])]";
+    count(alloc, path, document.as_str())
 }
 
 #[test]

@@ -1,13 +1,16 @@
-//! The words of refusals.
+//! The words of refusals, and of errors as a user of `std::error::Error` takes them.
 
 ghost use Rattle.std.specs.Prelude.{◌≡◌, ◌≢◌, IfSome};
 ghost use Rattle.serde_json_path_parser.specs.Errors.{kind_of};
 ghost use Rattle.serde_json_path_parser.specs.declared.error.ParseErrorKind.TheVariants.{NoMemory};
 
-use crate::tests::nesting::{PARENTHESES, nested};
-use serde_json_path::{JsonPath, ParseError};
-use serde_json_path_core_tests::rows::{Table, alike};
+use crate::tests::nesting::PARENTHESES;
+use serde_json_path::{
+    AtMostOneError, ExactlyOneError, FromJsonError, JsonPath, ParseError, QueryError,
+};
+use serde_json_path_core_tests::{Came, alike, hold_nested, hold_row, hold_rows};
 use std::alloc::Global;
+use std::error::Error;
 use std::test::Fail;
 
 /// A text, and the message of its refusal.
@@ -53,7 +56,7 @@ fn refused_twice(alloc: Global, text: &str) -> Option<(ParseError, ParseError)>
 }
 
 /// The message of a text's refusal, the same of both calls.
-fn message(alloc: Global, text: &str) -> Result<String, Fail> {
+fn message(alloc: Global, text: &str) -> Came {
     match refused_twice(alloc, text) {
         Some((refused, again)) => alike(refused.to_string(alloc)?, again.to_string(alloc)?),
         None => Err(Fail::new("accepted")),
@@ -62,11 +65,27 @@ fn message(alloc: Global, text: &str) -> Result<String, Fail> {
 
 #[test]
 fn tells_refusals(rt: HostRuntime) -> Result<(), Fail> {
-    let mut table = Table::new(&rt);
-    table.hold_each("built-in functions", TOLD, message);
-    let deep = nested(rt.alloc(), PARENTHESES, 128)?;
+    hold_rows(&rt, TOLD, message)?;
     let wanted = "at position 131, in long-hand segment, nested more than 128 deep";
-    let told = message(rt.alloc(), deep.as_str());
-    table.hold(("built-in functions", deep.as_str(), wanted), told);
-    table.end()
+    hold_nested(&rt, &[(PARENTHESES, 128, wanted)], message)
+}
+
+/// Holds the text of an error to what is wanted.
+fn holds_told<E: Error + Drop>(
+    rt: &(impl Eprint + AllocGlobal),
+    error: E,
+    wanted: &str,
+) -> Result<(), Fail> {
+    let came = format!(in rt.alloc(); "{error}")?;
+    hold_row(rt, ("errors", wanted, wanted), Ok(came))
+}
+
+#[test]
+fn are_errors(rt: HostRuntime) -> Result<(), Fail> {
+    holds_told(&rt, AtMostOneError(2), "at most one node expected, found 2")?;
+    holds_told(&rt, ExactlyOneError::Empty, "one node expected, found none")?;
+    holds_told(&rt, QueryError::Pattern, "pattern refused")?;
+    holds_told(&rt, FromJsonError::NotAString, "not a string")?;
+    let refused = JsonPath::parse(rt.alloc(), "x").err().ok_or("accepted")?;
+    holds_told(&rt, refused, "at position 1, expected '$'")
 }

@@ -1,7 +1,8 @@
 //! Names, wildcards, indexes and several selectors (RFC 9535, sections 2.3.1 to 2.3.3 and 2.5.1).
 
 /// A path, a document, and the locations and the values of what the path selects there.
-pub(crate) const NAMES: &[&str] = &[
+pub(crate) const ROWS: &[&str] = &[
+    // Names.
     "$ ~ null -> $ ~ null",
     r#"$.foo.bar[0] ~ {"foo":{"bar":["baz",42]}} -> $['foo']['bar'][0] ~ "baz""#,
     r#"$.é ~ {"é":1} -> $['é'] ~ 1"#,
@@ -19,10 +20,7 @@ pub(crate) const NAMES: &[&str] = &[
     "$['\u{7f}'] ~ {\"\u{7f}\":1} -> $['\u{7f}'] ~ 1",
     r#"$["a'b","\u0001"] ~ {"\u0001":1,"a'b":2} -> $['a\'b'] $['\u0001'] ~ 2 1"#,
     r#"$['a\'b\\\u000b'] ~ {"a'b\\\u000b":1,"a":2} -> $['a\'b\\\u000b'] ~ 1"#,
-];
-
-/// A path, a document, and the locations and the values of what the path selects there.
-pub(crate) const WILDCARDS: &[&str] = &[
+    // Wildcards.
     r#"$.* ~ {"a'b\\\u000b":1} -> $['a\'b\\\u000b'] ~ 1"#,
     r#"$.* ~ {"a":1,"b":2} -> $['a'] $['b'] ~ 1 2"#,
     r#"$[*] ~ {"a":1,"b":2} -> $['a'] $['b'] ~ 1 2"#,
@@ -37,10 +35,7 @@ pub(crate) const WILDCARDS: &[&str] = &[
     "$.*.* ~ [[1],{},[],2] -> $[0][0] ~ 1",
     r#"$.o[*] ~ {"o":{"j":1,"k":2},"a":[5,3,[{"j":4},{"k":6}]]} -> $['o']['j'] $['o']['k'] ~ 1 2"#,
     r#"$.a[*] ~ {"a":[5,3]} -> $['a'][0] $['a'][1] ~ 5 3"#,
-];
-
-/// A path, a document, and the locations and the values of what the path selects there.
-pub(crate) const INDEXES: &[&str] = &[
+    // Indexes.
     r#"$[0] ~ {"0":1} -> nothing"#,
     "$[1][0] ~ [0,[true]] -> $[1][0] ~ true",
     "$[-1] ~ [1,2,3,4,5] -> $[4] ~ 5",
@@ -51,10 +46,7 @@ pub(crate) const INDEXES: &[&str] = &[
     r#"$[0] ~ "a" -> nothing"#,
     "$[9007199254740991] ~ [1] -> nothing",
     "$[-9007199254740991] ~ [1] -> nothing",
-];
-
-/// A path, a document, and the locations and the values of what the path selects there.
-pub(crate) const SEVERAL: &[&str] = &[
+    // Several selectors.
     r#"$['a','a'] ~ {"a":1} -> $['a'] $['a'] ~ 1 1"#,
     r#"$['a',0,*] ~ {"a":1} -> $['a'] $['a'] ~ 1 1"#,
     r#"$['a','b'] ~ {"b":1,"a":2} -> $['a'] $['b'] ~ 2 1"#,

@@ -4,38 +4,20 @@ use crate::tests::cuts::cut;
 use crate::tests::printed::reads_back;
 use crate::tests::rows::parsed;
 use serde_json_path::functions::Builtin;
-use serde_json_path_core_tests::rows::{Table, hold_rows};
-use serde_json_path_core_tests::texts::long;
-use std::alloc::{AllocError, Global};
+use serde_json_path_core_tests::{Came, Nesting, hold_nested, hold_rows, nested};
+use std::alloc::Global;
 use std::test::Fail;
 
-/// The beginning, the opening, the middle, the closing and the end of a text, in which opening and closing stand as often.
-pub(crate) type Nesting<'t> = (&'t str, &'t str, &'t str, &'t str, &'t str);
-
-/// Filters, each within the one before.
+// What nests: filters, also below one that compares, parentheses, negated ones, and calls.
 pub(crate) const FILTERS: Nesting<'static> = ("$", "[?@", "", "]", "");
 
-/// A filter that compares, and filters within it.
 pub(crate) const COMPARED: Nesting<'static> = ("$", "[?@", "[?@", "]", " == 1]");
 
-/// A filter, and parentheses within it.
 pub(crate) const PARENTHESES: Nesting<'static> = ("$[?", "(", "@", ")", "]");
 
-/// A filter, and negated parentheses within it.
 const NEGATED: Nesting<'static> = ("$[?", "!(", "@", ")", "]");
 
-/// A filter, and calls within it.
 pub(crate) const CALLS: Nesting<'static> = ("$[?", "length(", "@", ")", " == 1]");
-
-/// The text in which opening and closing stand so many times.
-pub(crate) fn nested(
-    alloc: Global,
-    (beginning, opening, middle, closing, end): Nesting<'_>,
-    times: usize,
-) -> Result<String, AllocError> {
-    let opened = long(alloc, beginning, opening, times, middle)?;
-    long(alloc, opened.as_str(), closing, times, end)
-}
 
 /// What nests, how often, and what the parse of that text answers.
 const NESTED: &[(Nesting<'static>, usize, &str)] = &[
@@ -54,31 +36,13 @@ const NESTED: &[(Nesting<'static>, usize, &str)] = &[
 ];
 
 /// What the parse of a text answers. A path reads back, and a refused text is cut at each character.
-fn of_text(alloc: Global, text: &str) -> Result<String, Fail> {
+fn of_text(alloc: Global, text: &str) -> Came {
     let told = parsed(alloc, text)?;
-    if told.as_str() == "accepted" {
-        reads_back(alloc, &Builtin, text)?;
-    } else {
-        cut(alloc, &Builtin, text)?;
+    match told.as_str() {
+        "accepted" => reads_back(alloc, &Builtin, text)?,
+        _ => cut(alloc, &Builtin, text)?,
     }
     Ok(told)
-}
-
-/// Holds what comes of each nested text to what is wanted.
-pub(crate) fn hold_nested<F: Fn(Global, &str) -> Result<String, Fail>>(
-    rt: &(impl Eprint + AllocGlobal),
-    rows: &[(Nesting<'static>, usize, &str)],
-    came: F,
-) -> Result<(), Fail>
-    requires { F.IsAlwaysCallable came }
-{
-    let mut table = Table::new(rt);
-    for &(nesting, times, wanted) in rows {
-        let text = nested(rt.alloc(), nesting, times)?;
-        let row = ("built-in functions", text.as_str(), wanted);
-        table.hold(row, came(rt.alloc(), text.as_str()));
-    }
-    table.end()
 }
 
 #[test]
@@ -105,7 +69,7 @@ const IN_TURN: &[&str] = &[
 ];
 
 /// What the parse of a text answers, in which the segment stands within the others.
-fn within(alloc: Global, segment: &str) -> Result<String, Fail> {
+fn within(alloc: Global, segment: &str) -> Came {
     let nesting = ("$", "[?(count(@", segment, ") == 1)]", "");
     let text = nested(alloc, nesting, 42)?;
     parsed(alloc, text.as_str())

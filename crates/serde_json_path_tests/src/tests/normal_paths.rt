@@ -4,8 +4,7 @@ use crate::tests::headline::find_again;
 use serde_json::Value;
 use serde_json_path::functions::Builtin;
 use serde_json_path::{NormalizedPath, PathElement};
-use serde_json_path_core_tests::rows::Table;
-use serde_json_path_core_tests::texts::located;
+use serde_json_path_core_tests::{hold_row, located};
 use std::test::Fail;
 
 #[test]
@@ -15,9 +14,7 @@ fn finds_the_root_again(rt: HostRuntime) -> Result<(), Fail> {
     let row = (r#"[{"a":7}]"#, "the root", r#"$ ~ [{"a":7}]"#);
     let document = Value::from_str(alloc, row.0)?;
     let nodes = find_again(alloc, &root, &document, &Builtin)?;
-    let mut table = Table::new(&rt);
-    table.hold(row, located(alloc, &nodes));
-    table.end()
+    hold_row(&rt, row, located(alloc, &nodes))
 }
 
 #[test]
@@ -31,8 +28,6 @@ fn finds_an_item_again(rt: HostRuntime) -> Result<(), Fail> {
     steps.push(PathElement::Index(1))?;
     let location = NormalizedPath::from_steps(steps);
     let nodes = find_again(alloc, &location, &document, &Builtin)?;
-    let mut table = Table::new(&rt);
     let row = ("[null,true]", "the second item", "$[1] ~ true");
-    table.hold(row, located(alloc, &nodes));
-    table.end()
+    hold_row(&rt, row, located(alloc, &nodes))
 }

@@ -1,7 +1,7 @@
 //! Number literals (RFC 9535, section 2.3.5.1).
 
-/// A path, a document, and the locations and the values of what the path selects there.
-pub(crate) const NUMBERS: &[&str] = &[
+/// Paths and documents, with what is selected, and texts, with their refusals.
+pub(crate) const ROWS: &[&str] = &[
     "$[?@ == 0] ~ [0,1] -> $[0] ~ 0",
     "$[?@ == -1] ~ [-1,0,1] -> $[0] ~ -1",
     "$[?@ == 10] ~ [1,10,100] -> $[1] ~ 10",
@@ -16,10 +16,6 @@ pub(crate) const NUMBERS: &[&str] = &[
     "$[?@ < 123456789.123456789] ~ [123456789,123456790] -> $[0] ~ 123456789",
     "$[?@ == 9223372036854775808] ~ [9223372036854775807,9223372036854775808,9223372036854775809] -> $[1] ~ 9223372036854775808",
     "$[?@ < -9223372036854775807.999999999] ~ [-9223372036854775808,-9223372036854775807] -> $[0] ~ -9223372036854775808",
-];
-
-/// A text, and the kind and the position of its refusal.
-pub(crate) const NO_NUMBERS: &[&str] = &[
     "$[?-1-1 == @] -> ExpectedComparisonOperator 6",
     "$[?@ == -9223372036854775808.000000001] -> NumberOutOfRange 9",
     "$[?@ == 1.-1] -> ExponentOrEmptyFraction 9",

@@ -2,7 +2,7 @@
 
 use crate::tests::rows::{queried, told};
 use serde_json_path::JsonPath;
-use serde_json_path_core_tests::rows::{Table, alike, fields};
+use serde_json_path_core_tests::{Came, alike, fields, hold_row, hold_rows};
 use std::alloc::Global;
 use std::test::Fail;
 
@@ -10,16 +10,14 @@ use std::test::Fail;
 fn the_new_path_is_the_root(rt: HostRuntime) -> Result<(), Fail> {
     let row = (r#"{"a":[1]}"#, "the new path", r#"$ ~ {"a":[1]}"#);
     let path = JsonPath::new(rt.alloc());
-    let mut table = Table::new(&rt);
-    table.hold(row, queried(rt.alloc(), &path, row.0));
-    table.end()
+    hold_row(&rt, row, queried(rt.alloc(), &path, row.0))
 }
 
 /// A path, a document, and the locations and the values of what the path selects there.
 const SELECTED: &[&str] = &[r#"$.a[-1] ~ {"a":[1,2]} -> $['a'][1] ~ 2"#];
 
 /// What a path selects, where `from_str` reads it.
-fn selected(alloc: Global, given: &str) -> Result<String, Fail> {
+fn selected(alloc: Global, given: &str) -> Came {
     let (path, document) = fields(given)?;
     queried(alloc, &JsonPath::from_str(alloc, path)?, document)
 }
@@ -32,15 +30,13 @@ const REFUSED: &[&str] = &[
 ];
 
 /// How `parse` and `from_str` refuse a text alike.
-fn refused(alloc: Global, text: &str) -> Result<String, Fail> {
+fn refused(alloc: Global, text: &str) -> Came {
     let one = told(alloc, JsonPath::parse(alloc, text))?;
     alike(one, told(alloc, JsonPath::from_str(alloc, text))?)
 }
 
 #[test]
 fn from_str_reads_as_parse(rt: HostRuntime) -> Result<(), Fail> {
-    let mut table = Table::new(&rt);
-    table.hold_each("built-in functions", SELECTED, selected);
-    table.hold_each("built-in functions", REFUSED, refused);
-    table.end()
+    hold_rows(&rt, SELECTED, selected)?;
+    hold_rows(&rt, REFUSED, refused)
 }

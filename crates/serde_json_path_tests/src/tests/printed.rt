@@ -2,7 +2,7 @@
 
 use serde_json_path::JsonPath;
 use serde_json_path::functions::{Builtin, Functions};
-use serde_json_path_core_tests::rows::{Table, alike, fields, hold_rows, holds};
+use serde_json_path_core_tests::{Came, alike, fields, hold_row, hold_rows, holds};
 use std::alloc::Global;
 use std::test::Fail;
 
@@ -60,15 +60,12 @@ const PRINTED: &[&str] = &[
 ];
 
 /// The text that a path prints. Fails where two ways to print it differ, or where a copy is not equal to it.
-fn printed(alloc: Global, path: &JsonPath) -> Result<String, Fail> {
+fn printed(alloc: Global, path: &JsonPath) -> Came {
     let copy = path.try_clone(alloc)?;
     holds(copy == *path, "a copy is not equal")?;
     let text = alike(path.to_text(alloc)?, copy.to_text(alloc)?)?;
     let value = path.to_json(alloc)?;
-    holds(
-        value.as_str() == Some(text.as_str()),
-        "the JSON form differs",
-    )?;
+    holds(value.as_str() == Some(text.as_str()), "another JSON form")?;
     alike(path.to_string(alloc)?, text)
 }
 
@@ -82,12 +79,12 @@ pub(crate) fn reads_back<F: Functions>(
     let text = path.to_text(alloc)?;
     let again = JsonPath::parse_with(alloc, text.as_str(), functions)?;
     holds(again == path, text.as_str())?;
-    let _text = alike(printed(alloc, &again)?, text)?;
+    alike(printed(alloc, &again)?, text)?;
     Ok(())
 }
 
 /// The text that the path of a text prints, also when it comes through JSON. The path reads back.
-fn of_path(alloc: Global, text: &str) -> Result<String, Fail> {
+fn of_path(alloc: Global, text: &str) -> Came {
     reads_back(alloc, &Builtin, text)?;
     let path = JsonPath::parse(alloc, text)?;
     let value = path.to_json(alloc)?;
@@ -97,15 +94,13 @@ fn of_path(alloc: Global, text: &str) -> Result<String, Fail> {
 
 #[test]
 fn prints_paths(rt: HostRuntime) -> Result<(), Fail> {
-    let mut table = Table::new(&rt);
-    table.hold_each("built-in functions", PRINTED, of_path);
+    hold_rows(&rt, PRINTED, of_path)?;
     let root = printed(rt.alloc(), &JsonPath::new(rt.alloc()));
-    table.hold(("no text", "the new path", "$"), root);
-    table.end()
+    hold_row(&rt, ("no text", "the new path", "$"), root)
 }
 
 /// Whether two paths are equal, in both orders. Each is equal to itself.
-fn equality(alloc: Global, given: &str) -> Result<String, Fail> {
+fn equality(alloc: Global, given: &str) -> Came {
     let (one, other) = fields(given)?;
     let one = JsonPath::parse(alloc, one)?;
     let other = JsonPath::parse(alloc, other)?;

@@ -1,7 +1,8 @@
 //! Texts that are no paths.
 
 /// A text, and the kind and the position of its refusal.
-pub(crate) const SEGMENTS: &[&str] = &[
+pub(crate) const ROWS: &[&str] = &[
+    // Segments.
     " -> ExpectedRoot 1",
     " $ -> ExpectedRoot 1",
     "x -> ExpectedRoot 1",
@@ -21,10 +22,7 @@ pub(crate) const SEGMENTS: &[&str] = &[
     "$...a -> BadMemberName 4",
     "$.. a -> BadMemberName 4",
     "$[0]. -> BadMemberName 6",
-];
-
-/// A text, and the kind and the position of its refusal.
-pub(crate) const SELECTORS: &[&str] = &[
+    // Selectors.
     "$[ -> ExpectedSelector 3",
     "$[  -> ExpectedSelector 4",
     "$[] -> ExpectedSelector 3",
@@ -38,10 +36,7 @@ pub(crate) const SELECTORS: &[&str] = &[
     "$['a'é] -> ExpectedClosingBracket 6",
     "$[9007199254740992] -> IntegerOutOfRange 3",
     "$[-9007199254740992] -> IntegerOutOfRange 3",
-];
-
-/// A text, and the kind and the position of its refusal.
-pub(crate) const SLICES: &[&str] = &[
+    // Slices.
     "$[1: -> ExpectedClosingBracket 5",
     "$[1:a] -> ExpectedClosingBracket 5",
     "$[1:010] -> ExpectedClosingBracket 6",
@@ -52,10 +47,7 @@ pub(crate) const SLICES: &[&str] = &[
     "$[9007199254740992:] -> IntegerOutOfRange 3",
     "$[:-9007199254740992] -> IntegerOutOfRange 4",
     "$[::9007199254740992] -> IntegerOutOfRange 5",
-];
-
-/// A text, and the kind and the position of its refusal.
-pub(crate) const STRINGS: &[&str] = &[
+    // Strings.
     "$['a -> ExpectedEndingQuote 5",
     r#"$['a"] -> ExpectedEndingQuote 7"#,
     r"$['a\u00e9 -> ExpectedEndingQuote 11",

@@ -4,7 +4,7 @@
 //! A call that answers no memory is made again, and then answers as its row says. A test whose name begins with
 //! `takes_none` makes requests only for what it hands in.
 
-use crate::tests::rows::{located_nodes, nodes, read};
+use crate::tests::rows::{located_nodes, nodes, read, read_with};
 use serde_json::Value;
 use serde_json_path::functions::{
     Builtin, CachedPatterns, FunctionArgType, Functions, LogicalType, PatternStore, Signature,
@@ -13,8 +13,10 @@ use serde_json_path::{
     FromJsonError, JsonPath, JsonPathExt, LocatedNode, LocatedNodeList, NodeList, ParseError,
     ParseErrorKind, PathSource, TextSource, parse_source,
 };
-use serde_json_path_core_tests::rows::{fields, hold_answers, hold_rows, holds};
-use serde_json_path_core_tests::texts::{long, of_calls, of_located, of_nodes, of_walk};
+use serde_json_path_core_tests::{
+    Called, Came, Own, fields, hold_answers, hold_rows, holds, long, of_calls, of_located,
+    of_nodes, of_walk,
+};
 use serde_json_path_nodes::escaped;
 use serde_json_path_syntax::{Checked, SyntaxBuilder};
 use std::alloc::Global;
@@ -31,17 +33,18 @@ const TEXTS: &[&str] = &[
     "$[?first(@.*) == 4] -> at position 4, in long-hand segment, undefined function",
 ];
 
-/// A text, and what its path prints.
+/// A text, and what its path prints, of which the last one fits [`Own`] alone.
 const PRINTED: &[&str] = &[
     "$.foo..baz -> $.foo..baz",
     "$.* -> $.*",
     "$[?@.a[?@ > $.min]] -> $[?@.a[?@ > $.min]]",
     "$.readings[?@.val > $.threshold].msg -> $.readings[?@.val > $.threshold].msg",
     "$.foo['bar'][1:10][?@.baz > 10 && @.foo.bar < 20] -> $.foo['bar'][1:10][?@.baz > 10 && @.foo.bar < 20]",
+    "$[?first(@.*) == 4] -> $[?first(@.*) == 4]",
 ];
 
 /// The text of what is read, or nothing where memory is refused.
-fn told(alloc: Global, answer: Result<JsonPath, ParseError>) -> Result<Option<String>, Fail> {
+fn told(alloc: Global, answer: Result<JsonPath, ParseError>) -> Called {
     match answer {
         Ok(path) => Ok(Some(path.to_text(alloc)?)),
         Err(e) if e.kind() == ParseErrorKind::NoMemory => Ok(None),
@@ -52,25 +55,30 @@ fn told(alloc: Global, answer: Result<JsonPath, ParseError>) -> Result<Option<St
 #[test]
 fn parse(rt: HostRuntime) -> Result<(), Fail> {
     hold_answers(&rt, TEXTS, |alloc, text| {
-        let answer = JsonPath::parse(alloc, text);
-        told(alloc, answer)
+        told(alloc, JsonPath::parse(alloc, text))
     })
 }
 
 #[test]
 fn from_str(rt: HostRuntime) -> Result<(), Fail> {
     hold_answers(&rt, TEXTS, |alloc, text| {
-        let answer = JsonPath::from_str(alloc, text);
-        told(alloc, answer)
+        told(alloc, JsonPath::from_str(alloc, text))
     })
+}
+
+/// The text of what is read under a set, which the path fits.
+fn told_with<F: Functions>(alloc: Global, functions: &F, text: &str) -> Called {
+    let answer = JsonPath::parse_with(alloc, text, functions);
+    let is_fit = answer.as_ref().is_ok_and(|path| path.fits(functions));
+    holds(is_fit == answer.is_ok(), "does not fit")?;
+    told(alloc, answer)
 }
 
 #[test]
 fn parse_with(rt: HostRuntime) -> Result<(), Fail> {
-    hold_answers(&rt, TEXTS, |alloc, text| {
-        let answer = JsonPath::parse_with(alloc, text, &Builtin);
-        told(alloc, answer)
-    })
+    hold_answers(&rt, TEXTS, |alloc, text| told_with(alloc, &Builtin, text))?;
+    let own = Own::refusing(0);
+    hold_answers(&rt, PRINTED, |alloc, text| told_with(alloc, &own, text))
 }
 
 /// A source may be looked at no more often than the bound says.
@@ -96,30 +104,39 @@ fn from_json(rt: HostRuntime) -> Result<(), Fail> {
     })
 }
 
-/// The copy is equal to its path, and fits the same set.
+/// The path of a text that may call functions of [`Own`].
+fn own_path(alloc: Global, text: &str) -> Result<JsonPath, Fail> {
+    Ok(JsonPath::parse_with(alloc, text, &Own::refusing(0))?)
+}
+
+/// The text of a copy, which is equal to its path and fits the same sets.
+fn copied(alloc: Global, text: &str) -> Called {
+    let path = own_path(alloc, text)?;
+    let Ok(copy) = path.try_clone(alloc) else {
+        return Ok(None);
+    };
+    let is_own = text.contains("first");
+    holds(copy == path && copy.fits(&Own::refusing(0)), "another path")?;
+    holds(copy.fits(&Builtin) != is_own, "fits another set")?;
+    Ok(Some(copy.to_text(alloc)?))
+}
+
 #[test]
 fn try_clone(rt: HostRuntime) -> Result<(), Fail> {
-    hold_answers(&rt, PRINTED, |alloc, text| {
-        let path = JsonPath::parse(alloc, text)?;
-        let Ok(copy) = path.try_clone(alloc) else {
-            return Ok(None);
-        };
-        holds(copy == path && copy.fits(&Builtin), "another path")?;
-        Ok(Some(copy.to_text(alloc)?))
-    })
+    hold_answers(&rt, PRINTED, copied)
 }
 
 #[test]
 fn to_text(rt: HostRuntime) -> Result<(), Fail> {
     hold_answers(&rt, PRINTED, |alloc, text| {
-        Ok(JsonPath::parse(alloc, text)?.to_text(alloc).ok())
+        Ok(own_path(alloc, text)?.to_text(alloc).ok())
     })
 }
 
 #[test]
 fn to_json(rt: HostRuntime) -> Result<(), Fail> {
     hold_answers(&rt, PRINTED, |alloc, text| {
-        match JsonPath::parse(alloc, text)?.to_json(alloc) {
+        match own_path(alloc, text)?.to_json(alloc) {
             Ok(Value::String(text)) => Ok(Some(text)),
             _ => Ok(None),
         }
@@ -149,6 +166,11 @@ const BY_PATTERNS: &[&str] = &[
     r#"$[?match(@[0], 'b+') || search(@[0], @[1])] ~ [["b"],["xcx","c"],["x","("],["y"],["z","c"],["y","("],["c","c"]] -> $[0] $[1] $[6]"#,
 ];
 
+// The same two under [`Own`].
+const OWN_LOCATIONS: &[&str] = &["$[?first(@.*) == 4] ~ [[1,2,3],[4,5,6],[7,8,9]] -> $[1]"];
+
+const OWN_VALUES: &[&str] = &["$[?first(@.*) == 4] ~ [[1,2,3],[4,5,6],[7,8,9]] -> [4,5,6]"];
+
 #[test]
 fn query(rt: HostRuntime) -> Result<(), Fail> {
     hold_answers(&rt, VALUES, |alloc, row| {
@@ -157,12 +179,17 @@ fn query(rt: HostRuntime) -> Result<(), Fail> {
     })
 }
 
+/// What a query gives under a set.
+fn values_with<F: Functions>(alloc: Global, functions: &F, row: &str) -> Called {
+    let (path, document) = read_with(alloc, functions, fields(row)?)?;
+    of_nodes(alloc, path.query_with(alloc, &document, functions))
+}
+
 #[test]
 fn query_with(rt: HostRuntime) -> Result<(), Fail> {
-    hold_answers(&rt, VALUES, |alloc, row| {
-        let (path, document) = read(alloc, row)?;
-        of_nodes(alloc, path.query_with(alloc, &document, &Builtin))
-    })
+    let own = Own::refusing(0);
+    hold_answers(&rt, VALUES, |alloc, row| values_with(alloc, &Builtin, row))?;
+    hold_answers(&rt, OWN_VALUES, |alloc, row| values_with(alloc, &own, row))
 }
 
 #[test]
@@ -173,60 +200,64 @@ fn json_path(rt: HostRuntime) -> Result<(), Fail> {
     })
 }
 
+/// The locations that a query gives.
+fn of_query(alloc: Global, row: &str) -> Called {
+    let (path, document) = read(alloc, row)?;
+    of_located(alloc, path.query_located(alloc, &document))
+}
+
 #[test]
 fn query_located(rt: HostRuntime) -> Result<(), Fail> {
-    hold_answers(&rt, LOCATIONS, |alloc, row| {
-        let (path, document) = read(alloc, row)?;
-        of_located(alloc, path.query_located(alloc, &document))
-    })
+    hold_answers(&rt, LOCATIONS, of_query)?;
+    hold_answers(&rt, BY_PATTERNS, of_query)
+}
+
+/// The locations that a query gives under a set.
+fn located<F: Functions>(alloc: Global, functions: &F, row: &str) -> Called {
+    let (path, document) = read_with(alloc, functions, fields(row)?)?;
+    of_located(alloc, path.query_located_with(alloc, &document, functions))
 }
 
 #[test]
 fn query_located_with(rt: HostRuntime) -> Result<(), Fail> {
-    hold_answers(&rt, LOCATIONS, |alloc, row| {
-        let (path, document) = read(alloc, row)?;
-        of_located(alloc, path.query_located_with(alloc, &document, &Builtin))
-    })
+    let own = Own::refusing(0);
+    hold_answers(&rt, LOCATIONS, |alloc, row| located(alloc, &Builtin, row))?;
+    hold_answers(&rt, OWN_LOCATIONS, |alloc, row| located(alloc, &own, row))
 }
 
-#[test]
-fn query_located_by_patterns(rt: HostRuntime) -> Result<(), Fail> {
-    hold_answers(&rt, BY_PATTERNS, |alloc, row| {
-        let (path, document) = read(alloc, row)?;
-        of_located(alloc, path.query_located(alloc, &document))
-    })
+/// The locations that a walk gives under a set.
+fn walked<F: Functions>(alloc: Global, functions: &F, row: &str) -> Called {
+    let (path, document) = read_with(alloc, functions, fields(row)?)?;
+    of_walk(alloc, path.walk(alloc, &document, functions))
 }
 
 #[test]
 fn walk(rt: HostRuntime) -> Result<(), Fail> {
-    hold_answers(&rt, LOCATIONS, |alloc, row| {
-        let (path, document) = read(alloc, row)?;
-        of_walk(alloc, path.walk(alloc, &document, &Builtin))
-    })
+    let own = Own::refusing(0);
+    hold_answers(&rt, LOCATIONS, |alloc, row| walked(alloc, &Builtin, row))?;
+    hold_answers(&rt, OWN_LOCATIONS, |alloc, row| walked(alloc, &own, row))
 }
 
 /// The locations that a walk gives under a set, of which a call that is refused is made again.
-fn of_next<F: Functions>(alloc: Global, functions: &F, row: &str) -> Result<String, Fail> {
-    let (path, document) = fields(row)?;
-    let path = JsonPath::parse_with(alloc, path, functions)?;
-    let document = Value::from_str(alloc, document)?;
+fn of_next<F: Functions>(alloc: Global, functions: &F, row: &str) -> Came {
+    let (path, document) = read_with(alloc, functions, fields(row)?)?;
     of_calls(alloc, path.walk(alloc, &document, functions)?)
 }
 
 #[test]
 fn next(rt: HostRuntime) -> Result<(), Fail> {
-    hold_rows(&rt, LOCATIONS, |alloc, row| of_next(alloc, &Builtin, row))
+    let own = Own::refusing(0);
+    hold_rows(&rt, LOCATIONS, |alloc, row| of_next(alloc, &Builtin, row))?;
+    hold_rows(&rt, OWN_LOCATIONS, |alloc, row| of_next(alloc, &own, row))
 }
 
-/// The same, where the set keeps patterns: what a refused call has kept, the next one finds.
-fn of_next_by_patterns(alloc: Global, row: &str) -> Result<String, Fail> {
-    let store = PatternStore::new();
-    of_next(alloc, &CachedPatterns::new(alloc, &store), row)
-}
-
+/// Where the set keeps patterns, the next call finds what a refused call has kept.
 #[test]
 fn next_by_patterns(rt: HostRuntime) -> Result<(), Fail> {
-    hold_rows(&rt, BY_PATTERNS, of_next_by_patterns)
+    hold_rows(&rt, BY_PATTERNS, |alloc, row| {
+        let store = PatternStore::new();
+        of_next(alloc, &CachedPatterns::new(alloc, &store), row)
+    })
 }
 
 /// A path, a document, and the pointer of the one node that the path selects there.
@@ -238,7 +269,7 @@ const POINTED: &[&str] = &[
 ];
 
 /// The pointer of the one node that a path selects from a document, or nothing where memory is refused.
-fn pointed(alloc: Global, row: &str) -> Result<Option<String>, Fail> {
+fn pointed(alloc: Global, row: &str) -> Called {
     let (path, document) = read(alloc, row)?;
     let node = path.query_located(alloc, &document)?.exactly_one()?;
     Ok(node.location().to_json_pointer(alloc).ok())
@@ -267,13 +298,7 @@ fn takes_none_of_the_new_path(rt: HostRuntime) -> Result<(), Fail> {
     let store = PatternStore::new();
     let functions = CachedPatterns::new(rt.alloc(), &store);
     assert!(rt; path == JsonPath::new(rt.alloc()) && path.fits(&functions));
-    Ok(())
-}
-
-#[test]
-fn takes_none_of_the_root_alone(rt: HostRuntime) -> Result<(), Fail> {
-    let parsed = JsonPath::parse(rt.alloc(), "$").ok();
-    assert!(rt; parsed == Some(JsonPath::new(rt.alloc())));
+    assert!(rt; JsonPath::parse(rt.alloc(), "$").ok() == Some(path));
     Ok(())
 }
 
@@ -281,13 +306,9 @@ fn takes_none_of_the_root_alone(rt: HostRuntime) -> Result<(), Fail> {
 fn takes_none_at_blanks(rt: HostRuntime) -> Result<(), Fail> {
     let text = long(rt.alloc(), "$", " ", 10_000, "x")?;
     let mut source = TextSource::new(text.as_str());
-    match parse_source(rt.alloc(), &mut source, &Builtin) {
-        Ok(_) => assert!(rt; false, "accepted"),
-        Err(e) => assert_eq!(rt;
-            (e.kind(), e.position()),
-            (ParseErrorKind::TextAfterPath, 2)
-        ),
-    }
+    let refusal = parse_source(rt.alloc(), &mut source, &Builtin).err();
+    let told = refusal.map(|e| (e.kind(), e.position()));
+    assert!(rt; told == Some((ParseErrorKind::TextAfterPath, 2)));
     assert!(rt; source.looks() <= 32 * (source.len() as u128 + 1));
     Ok(())
 }
@@ -316,13 +337,11 @@ fn asks_located(rt: &impl Abort, nodes: &LocatedNodeList<'_>) {
 }
 
 /// The document of which `$[1,0,1,0]` selects four nodes, two of them twice.
-fn two_texts(alloc: Global) -> Result<Value, Fail> {
-    Ok(Value::from_str(alloc, r#"["a","b"]"#)?)
-}
+const TWO: &str = r#"["a","b"]"#;
 
 #[test]
 fn takes_none_of_nodes(rt: HostRuntime) -> Result<(), Fail> {
-    let document = two_texts(rt.alloc())?;
+    let document = Value::from_str(rt.alloc(), TWO)?;
     let nodes = nodes(rt.alloc(), "$[1,0,1,0]", &document)?;
     asks_nodes(&rt, &nodes);
     assert_eq!(rt; nodes.all().len(), 4);
@@ -331,18 +350,12 @@ fn takes_none_of_nodes(rt: HostRuntime) -> Result<(), Fail> {
 
 #[test]
 fn takes_none_of_located_nodes(rt: HostRuntime) -> Result<(), Fail> {
-    let document = two_texts(rt.alloc())?;
+    let document = Value::from_str(rt.alloc(), TWO)?;
     let nodes = located_nodes(rt.alloc(), "$[1,0,1,0]", &document)?;
     asks_located(&rt, &nodes);
     assert!(rt; nodes.at_most_one().is_err());
     let nodes = located_nodes(rt.alloc(), "$[1,0,1,0]", &document)?;
     assert_eq!(rt; nodes.all().len(), 4);
-    Ok(())
-}
-
-#[test]
-fn takes_none_of_nodes_once(rt: HostRuntime) -> Result<(), Fail> {
-    let document = two_texts(rt.alloc())?;
     let nodes = located_nodes(rt.alloc(), "$[1,0,1,0]", &document)?.dedup();
     assert!(rt; nodes.len() == 2 && nodes.exactly_one().is_err());
     Ok(())
@@ -362,10 +375,12 @@ fn takes_none_to_begin(rt: HostRuntime) -> Result<(), Fail> {
 #[test]
 fn takes_none_of_signatures(rt: HostRuntime) -> Result<(), Fail> {
     assert!(rt; Builtin.signature("none").is_none());
-    match Signature::new(&[FunctionArgType::Value], FunctionArgType::Value) {
-        Some(s) => assert_eq!(rt; (s.params().len(), s.result()), (1, FunctionArgType::Value)),
-        None => assert!(rt; false, "no signature"),
-    }
+    let signature = Signature::new(&[FunctionArgType::Value], FunctionArgType::Value);
+    let signature = signature.ok_or("no signature")?;
+    assert_eq!(rt;
+        (signature.params().len(), signature.result()),
+        (1, FunctionArgType::Value)
+    );
     assert_eq!(rt; LogicalType::from(false), LogicalType::default());
     Ok(())
 }

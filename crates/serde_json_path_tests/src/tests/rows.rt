@@ -8,25 +8,21 @@ ghost use Rattle.serde_json_path.specs.Paths.{path_signatures};
 use serde_json::Value;
 use serde_json_path::functions::Functions;
 use serde_json_path::{JsonPath, LocatedNodeList, NodeList, ParseError, law_set_before_itself};
-use serde_json_path_core_tests::rows::{alike, fields, holds};
-use serde_json_path_core_tests::texts::{located, values};
+use serde_json_path_core_tests::{Came, alike, fields, holds, located, values};
 use std::alloc::Global;
 use std::test::Fail;
 
 /// The locations and the values of what both queries select, or `nothing`. Fails where their values differ.
-pub(crate) fn both(
-    alloc: Global,
-    nodes: &NodeList<'_>,
-    with_locations: &LocatedNodeList<'_>,
-) -> Result<String, Fail> {
-    let one = values(alloc, nodes.iter())?;
-    let other = values(alloc, with_locations.nodes())?;
-    let _values = alike(one, other)?;
+fn both(alloc: Global, nodes: &NodeList<'_>, with_locations: &LocatedNodeList<'_>) -> Came {
+    alike(
+        values(alloc, nodes.iter())?,
+        values(alloc, with_locations.nodes())?,
+    )?;
     located(alloc, with_locations)
 }
 
 /// What a path selects from a document, as [`both`] gives it.
-pub(crate) fn queried(alloc: Global, path: &JsonPath, document: &str) -> Result<String, Fail>
+pub(crate) fn queried(alloc: Global, path: &JsonPath, document: &str) -> Came
     requires { Fits builtin_functions (path_signatures path.now) }
 {
     let document = Value::from_str(alloc, document)?;
@@ -36,14 +32,8 @@ pub(crate) fn queried(alloc: Global, path: &JsonPath, document: &str) -> Result<
 }
 
 /// What a path selects from a document under a set, as [`both`] gives it.
-pub(crate) fn selected<F: Functions>(
-    alloc: Global,
-    functions: &F,
-    path: &str,
-    document: &str,
-) -> Result<String, Fail> {
-    let document = Value::from_str(alloc, document)?;
-    let path = JsonPath::parse_with(alloc, path, functions)?;
+pub(crate) fn selected<F: Functions>(alloc: Global, functions: &F, row: (&str, &str)) -> Came {
+    let (path, document) = read_with(alloc, functions, row)?;
     let nodes = path.query_with(alloc, &document, functions)?;
     let with_locations = path.query_located_with(alloc, &document, functions)?;
     both(alloc, &nodes, &with_locations)
@@ -59,6 +49,19 @@ pub(crate) fn read(alloc: Global, row: &str) -> Result<(JsonPath, Value), Fail>
     let (path, document) = fields(row)?;
     let path = JsonPath::parse(alloc, path)?;
     Ok((path, Value::from_str(alloc, document)?))
+}
+
+/// A path that is read under a set, and a document.
+pub(crate) fn read_with<F: Functions>(
+    alloc: Global,
+    functions: &F,
+    row: (&str, &str),
+) -> Result<(JsonPath, Value), Fail>
+    ensures { IfOk result (λ read.
+        Fits (before_builtin (F.set functions.now)) (path_signatures read.0)) }
+{
+    let path = JsonPath::parse_with(alloc, row.0, functions)?;
+    Ok((path, Value::from_str(alloc, row.1)?))
 }
 
 /// The nodes that a path selects from a document.
@@ -80,7 +83,7 @@ pub(crate) fn located_nodes<'b>(
 }
 
 /// How many nodes a path selects from a document. Fails where the two queries select different numbers.
-pub(crate) fn count(alloc: Global, path: &str, document: &str) -> Result<String, Fail> {
+pub(crate) fn count(alloc: Global, path: &str, document: &str) -> Came {
     let document = Value::from_str(alloc, document)?;
     let count = nodes(alloc, path, &document)?.len();
     let located = located_nodes(alloc, path, &document)?.len();
@@ -89,7 +92,7 @@ pub(crate) fn count(alloc: Global, path: &str, document: &str) -> Result<String,
 }
 
 /// What a parse answers: the kind and the position of its refusal, or `accepted`.
-pub(crate) fn told(alloc: Global, answer: Result<JsonPath, ParseError>) -> Result<String, Fail> {
+pub(crate) fn told(alloc: Global, answer: Result<JsonPath, ParseError>) -> Came {
     match answer {
         Ok(_) => Ok(String::from_str(alloc, "accepted")?),
         Err(e) => Ok(format!(in alloc; "{:?} {}", e.kind(), e.position())?),
@@ -97,6 +100,6 @@ pub(crate) fn told(alloc: Global, answer: Result<JsonPath, ParseError>) -> Resul
 }
 
 /// What the parse of a text answers.
-pub(crate) fn parsed(alloc: Global, text: &str) -> Result<String, Fail> {
+pub(crate) fn parsed(alloc: Global, text: &str) -> Came {
     told(alloc, JsonPath::parse(alloc, text))
 }

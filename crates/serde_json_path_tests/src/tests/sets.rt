@@ -1,111 +1,33 @@
 //! Paths whose filters call functions of other sets.
 
-ghost use Rattle.serde_json_path_tests.specs.TestSets.{own_functions};
-
-use crate::tests::nesting::nested;
-use crate::tests::rows::told;
-use crate::tests::tables::{of_path_and_document, of_refusal};
+use crate::tests::rows::{read_with, told};
+use crate::tests::tables::of_row;
 use crate::tests::walks::of_walk;
 use serde_json::Value;
-use serde_json_path::functions::FunctionArgType::{Logical, Nodelist};
 use serde_json_path::functions::{
-    AllNumbers, Both, Builtin, FunctionArgType, FunctionValue, Functions, LogicalType, Numbers,
-    Signature, ValueType,
+    AllNumbers, Both, Builtin, FunctionValue, Functions, Numbers, Signature,
 };
 use serde_json_path::{JsonPath, QueryError};
-use serde_json_path_core_tests::rows::{Table, fields, hold_rows};
-use serde_json_path_core_tests::sets::Overriding;
+use serde_json_path_core_tests::{
+    Came, Nesting, Overriding, Own, fields, hold_nested, hold_row, hold_rows, locations,
+};
 use std::alloc::Global;
 use std::cell::Cell;
-use std::process::Abort;
 use std::test::Fail;
-
-/// `kids` gives its nodes back, but for the calls that the bits of `refused` tell, 64 of them over and over. `both` gives
-/// whether both are true, and `none` gives Nothing. `f`, `true` and `eight` are true, and `refuse` is refused for memory.
-#[derive(Drop)]
-pub(crate) struct Own {
-    calls: Cell<u32>,
-    refused: u64,
-}
-
-impl Own {
-    /// The set that refuses these calls of `kids`.
-    pub(crate) fn refusing(refused: u64) -> Own {
-        let calls = Cell::new(0);
-        Own { calls, refused }
-    }
-
-    /// Whether the next call of `kids` is refused.
-    fn is_refused(&self) -> bool {
-        let call = self.calls.get() % 64;
-        self.calls.set(call + 1);
-        (self.refused >> call) & 1 == 1
-    }
-}
-
-impl Functions for Own {
-    ghost use Rattle.serde_json_path_tests.specs.TestSets.{own_keeps_types, own_keeps_patterns};
-
-    ghost set = { λ _. own_functions };
-
-    ghost typed = { λ _. own_keeps_types };
-
-    ghost patterned = { λ _. own_keeps_patterns };
-
-    fn signature(&self, name: &str) -> Option<Signature> {
-        match name {
-            "kids" => Signature::new(&[Nodelist], Nodelist),
-            "both" => Signature::new(&[Logical, Logical], Logical),
-            "none" => Signature::new(&[], FunctionArgType::Value),
-            "f" | "true" | "refuse" => Signature::new(&[], Logical),
-            "eight" => Signature::new(&[FunctionArgType::Value; 8], Logical),
-            _ => None,
-        }
-    }
-
-    fn numbers(&self) -> Numbers {
-        Numbers::Whole
-    }
-
-    fn call<'b>(
-        &self,
-        alloc: Global,
-        name: &str,
-        mut args: Vec<FunctionValue<'b>>,
-    ) -> Result<FunctionValue<'b>, QueryError> {
-        match name {
-            "kids" if self.is_refused() => Err(QueryError::Memory),
-            "kids" => match args.pop() {
-                Some(FunctionValue::Nodes(nodes)) => Ok(FunctionValue::Nodes(nodes)),
-                _ => unreachable!(),
-            },
-            "both" => match (args.pop(), args.pop()) {
-                (Some(FunctionValue::Logical(b)), Some(FunctionValue::Logical(a))) => {
-                    let both = a == LogicalType::True && b == LogicalType::True;
-                    Ok(FunctionValue::Logical(LogicalType::from(both)))
-                }
-                _ => unreachable!(),
-            },
-            "none" => Ok(FunctionValue::Value(ValueType::Nothing)),
-            "refuse" => Err(QueryError::Memory),
-            _ => Ok(FunctionValue::Logical(LogicalType::True)),
-        }
-    }
-}
 
 /// The functions of a set, and how many values it was told that are compared.
 #[derive(Drop)]
-struct Told<F> {
+struct CountsCompared<F> {
     functions: F,
     values: Cell<usize>,
 }
 
-impl<F: Functions> Functions for Told<F> {
-    ghost set = { λ told. F.set told.functions };
+impl<F: Functions> Functions for CountsCompared<F> {
+    ghost set = { λ counts. F.set counts.functions };
 
-    ghost typed = { λ told. F.typed told.functions };
+    ghost typed = { λ counts. F.typed counts.functions };
 
-    ghost patterned = { λ told. F.patterned told.functions };
+    ghost patterned = { λ counts. F.patterned counts.functions };
 
     fn signature(&self, name: &str) -> Option<Signature> {
         self.functions.signature(name)
@@ -143,27 +65,21 @@ const COMPARED: &[&str] = &[
 ];
 
 /// How many values a set is told of a path's query on a document, through sets that are made of it.
-fn of_told(alloc: Global, given: &str) -> Result<String, Fail> {
-    let (path, document) = fields(given)?;
-    let told = Told {
-        functions: Builtin,
-        values: Cell::new(0),
-    };
-    let functions = AllNumbers(Both(&told, Builtin));
-    let path = JsonPath::parse_with(alloc, path, &functions)?;
-    let document = Value::from_str(alloc, document)?;
+fn number_compared(alloc: Global, given: &str) -> Came {
+    let (functions, values) = (Builtin, Cell::new(0));
+    let counts = CountsCompared { functions, values };
+    let functions = AllNumbers(Both(&counts, Builtin));
+    let (path, document) = read_with(alloc, &functions, fields(given)?)?;
     path.query_with(alloc, &document, &functions)?;
-    Ok(told.values.get().to_string(alloc)?)
+    Ok(counts.values.get().to_string(alloc)?)
 }
 
 #[test]
 fn tells_sets_what_is_compared(rt: HostRuntime) -> Result<(), Fail> {
-    let mut table = Table::new(&rt);
-    table.hold_each("compared values", COMPARED, of_told);
-    table.end()
+    hold_rows(&rt, COMPARED, number_compared)
 }
 
-/// A path, a document, and the locations and the values of what the path selects there.
+/// Paths and documents with what is selected, and texts with their refusals, where filters call [`Own`].
 const OWN: &[&str] = &[
     "$[?kids(@.*)] ~ [[],[1]] -> $[1] ~ [1]",
     "$[?!kids(@.*)] ~ [[],[1]] -> $[0] ~ []",
@@ -184,10 +100,8 @@ const OWN: &[&str] = &[
     r#"$[?both(!(@.a), 1 == @.c && @.d)] ~ [{"c":1,"d":0},{"a":0,"c":1,"d":0}] -> $[0] ~ {"c":1,"d":0}"#,
     r#"$[?both(match(@.a, 'x'), @)] ~ [{"a":"x"},{"a":"y"}] -> $[0] ~ {"a":"x"}"#,
     r#"$[?both(length(@) == 1, @.*)] ~ [{"a":0},"a"] -> $[0] ~ {"a":0}"#,
-];
-
-/// A text, and the kind and the position of its refusal.
-const NO_OWN: &[&str] = &[
+    "$[?first(@.*) == 4] ~ [[1,2,3],[4,5,6],[7,8,9]] -> $[1] ~ [4,5,6]",
+    r#"$[?first(@.*) == @.x] ~ [{},{"x":1},{"y":1}] -> $[0] $[1] ~ {} {"x":1}"#,
     "$[?kids(@.*) == 1] -> WrongReturnType 4",
     "$[?1 == kids(@.*)] -> WrongReturnType 9",
     "$[?kids(1)] -> WrongArgumentType 9",
@@ -209,77 +123,68 @@ const NO_OWN: &[&str] = &[
     "$[?both(1 == 1, 1)] -> WrongArgumentType 17",
     "$[?both(!1, @)] -> ExpectedExpression 10",
     "$[?none()] -> WrongReturnType 4",
+    "$[?none(@) == 1] -> WrongNumberOfArguments 4",
+    "$[?first(@.*)] -> WrongReturnType 4",
+    "$[?third(@.*) == 4] -> UndefinedFunction 4",
 ];
 
-/// A path, a document, and the locations and the values of what the path selects there.
-const LENGTH: &[&str] = &[
+/// Two shelves of books.
+const SHELVES: &str = concat!(
+    r#"[{"books":[{"author":"Alexandre Dumas","title":"The Three Musketeers","price":14.99},"#,
+    r#"{"author":"Leo Tolstoy","title":"War and Peace","price":19.99}]},"#,
+    r#"{"books":[{"author":"Charles Dickens","title":"Great Expectations","price":13.99},"#,
+    r#"{"author":"Fyodor Dostoevsky","title":"The Brothers Karamazov","price":12.99}]}]"#
+);
+
+/// A path that calls [`Own`], and the locations of what it selects from [`SHELVES`].
+const OF_SHELVES: &[&str] = &[
+    "$[? first(@.books.*.author) == 'Alexandre Dumas'] -> $[0]",
+    "$[? length(first(@.books.*.title)) == 18 ] -> $[1]",
+];
+
+/// The locations of what a path that calls [`Own`] selects from [`SHELVES`].
+fn of_shelves(alloc: Global, path: &str) -> Came {
+    let own = Own::refusing(0);
+    let (path, document) = read_with(alloc, &own, (path, SHELVES))?;
+    locations(alloc, &path.query_located_with(alloc, &document, &own)?)
+}
+
+/// The same of [`Overriding`].
+const OTHER: &[&str] = &[
     "$[?length(@.*) == 3] ~ [[1,2],[1]] -> $[0] ~ [1,2]",
     "$[?count(@.*) == 1] ~ [[1,2],[1]] -> $[1] ~ [1]",
+    "$[?length(1) == 3] -> WrongArgumentType 11",
 ];
-
-/// A text, and the kind and the position of its refusal.
-const NO_LENGTH: &[&str] = &["$[?length(1) == 3] -> WrongArgumentType 11"];
-
-/// Holds a set to a table of what is selected and to one of what is refused.
-fn hold_set<R: Eprint + AllocGlobal, F: Functions>(
-    table: &mut Table<'_, R>,
-    functions: &F,
-    (name, paths, refused): (&str, &[&str], &[&str]),
-) {
-    table.hold_each(name, paths, |alloc, given| {
-        of_path_and_document(alloc, functions, given)
-    });
-    table.hold_each(
-        name,
-        refused,
-        |alloc, text| of_refusal(alloc, functions, text),
-    );
-}
 
 #[test]
 fn calls_functions_of_sets(rt: HostRuntime) -> Result<(), Fail> {
-    let mut table = Table::new(&rt);
     let own = Own::refusing(0);
-    hold_set(&mut table, &own, ("own functions", OWN, NO_OWN));
-    hold_set(
-        &mut table,
-        &Overriding,
-        ("another length", LENGTH, NO_LENGTH),
-    );
-    table.end()
+    hold_rows(&rt, OWN, |alloc, row| of_row(alloc, &own, row))?;
+    hold_rows(&rt, OF_SHELVES, of_shelves)?;
+    hold_rows(&rt, OTHER, |alloc, row| of_row(alloc, &Overriding, row))
 }
 
-/// A path that gives the first item of a document of two, and is refused at the second.
-const REFUSED: &str = "$[?@.a || refuse()]";
-
-/// The document.
-const FIRST: &str = r#"[{"a":1},{}]"#;
+/// A path that gives the first item of a document of two, and is refused at the second, and the document.
+const REFUSED: (&str, &str) = ("$[?@.a || refuse()]", r#"[{"a":1},{}]"#);
 
 #[test]
 fn refuses_where_a_function_is_refused(rt: HostRuntime) -> Result<(), Fail> {
-    let alloc = rt.alloc();
-    let own = Own::refusing(0);
-    let document = Value::from_str(alloc, FIRST)?;
-    let path = JsonPath::parse_with(alloc, REFUSED, &own)?;
+    let (alloc, own) = (rt.alloc(), Own::refusing(0));
+    let (path, document) = read_with(alloc, &own, REFUSED)?;
     let located = path.query_located_with(alloc, &document, &own).err();
     assert!(rt; located == Some(QueryError::Memory));
     let values = path.query_with(alloc, &document, &own).err();
     assert!(rt; values == Some(QueryError::Memory));
-    let mut table = Table::new(&rt);
-    let walked = of_walk(alloc, &own, (REFUSED, FIRST), 4);
-    table.hold((FIRST, REFUSED, "$[0], 3 refused"), walked);
-    table.end()
+    let walked = of_walk(alloc, &own, REFUSED, 4);
+    hold_row(&rt, (REFUSED.1, REFUSED.0, "$[0], 3 refused"), walked)
 }
 
 /// Whether the path of a text, as it is read under a set, fits the built-in functions, [`Own`] and [`Overriding`].
-fn fitting<F: Functions>(alloc: Global, functions: &F, text: &str) -> Result<String, Fail> {
+fn fitting<F: Functions>(alloc: Global, functions: &F, text: &str) -> Came {
     let path = JsonPath::parse_with(alloc, text, functions)?;
     let own = path.fits(&Own::refusing(0));
-    Ok(format!(in alloc;
-        "{}, {own}, {}",
-        path.fits(&Builtin),
-        path.fits(&Overriding)
-    )?)
+    let other = path.fits(&Overriding);
+    Ok(format!(in alloc; "{}, {own}, {other}", path.fits(&Builtin))?)
 }
 
 /// A path, and whether it fits the built-in functions, [`Own`] and [`Overriding`].
@@ -289,37 +194,28 @@ const FITTING: &[&str] = &[
     "$[?length(@) == 3] -> true, true, false",
 ];
 
+/// The same where the path is read under [`Own`].
+const FIT_OWN: &[&str] = &[
+    "$[?kids(@.*)] -> false, true, false",
+    "$[?first(@.*) == 4] -> false, true, false",
+];
+
 #[test]
 fn fits_the_sets_that_declare_its_calls(rt: HostRuntime) -> Result<(), Fail> {
-    let alloc = rt.alloc();
-    let mut table = Table::new(&rt);
-    table.hold_each("built-in functions", FITTING, |alloc, text| {
-        fitting(alloc, &Builtin, text)
-    });
-    let own = ("own functions", "$[?kids(@.*)]", "false, true, false");
-    table.hold(own, fitting(alloc, &Own::refusing(0), own.1));
-    let other = (
-        "another length",
-        "$[?length(@.*) == 3]",
-        "false, false, true",
-    );
-    table.hold(other, fitting(alloc, &Overriding, other.1));
-    table.end()
+    let own = Own::refusing(0);
+    hold_rows(&rt, FITTING, |alloc, text| fitting(alloc, &Builtin, text))?;
+    hold_rows(&rt, FIT_OWN, |alloc, text| fitting(alloc, &own, text))?;
+    let rows = ["$[?length(@.*) == 3] -> false, false, true"];
+    hold_rows(&rt, &rows, |alloc, text| fitting(alloc, &Overriding, text))
 }
 
-/// How many parentheses stand around a call, and what the parse of that text answers.
-const NESTED: &[(usize, &str)] = &[(126, "accepted"), (127, "NestedTooDeep 131")];
+/// Parentheses around a call, of which an argument that is a logical expression adds no level.
+const CALL: Nesting<'static> = ("$[?", "(", "both(@.a && @.b, !@)", ")", "]");
 
-/// An argument that is a logical expression adds no level.
 #[test]
 fn nests_logical_arguments(rt: HostRuntime) -> Result<(), Fail> {
-    let mut table = Table::new(&rt);
-    for &(times, wanted) in NESTED {
-        let nesting = ("$[?", "(", "both(@.a && @.b, !@)", ")", "]");
-        let text = nested(rt.alloc(), nesting, times)?;
-        let answer = JsonPath::parse_with(rt.alloc(), text.as_str(), &Own::refusing(0));
-        let row = ("own functions", text.as_str(), wanted);
-        table.hold(row, told(rt.alloc(), answer));
-    }
-    table.end()
+    let rows = [(CALL, 126, "accepted"), (CALL, 127, "NestedTooDeep 131")];
+    hold_nested(&rt, &rows, |alloc, text| {
+        told(alloc, JsonPath::parse_with(alloc, text, &Own::refusing(0)))
+    })
 }

@@ -1,7 +1,7 @@
 //! Slices (RFC 9535, section 2.3.4).
 
 /// A path, a document, and the locations and the values of what the path selects there.
-pub(crate) const SLICES: &[&str] = &[
+pub(crate) const ROWS: &[&str] = &[
     r#"$[1:3] ~ ["a","b","c","d","e","f","g"] -> $[1] $[2] ~ "b" "c""#,
     r#"$[5:] ~ ["a","b","c","d","e","f","g"] -> $[5] $[6] ~ "f" "g""#,
     r#"$[:2] ~ ["a","b","c","d","e","f","g"] -> $[0] $[1] ~ "a" "b""#,

@@ -1,7 +1,7 @@
 //! String literals (RFC 9535, section 2.3.1.1).
 
-/// A path, a document, and the locations and the values of what the path selects there.
-pub(crate) const STRINGS: &[&str] = &[
+/// Paths and documents, with what is selected, and texts, with their refusals.
+pub(crate) const ROWS: &[&str] = &[
     r#"$[''] ~ {"":1,"a":2} -> $[''] ~ 1"#,
     r#"$['a"b'] ~ {"a\"b":1} -> $['a"b'] ~ 1"#,
     r#"$["\""] ~ {"\"":1} -> $['"'] ~ 1"#,
@@ -10,10 +10,6 @@ pub(crate) const STRINGS: &[&str] = &[
     r#"$['\uD83D\ude00'] ~ {"😀":1} -> $['😀'] ~ 1"#,
     "$['\\ud7ff\\ue000\\uffff'] ~ {\"\u{d7ff}\u{e000}\u{ffff}\":1} -> $['\u{d7ff}\u{e000}\u{ffff}'] ~ 1",
     "$['é😀\u{7f}'] ~ {\"é😀\u{7f}\":1} -> $['é😀\u{7f}'] ~ 1",
-];
-
-/// A text, and the kind and the position of its refusal.
-pub(crate) const NO_STRINGS: &[&str] = &[
     "$['a'b] -> ExpectedClosingBracket 6",
     r"$['a\u12 -> BadEscape 5",
     r"$['\u00g0'] -> BadEscape 4",

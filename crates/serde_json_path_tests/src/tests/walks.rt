@@ -1,21 +1,15 @@
 //! Walks, one node at a time.
 
-use crate::tests::rows::read;
-use crate::tests::sets::Own;
+use crate::tests::rows::{read, read_with};
 use serde_json::Value;
 use serde_json_path::functions::{Builtin, CachedPatterns, Functions, PatternStore};
-use serde_json_path::{JsonPath, LocatedNode, PathElement, QueryError, Walk};
-use serde_json_path_core_tests::rows::{Table, fields, hold_rows};
+use serde_json_path::{JsonPath, PathElement, QueryError, Walk};
+use serde_json_path_core_tests::{Came, Own, Table, fields, hold_rows, long};
 use std::alloc::Global;
-use std::process::Abort;
 use std::test::Fail;
 
 /// What a walk answers to so many calls: locations, `none` for none, and how many of the calls are refused memory.
-fn walked<F: Functions + Drop>(
-    alloc: Global,
-    mut walk: Walk<'_, '_, F>,
-    calls: u32,
-) -> Result<String, Fail> {
+fn walked<F: Functions + Drop>(alloc: Global, mut walk: Walk<'_, '_, F>, calls: u32) -> Came {
     let mut text = String::new(alloc);
     let mut refused = 0_u32;
     for _ in 0..calls {
@@ -34,11 +28,10 @@ fn walked<F: Functions + Drop>(
 pub(crate) fn of_walk<F: Functions>(
     alloc: Global,
     functions: &F,
-    (path, document): (&str, &str),
+    row: (&str, &str),
     calls: u32,
-) -> Result<String, Fail> {
-    let document = Value::from_str(alloc, document)?;
-    let path = JsonPath::parse_with(alloc, path, functions)?;
+) -> Came {
+    let (path, document) = read_with(alloc, functions, row)?;
     walked(alloc, path.walk(alloc, &document, functions)?, calls)
 }
 
@@ -51,17 +44,13 @@ const WALKED: &[&str] = &[
 
 #[test]
 fn walks_give_one_node_after_the_other(rt: HostRuntime) -> Result<(), Fail> {
-    hold_rows(&rt, WALKED, |alloc, given| {
-        of_walk(alloc, &Builtin, fields(given)?, 5)
+    hold_rows(&rt, WALKED, |alloc, row| {
+        of_walk(alloc, &Builtin, fields(row)?, 5)
     })
 }
 
 /// What a walk answers to so many calls that hand in the steps of the node before, as [`walked`] gives it.
-fn walked_into<F: Functions + Drop>(
-    alloc: Global,
-    mut walk: Walk<'_, '_, F>,
-    calls: u32,
-) -> Result<String, Fail> {
+fn walked_into<F: Functions + Drop>(alloc: Global, mut walk: Walk<'_, '_, F>, calls: u32) -> Came {
     let mut text = String::new(alloc);
     let mut steps = Vec::new(alloc);
     for _ in 0..calls {
@@ -105,7 +94,7 @@ fn walks_go_under_a_set_alone(rt: HostRuntime) -> Result<(), Fail> {
 }
 
 /// Which calls of `kids` are refused, and how many are before the sixth that is not: the filter is asked of six items.
-const REFUSED: &[(u64, u32)] = &[
+const REFUSED: [(u64, u32); 6] = [
     (0, 0),
     (1, 1),
     (0b10, 1),
@@ -119,54 +108,29 @@ fn walks_go_on_where_memory_was_refused(rt: HostRuntime) -> Result<(), Fail> {
     let alloc = rt.alloc();
     let given = ("$[?kids(@.*)]", "[[],[1],[[]],[],0,[2]]");
     let mut table = Table::new(&rt);
-    for &(refused, times) in REFUSED {
+    for (refused, times) in REFUSED {
         let wanted = format!(in alloc; "$[1], $[2], $[5], none, {times} refused")?;
-        let came = of_walk(
-            alloc,
-            &Own::refusing(refused),
-            given,
-            times.saturating_add(4),
-        );
+        let (own, calls) = (Own::refusing(refused), times.saturating_add(4));
+        let came = of_walk(alloc, &own, given, calls);
         table.hold(("a set that refuses", given.0, wanted.as_str()), came);
     }
     table.end()
 }
 
-/// An array of so many zeros.
-fn zeros(alloc: Global, number: usize) -> Result<Value, Fail> {
-    let mut items = Vec::new(alloc);
-    for _ in 0..number {
-        items.push(Value::from(0))?;
-    }
-    Ok(Value::Array(items))
-}
-
-/// Whether a node is the item of that number.
-fn is_item(node: &LocatedNode<'_>, number: usize) -> bool {
-    node.location().get(0) == Some(PathElement::Index(number))
-}
-
-/// The walk gives so many items, and keeps one or two places before each. After the last it keeps none.
-fn keeps_few_places<F: Functions>(
-    rt: &impl Abort,
-    walk: &mut Walk<'_, '_, F>,
-    number_of_items: usize,
-) -> Result<(), Fail> {
-    for number in 0..number_of_items {
+/// The walk keeps one or two places before each item, and none after the last.
+#[test]
+fn walks_keep_few_places(rt: HostRuntime) -> Result<(), Fail> {
+    let alloc = rt.alloc();
+    let document = long(alloc, "[0", ",0", 999, "]")?;
+    let document = Value::from_str(alloc, document.as_str())?;
+    let path = JsonPath::parse_with(alloc, "$..*", &Builtin)?;
+    let mut walk = path.walk(alloc, &document, &Builtin)?;
+    for number in 0..1000 {
         assert!(rt; matches!(walk.places(), 1 | 2));
-        let node = walk.next()?;
-        assert!(rt; node.is_some_and(|node| is_item(&node, number)));
+        let node = walk.next()?.ok_or("too few nodes")?;
+        assert!(rt; node.location().get(0) == Some(PathElement::Index(number)));
     }
     assert!(rt; walk.next()?.is_none());
     assert!(rt; walk.places() == 0);
     Ok(())
-}
-
-#[test]
-fn walks_keep_few_places(rt: HostRuntime) -> Result<(), Fail> {
-    let alloc = rt.alloc();
-    let document = zeros(alloc, 1000)?;
-    let path = JsonPath::parse_with(alloc, "$..*", &Builtin)?;
-    let mut walk = path.walk(alloc, &document, &Builtin)?;
-    keeps_few_places(&rt, &mut walk, 1000)
 }

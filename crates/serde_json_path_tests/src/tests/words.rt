@@ -1,19 +1,13 @@
 //! Words (RFC 9535, sections 2.3.5.1 and 2.4).
 
-/// A path, a document, and the locations and the values of what the path selects there.
-pub(crate) const WORDS: &[&str] = &[
+/// Paths and documents, with what is selected, and texts, with their refusals.
+pub(crate) const ROWS: &[&str] = &[
     "$[?@ == false,0] ~ [true,false] -> $[1] $[0] ~ false true",
     "$[?(@ == null )] ~ [true,null] -> $[1] ~ null",
-];
-
-/// A text, and the kind and the position of its refusal: a word that is a literal, and what comes after it.
-pub(crate) const LITERAL_WORDS: &[&str] = &[
+    // A literal, and what comes after it.
     "$[?@ == nullX] -> ExpectedClosingBracket 13",
     "$[?null(@)] -> UndefinedFunction 4",
-];
-
-/// A text, and the kind and the position of its refusal: a word that is no literal.
-pub(crate) const OTHER_WORDS: &[&str] = &[
+    // A word that is no literal.
     "$[?tru -> ExpectedExpression 4",
     "$[?trues e] -> ExpectedExpression 4",
     "$[?truE == @] -> ExpectedExpression 4",

@@ -6,7 +6,7 @@ ghost use Rattle.serde_json_path_functions.specs.Patterns.{before_builtin};
 ghost use Rattle.serde_json_path_core_tests.specs.TestSets.{overriding_functions};
 ghost use Rattle.serde_json_path_functions.specs.Terms.{term_view};
 
-use crate::sets::Overriding;
+use crate::Overriding;
 use serde_json::Value;
 use serde_json_path_functions::FunctionArgType::Nodelist;
 use serde_json_path_functions::{Both, Builtin, FunctionValue, Functions, NodesType};

@@ -3,7 +3,7 @@
 ghost use Rattle.std.specs.Prelude.{◌≡◌, [], ◌∷◌, Some};
 ghost use Rattle.serde_json_path_functions.specs.Functions.{of_nodes, of_value, plain_signature};
 
-use crate::rows::{Table, hold_rows};
+use crate::{Came, hold_pairs, hold_rows};
 use serde_json::Value;
 use serde_json_path_functions::FunctionArgType::{Logical, Nodelist};
 use serde_json_path_functions::{
@@ -14,7 +14,7 @@ use std::alloc::Global;
 use std::test::Fail;
 
 /// An answer of type Value, as JSON or the word `Nothing`.
-fn printed_answer(alloc: Global, answer: &FunctionValue) -> Result<String, Fail> {
+fn printed_answer(alloc: Global, answer: &FunctionValue) -> Came {
     match answer {
         FunctionValue::Value(value) => match value.as_value() {
             Some(value) => Ok(value.to_string(alloc)?),
@@ -25,12 +25,7 @@ fn printed_answer(alloc: Global, answer: &FunctionValue) -> Result<String, Fail>
 }
 
 /// The answer of a function to `number` nodes, each of them the document.
-fn answer_to<'b>(
-    alloc: Global,
-    name: &str,
-    document: &'b Value,
-    number: usize,
-) -> Result<String, Fail>
+fn answer_to(alloc: Global, name: &str, document: &Value, number: usize) -> Came
     requires { (plain_signature name.now
         ≡ Some (record { params = of_nodes ∷ []; result = of_value })) }
 {
@@ -57,7 +52,7 @@ const LENGTHS: &[&str] = &[
 ];
 
 /// The length of a value, printed.
-fn length_of(alloc: Global, document: &str) -> Result<String, Fail> {
+fn length_of(alloc: Global, document: &str) -> Came {
     let value = Value::from_str(alloc, document)?;
     let mut args = Vec::new(alloc);
     args.push(FunctionValue::Value(ValueType::Node(&value)))?;
@@ -74,7 +69,7 @@ fn length_of_values(rt: HostRuntime) -> Result<(), Fail> {
 const NODES: &[&str] = &["0 -> 0, Nothing", "1 -> 1, true", "2 -> 2, Nothing"];
 
 /// What `count` and `value` answer to so many nodes.
-fn answers_to(alloc: Global, number: &str) -> Result<String, Fail> {
+fn answers_to(alloc: Global, number: &str) -> Came {
     let number = number.parse::<usize>()?;
     let document = Value::from(true);
     let count = answer_to(alloc, "count", &document, number)?;
@@ -92,44 +87,32 @@ fn signatures_have_eight_parameters_at_most(rt: HostRuntime) -> Result<(), Fail>
     let params = [Logical; 9];
     assert!(rt; Signature::new(&params, Nodelist).is_none());
     assert!(rt; Signature::new(&[FunctionArgType::Value; 9], Logical).is_none());
-    match Signature::new(&params[..8], Nodelist) {
-        Some(signature) => {
-            assert_eq!(rt; signature.params(), &params[..8]);
-            assert_eq!(rt; signature.result(), Nodelist);
-        }
-        None => assert!(rt; false, "eight parameters are refused"),
-    }
+    let eight = Signature::new(&params[..8], Nodelist).ok_or("eight parameters are refused")?;
+    assert_eq!(rt; (eight.params(), eight.result()), (&params[..8], Nodelist));
     Ok(())
 }
 
 /// Parameters and the type of a result, and whether a signature of them is that of `fn(Logical) -> Nodelist`.
-const SIGNATURES: &[(&[FunctionArgType], FunctionArgType, &str)] = &[
-    (&[Logical], Nodelist, "Some(true)"),
-    (&[Logical], Logical, "Some(false)"),
-    (&[Nodelist], Nodelist, "Some(false)"),
-    (&[], Nodelist, "Some(false)"),
-    (&[Logical, Logical], Nodelist, "Some(false)"),
+const SIGNATURES: &[(Types, &str)] = &[
+    ((&[Logical], Nodelist), "true"),
+    ((&[Logical], Logical), "false"),
+    ((&[Nodelist], Nodelist), "false"),
+    ((&[], Nodelist), "false"),
+    ((&[Logical, Logical], Nodelist), "false"),
 ];
 
-/// Whether two signatures are the same, where there are both.
-fn are_same(one: Option<Signature>, other: Option<Signature>) -> Option<bool> {
-    match (one, other) {
-        (Some(one), Some(other)) => Some(one.is_same(&other)),
-        _ => None,
-    }
+type Types = (&'static [FunctionArgType], FunctionArgType);
+
+/// Whether the signature of types is that of `fn(Logical) -> Nodelist`.
+fn is_same(alloc: Global, (params, answer): Types) -> Came {
+    let one = Signature::new(&[Logical], Nodelist).ok_or("no signature")?;
+    let other = Signature::new(params, answer).ok_or("no other signature")?;
+    Ok(format!(in alloc; "{}", one.is_same(&other))?)
 }
 
 #[test]
 fn signatures_are_the_same_by_their_types(rt: HostRuntime) -> Result<(), Fail> {
-    let mut table = Table::new(&rt);
-    for &(params, result, wanted) in SIGNATURES {
-        let one = Signature::new(&[Logical], Nodelist);
-        let is_same = are_same(one, Signature::new(params, result));
-        let given = format!(in rt.alloc(); "{params:?} {result:?}")?;
-        let came = format!(in rt.alloc(); "{is_same:?}").map_err(Fail::from);
-        table.hold(("signatures", given.as_str(), wanted), came);
-    }
-    table.end()
+    hold_pairs(&rt, SIGNATURES, is_same)
 }
 
 #[test]

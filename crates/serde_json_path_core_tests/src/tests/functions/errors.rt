@@ -3,7 +3,7 @@
 ghost use Rattle.serde_json_path_functions.specs.Functions.{Fits};
 ghost use Rattle.serde_json_path_core_tests.specs.TestSets.{refused_names};
 
-use crate::sets::Overriding;
+use crate::Overriding;
 use crate::tests::functions::patterns::arguments;
 use serde_json_path_functions::{Both, Builtin, Functions, QueryError};
 use std::alloc::Global;

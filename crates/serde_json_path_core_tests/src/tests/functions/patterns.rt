@@ -4,7 +4,7 @@ ghost use Rattle.std.specs.Prelude.{◌≡◌, map, Some, IfOk};
 ghost use Rattle.serde_json_path_functions.specs.Functions.{Takes, matching_signature, builtin_signature};
 ghost use Rattle.serde_json_path_functions.specs.Terms.{term_view};
 
-use crate::rows::{Table, alike, fields, hold_rows};
+use crate::{Came, alike, fields, hold_rows};
 use serde_json::Value;
 use serde_json_path_functions::{
     Builtin, CachedPatterns, FunctionValue, Functions, LogicalType, PatternStore, ValueType,
@@ -40,7 +40,7 @@ fn told<F: Functions>(
     functions: &F,
     name: &str,
     args: Vec<FunctionValue<'static>>,
-) -> Result<String, Fail>
+) -> Came
     requires { Takes ((F.set functions.now).signature name.now) (map term_view args.items) }
 {
     match functions.call(alloc, name, args) {
@@ -55,7 +55,7 @@ fn told<F: Functions>(
 
 /// What a function answers to two values, each a JSON text. It is asked of `Builtin`, and twice of a set that keeps patterns,
 /// which has a matcher at the second time.
-fn answer_to(alloc: Global, name: &str, given: &str) -> Result<String, Fail>
+fn answer_to(alloc: Global, name: &str, given: &str) -> Came
     requires { builtin_signature name.now ≡ Some matching_signature }
 {
     let (text, pattern) = fields(given)?;
@@ -103,20 +103,12 @@ const SEARCHES: &[&str] = &[
 
 #[test]
 fn matches_the_whole_text(rt: HostRuntime) -> Result<(), Fail> {
-    hold_rows(
-        &rt,
-        MATCHES,
-        |alloc, given| answer_to(alloc, "match", given),
-    )
+    hold_rows(&rt, MATCHES, |alloc, row| answer_to(alloc, "match", row))
 }
 
 #[test]
 fn searches_in_the_text(rt: HostRuntime) -> Result<(), Fail> {
-    hold_rows(
-        &rt,
-        SEARCHES,
-        |alloc, given| answer_to(alloc, "search", given),
-    )
+    hold_rows(&rt, SEARCHES, |alloc, row| answer_to(alloc, "search", row))
 }
 
 /// A text, a pattern, and what `match` and `search` answer: one that would be too great is refused, and one that `regex`
@@ -128,15 +120,6 @@ const GREAT: &[&str] = &[
 
 #[test]
 fn refuses_patterns_that_are_too_great(rt: HostRuntime) -> Result<(), Fail> {
-    let alloc = rt.alloc();
-    let mut table = Table::new(&rt);
-    table.hold_each(
-        "`match`",
-        GREAT,
-        |alloc, given| answer_to(alloc, "match", given),
-    );
-    table.hold_each("`search`", GREAT, |alloc, given| {
-        answer_to(alloc, "search", given)
-    });
-    table.end()
+    hold_rows(&rt, GREAT, |alloc, row| answer_to(alloc, "match", row))?;
+    hold_rows(&rt, GREAT, |alloc, row| answer_to(alloc, "search", row))
 }

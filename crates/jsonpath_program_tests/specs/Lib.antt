@@ -1,2 +1,0 @@
--- Samples: the function set of the tests.
-pub mod Samples
