@@ -149,7 +149,7 @@ fn of_shelves(alloc: Global, path: &str) -> Came {
     locations(alloc, &path.query_located_with(alloc, &document, &own)?)
 }
 
-/// The same of [`Overriding`].
+/// Paths and documents with what is selected, and texts with their refusals, where filters call [`Overriding`].
 const OTHER: &[&str] = &[
     "$[?length(@.*) == 3] ~ [[1,2],[1]] -> $[0] ~ [1,2]",
     "$[?count(@.*) == 1] ~ [[1,2],[1]] -> $[1] ~ [1]",
