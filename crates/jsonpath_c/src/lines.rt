@@ -8,7 +8,7 @@ use crate::status::{DOCUMENT_REFUSED, NO_MEMORY, NOT_UTF8, QUERY_REFUSED};
 use jsonpath_lines::Form;
 use jsonpath_program::report::{DocumentError, ReportError, report_in};
 use serde_json_path::QueryError;
-use serde_json_path::functions::NoFunctions;
+use serde_json_path::functions::{CachedPatterns, PatternStore};
 use std::alloc::Global;
 
 /// Puts the lines in a form, or tells the refusal. Returns the status.
@@ -27,7 +27,9 @@ fn lines(
     let Ok(path) = str::from_utf8(path) else {
         return NOT_UTF8;
     };
-    match report_in(alloc, form, path, document, &NoFunctions) {
+    let store = PatternStore::new();
+    let functions = CachedPatterns::new(alloc, &store);
+    match report_in(alloc, form, path, document, &functions) {
         Ok(text) => put(text.as_str(), out, size),
         Err(ReportError::Path(e)) => put_refusal(&e, refusal),
         Err(ReportError::Document(DocumentError::NotJson)) => DOCUMENT_REFUSED,

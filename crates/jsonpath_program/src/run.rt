@@ -12,7 +12,7 @@ ghost use Rattle.jsonpath_program.specs.Report.{IsNoPath};
 ghost use Rattle.jsonpath_program.specs.Run.{status_of, line_of, IsStatus, IsDocumentLine, IsQueryLine, IsOneWord, IsReportOfRun, MayBeDocument, AppendsBeginning};
 
 use crate::report::{DocumentError, ReportError, report};
-use serde_json_path::functions::NoFunctions;
+use serde_json_path::functions::{CachedPatterns, PatternStore};
 use serde_json_path::{ParseError, ParseErrorKind, QueryError};
 use std::alloc::Global;
 use std::io;
@@ -210,7 +210,9 @@ pub fn run<R: Read, W: Write, E: Write>(
         let _ = write_text("jsonpath: document: cannot be read\n", err);
         return DOCUMENT_REFUSED;
     }
-    match report(alloc, path.as_str(), document.as_slice(), &NoFunctions) {
+    let store = PatternStore::new();
+    let functions = CachedPatterns::new(alloc, &store);
+    match report(alloc, path.as_str(), document.as_slice(), &functions) {
         Ok(lines) => print(lines.as_str(), out, err),
         Err(e) => refuse(alloc, &e, err),
     }

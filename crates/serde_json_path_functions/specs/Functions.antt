@@ -1,5 +1,5 @@
 -- Function sets: the signature of each name, and what it means (RFC 9535, section 2.4).
-use Rattle.std.specs.Prelude.{◌≡◌, ℕ, ◌≤◌, List, [], ◌∷◌, length, map, Bool, false, Option, Some, None, bytes_eq, codes, if◌then◌else◌}
+use Rattle.std.specs.Prelude.{◌≡◌, ℕ, ◌≤◌, List, [], ◌∷◌, length, map, Bool, Option, Some, None, bytes_eq, codes, if◌then◌else◌}
 use Rattle.std.specs.Str.{chars}
 use Rattle.serde_json.specs.Events.{items_len, members_len}
 use Rattle.serde_json.specs.Data.{Data, number, string, array, object, unsigned}
@@ -83,15 +83,6 @@ both A B = record {
   meaning = λ name ts. of_first (A.signature name) (A.meaning name ts) (B.meaning name ts);
   by_regex = λ name. of_first (A.signature name) (A.by_regex name) (B.by_regex name);
   numbers = A.numbers;
-}
-
--- the set that declares no name
-abbrev pub no_functions : FunctionSet
-no_functions = record {
-  signature = λ name. None;
-  meaning = λ name ts. logical false;
-  by_regex = λ name. None;
-  numbers = whole_numbers;
 }
 
 -- the functions of a set, where comparisons take numbers by a rule

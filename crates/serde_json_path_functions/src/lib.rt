@@ -2,8 +2,8 @@
 //!
 //! [`Functions`] is the trait of a function set: it declares names with their [`Signature`]s, and answers their calls.
 //! [`Builtin`] is the set of `length`, `count`, `value`, `match` and `search`, and [`CachedPatterns`] the same with the patterns
-//! that it has read; [`Both`] puts one set before another, [`NoFunctions`] declares no name, [`AllNumbers`] has comparisons take
-//! all numbers, and [`Ruled`] has them take numbers by a rule that is chosen while a program runs.
+//! that it has read; [`Both`] puts one set before another, [`AllNumbers`] has comparisons take all numbers, and [`Ruled`]
+//! has them take numbers by a rule that is chosen while a program runs.
 //! Arguments and answers are [`FunctionValue`]s.
 //!
 //! ```text
@@ -22,7 +22,6 @@ mod both;
 mod builtin;
 mod cached;
 mod error;
-mod no_functions;
 mod numbers;
 mod patterns;
 mod set;
@@ -33,7 +32,6 @@ pub use both::Both;
 pub use builtin::Builtin;
 pub use cached::{CachedPatterns, PatternStore};
 pub use error::QueryError;
-pub use no_functions::NoFunctions;
 pub use numbers::{AllNumbers, Numbers, Ruled};
 pub use set::Functions;
 pub use signature::Signature;

@@ -5,6 +5,7 @@ use Rattle.jsonpath_document.specs.Document.{ReadsAs}
 use Rattle.jsonpath_program.specs.Run.{line_of, status_of}
 use Rattle.jsonpath_program.specs.declared.report.ReportError.TheVariants.{Path, Document, Query}
 use Rattle.jsonpath_program.proofs.Runs.{one_word, same_word, of_known, whole_read, report_of_run, path_of, document_of, query_of}
+use Rattle.serde_json_path_functions.proofs.Sets.{before_itself}
 use Rattle.jsonpath_program.proofs.run.run.Goals as goal
 
 pub returns-then-is_err-clause-document_reported : goal.returns-then-is_err-clause-document_reported
@@ -40,8 +41,8 @@ returns-clause-path_reported g c = λ one.
       one_word _ _ _ c.in-len1.len_at_least c.in-len1.len_below c.path-item.is c.as_str.ensures.value,
       (
         path,
-        (c.report.ensures.path_refused path (c.in-Err.is ∙ ap Err is)),
-        (c.report.ensures.path_reported path (c.in-Err.is ∙ ap Err is)),
+        rw before_itself at (c.report.ensures.path_refused path (c.in-Err.is ∙ ap Err is)),
+        rw before_itself at (c.report.ensures.path_reported path (c.in-Err.is ∙ ap Err is)),
         rw is at c.refuse.ensures.reported,
       ),
     )
@@ -72,7 +73,7 @@ returns-clause-query_reported g c = λ three.
           c.as_str.result.now,
           one_word _ _ _ c.in-len1.len_at_least c.in-len1.len_below c.path-item.is c.as_str.ensures.value,
           whole,
-          (c.report.ensures.pattern_refused (c.in-Err.is ∙ ap Err (is ∙ ap Query pattern))),
+          rw before_itself at (c.report.ensures.pattern_refused (c.in-Err.is ∙ ap Err (is ∙ ap Query pattern))),
         ),
       ),
       inr refl,
@@ -92,13 +93,13 @@ pub returns-in-Ok-clause-path_first : goal.returns-in-Ok-clause-path_first
 returns-in-Ok-clause-path_first g c = λ path is_word no_path.
     let one = one_word _ _ _ c.in-len1.len_at_least c.in-len1.len_below c.path-item.is c.as_str.ensures.value in
     let same = same_word c.args.words.now path c.as_str.result.now is_word one in
-    let (e, refused) = c.report.ensures.path_first (rw (← same) no_path) in
+    let (e, refused) = c.report.ensures.path_first (rw (before_itself, ← same) no_path) in
     let told = sym c.in-Ok.is ∙ refused in absurd cc
 
 pub returns-clause-path_first : goal.returns-clause-path_first
 returns-clause-path_first g c = λ path is_word no_path.
     let one = one_word _ _ _ c.in-len1.len_at_least c.in-len1.len_below c.path-item.is c.as_str.ensures.value in
     let same = same_word c.args.words.now path c.as_str.result.now is_word one in
-    let (e, refused) = c.report.ensures.path_first (rw (← same) no_path) in
+    let (e, refused) = c.report.ensures.path_first (rw (before_itself, ← same) no_path) in
     let same_error : c.in-Err.e ≡ Path e = cc in
     inl (c.refuse.ensures.status ∙ ap status_of same_error)
