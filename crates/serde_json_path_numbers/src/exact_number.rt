@@ -31,7 +31,7 @@ impl ExactNumber {
     ghost use Rattle.serde_json_path_numbers.specs.Views.{exact_view};
 
     /// The number of a document.
-    #[inline(always)]
+    #[inline]
     pub fn of_number(number: &Number) -> ExactNumber
         ensures { exact_view result ≡ document_number (number_view number.now) }
     {
@@ -44,7 +44,7 @@ impl ExactNumber {
     }
 
     /// The number of a literal of that many billionths: an integer, or with a fraction the nearest double.
-    #[inline(always)]
+    #[inline]
     pub fn of_billionths(billionths: i128) -> ExactNumber
         requires { IsInLiteralRange billionths }
         ensures { exact_view result ≡ literal_number billionths }
@@ -53,7 +53,7 @@ impl ExactNumber {
     }
 
     /// The same of a literal whose nearest double, if it has a fraction, is at hand (see [`literal_double`]).
-    #[inline(always)]
+    #[inline]
     pub fn of_literal(billionths: i128, double: Option<f64>) -> ExactNumber
         requires range { IsInLiteralRange billionths }
         requires double { double ≡ numbers.literal_double billionths }
@@ -67,7 +67,7 @@ impl ExactNumber {
     }
 
     /// Whether the two are the same number.
-    #[inline(always)]
+    #[inline]
     #[tactic(auto, using(crate::proofs::Forms::equal_integers))]
     pub fn is_equal(self, other: ExactNumber) -> bool
         ensures { result ≡ eq (exact_view self) (exact_view other) }
@@ -81,7 +81,7 @@ impl ExactNumber {
     }
 
     /// Whether this number is less than the other.
-    #[inline(always)]
+    #[inline]
     #[tactic(auto, using(crate::proofs::Forms::less_integers))]
     pub fn is_less(self, other: ExactNumber) -> bool
         ensures { result ≡ lt (exact_view self) (exact_view other) }
