@@ -14,6 +14,7 @@ use crate::line::LineWriter;
 use serde_json_path::functions::Functions;
 use serde_json_path::{LocatedNode, QueryError, Sink, Taken, Walk};
 use std::alloc::Global;
+use std::mem::replace;
 
 /// What is written of nodes.
 #[derive(Drop)]
@@ -72,7 +73,10 @@ impl Lines<'_> {
             output,
             ..self.writer
         };
-        writer.push_node(&mut self.text, self.count > 0, &node)?;
+        // Taken out, so that what is lent to a call is the text alone, and a form that is known stays so.
+        let mut text = replace(&mut self.text, String::new(self.writer.alloc));
+        writer.push_node(&mut text, self.count > 0, &node)?;
+        self.text = text;
         // A walk that gave one node in each nanosecond would take 584 years to come to the error.
         self.count = self.count.checked_add(1).ok_or(QueryError::Memory)?;
         if is_reached(self.limit, self.count) {
@@ -115,7 +119,7 @@ impl<'a, 'b> Sink<'b> for LocatedLines<'a> {
 
 /// The lines with what is written of the nodes of a walk up to the limit.
 #[inline(always)]
-fn filled<'a, F: Functions + Drop>(
+fn filled<'a, F: Functions + Drop, const VARIES: bool>(
     mut lines: Lines<'a>,
     walk: Walk<'_, '_, F>,
 ) -> Result<Lines<'a>, QueryError>
@@ -125,7 +129,7 @@ fn filled<'a, F: Functions + Drop>(
     ensures refused { OnlyMemoryOrPattern (set_of walk.entry) (query_of walk.entry)
         (document_of walk.entry) result }
 {
-    if lines.writer.output == lines.writer.output.in_located_lines() {
+    if VARIES && lines.writer.output == lines.writer.output.in_located_lines() {
         let mut located = LocatedLines(lines);
         walk.feed(&mut located)?;
         return Ok(located.0);
@@ -137,7 +141,7 @@ fn filled<'a, F: Functions + Drop>(
 /// Appends what is written of the nodes of a walk up to the limit, and tells how many these are.
 // Inlined, as what calls it, so that a form that is known where it is asked for is known here.
 #[inline(always)]
-fn push_walk<F: Functions + Drop>(
+fn push_walk<F: Functions + Drop, const VARIES: bool>(
     writer: LineWriter<'_>,
     text: String,
     walk: Walk<'_, '_, F>,
@@ -158,7 +162,7 @@ fn push_walk<F: Functions + Drop>(
         text,
         count: 0,
     };
-    let lines = filled(lines, walk)?;
+    let lines = filled::<F, VARIES>(lines, walk)?;
     Ok(Written {
         text: lines.text,
         count: lines.count,
@@ -219,7 +223,7 @@ fn push_unique<F: Functions + Drop>(
 
 /// Appends what is written of the chosen nodes of a walk up to the limit, and tells how many these are.
 #[inline(always)]
-fn push_chosen<F: Functions + Drop>(
+fn push_chosen<F: Functions + Drop, const VARIES: bool>(
     writer: LineWriter<'_>,
     text: String,
     walk: Walk<'_, '_, F>,
@@ -233,7 +237,7 @@ fn push_chosen<F: Functions + Drop>(
     if writer.output.leaves_out() {
         push_unique(writer, text, walk)
     } else {
-        push_walk(writer, text, walk)
+        push_walk::<F, VARIES>(writer, text, walk)
     }
 }
 
@@ -244,12 +248,15 @@ fn push_chosen<F: Functions + Drop>(
 ///
 /// The error is `Pattern` or `Memory` as that of `Walk::next`; `Memory` comes also where memory for the text is refused.
 ///
+/// `VARIES` says whether the form is known only at run time. Then lines with a location and a value are compiled for themselves;
+/// else the one form that the caller gives is.
+///
 /// ```text
 /// let output = Output { form: Form::Count, unique: true, ..Output::compact_lines(Form::Count) };
-/// write_nodes(alloc, &output, "a.json\t", String::new(alloc), walk)?.text.as_str() == "a.json\t2\n"
+/// write_nodes::<_, true>(alloc, &output, "a.json\t", String::new(alloc), walk)?.text.as_str() == "a.json\t2\n"
 /// ```
 #[inline(always)]
-pub fn write_nodes<F: Functions + Drop>(
+pub fn write_nodes<F: Functions + Drop, const VARIES: bool>(
     alloc: Global,
     output: &Output,
     head: &str,
@@ -270,7 +277,7 @@ pub fn write_nodes<F: Functions + Drop>(
         head,
     };
     writer.open(&mut text)?;
-    let written = push_chosen(writer, text, walk)?;
+    let written = push_chosen::<F, VARIES>(writer, text, walk)?;
     let text = writer.closed(written.text, written.count)?;
     Ok(Written {
         text,

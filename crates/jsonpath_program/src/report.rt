@@ -106,7 +106,7 @@ fn selected<F: Functions>(
     let store = PatternStore::new();
     let functions = Both(functions, CachedPatterns::new(alloc, &store));
     let walk = path.walk_under(alloc, document, functions)?;
-    Ok(write_nodes(alloc, &Output::compact_lines(form), "", text, walk)?.text)
+    Ok(write_nodes::<_, false>(alloc, &Output::compact_lines(form), "", text, walk)?.text)
 }
 
 /// One line for each node of the document that the path selects, in order: its normalised path, a tab, its compact JSON

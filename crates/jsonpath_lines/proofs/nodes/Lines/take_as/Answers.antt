@@ -6,13 +6,13 @@ pub returns-then-is_reached-clause-taken : goal.returns-then-is_reached-clause-t
 returns-then-is_reached-clause-taken c = λ before nodes later same took.
     let further : c.in_ok-self.field-0 ≡ c.args.self.now.count + 1 = search rules in
     let full : is_reached c.args.self.now.limit c.in_ok-self.field-0 ≡ true = search rules in
-    filled_by_one before c.args.self.now nodes later _ _ c.in_ok-self.field-0 took (rw (← same) at c.in_ok-push_node.ensures) further full
+    filled_by_one before c.args.self.now nodes later _ _ c.in_ok-self.field-0 took (rw (← same, c.replace-text.ensures.value) at c.in_ok-push_node.ensures) further full
 
 pub returns-clause-taken : goal.returns-clause-taken
 returns-clause-taken c = λ before nodes same took.
     let further : c.in_ok-self.field-0 ≡ c.args.self.now.count + 1 = search rules in
     let below : is_reached c.args.self.now.limit c.in_ok-self.field-0 ≡ false = search rules in
-    let one = one_taken before c.args.self.now nodes _ _ c.in_ok-self.field-0 took (rw (← same) at c.in_ok-push_node.ensures) further in
+    let one = one_taken before c.args.self.now nodes _ _ c.in_ok-self.field-0 took (rw (← same, c.replace-text.ensures.value) at c.in_ok-push_node.ensures) further in
     record {
       writer = took.writer;
       limit = took.limit;
