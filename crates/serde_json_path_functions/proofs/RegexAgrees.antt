@@ -41,3 +41,5 @@ pub refused_is_readable : (source : List ℕ) (error : Error) → (error ≡ Com
     IsRightKind default_config source error → IsReadable source
 unfolding Reads
 refused_is_readable source error refused h = grind (arith, nat_tests)
+
+pub ruleset of_patterns = (found_as_read, refused_is_readable)

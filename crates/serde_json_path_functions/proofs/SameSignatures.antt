@@ -1,5 +1,5 @@
 -- The test of two signatures decides whether they are equal.
-use Rattle.std.proofs.Common.{arith, ◌≡◌, List, [], ◌∷◌, map, Bool, ◌&&◌, true≢false, refl, sym}
+use Rattle.std.proofs.Common.{arith, ◌≡◌, List, [], ◌∷◌, map, Bool, ◌&&◌, refl}
 use Rattle.std.specs.Bool.{Decides}
 use Rattle.std.specs.Cmp.Lexicographic.{pointwise}
 use Rattle.std.proofs.lemmas.Bool.Decides.{nat_tests}
@@ -16,10 +16,11 @@ same_list a b xs ys s r d e = grind (arith, nat_tests)
 
 pub all_decided : (ks ls : List FunctionArgType) → Decides (pointwise eq-value.it ks ls) (map kind_view ks ≡ map kind_view ls)
 all_decided [] [] = (λ e. refl, λ e. refl)
-all_decided [] (l ∷ ls) = (λ e. absurd (true≢false (sym e)), λ e. absurd cc)
-all_decided (k ∷ ks) [] = (λ e. absurd (true≢false (sym e)), λ e. absurd cc)
 all_decided (k ∷ ks) (l ∷ ls) = same_list (kind_view k) (kind_view l) (map kind_view ks) (map kind_view ls) (eq-value.it k l) (pointwise eq-value.it ks ls) (kinds_decided k l) (all_decided ks ls)
+all_decided _ _ = (λ e. absurd cc, λ e. absurd cc)
 
 -- two signatures are equal where their parameters and their results are
 pub signature_decided : (s t : Signature) (p q : Bool) → Decides p (s.params ≡ t.params) → Decides q (s.result ≡ t.result) → Decides (p && q) (s ≡ t)
 signature_decided s t p q d e = grind (arith, nat_tests)
+
+pub ruleset of_signatures = (kinds_decided, all_decided, signature_decided)

@@ -60,6 +60,7 @@ fn counted<'b>(number: usize) -> ValueType<'b>
 }
 
 /// How many characters a text has.
+#[tactic(auto, using(std::proofs::lemmas::Str::chars_from_encodes))]
 fn characters(text: &str) -> usize
     ensures { result ≡ length (chars text.now) }
 {
@@ -67,6 +68,7 @@ fn characters(text: &str) -> usize
 }
 
 /// How many characters a text has, items an array, or members an object; Nothing for any other value.
+#[tactic(auto, using(crate::proofs::Lengths::of_values))]
 fn length<'b>(value: &ValueType<'b>) -> ValueType<'b>
     ensures { value_view result ≡ length_of (value_view value.now) }
 {

@@ -54,6 +54,7 @@ pub(crate) trait FindsPatterns {
 }
 
 /// What `regex` reads in the text that is built of a pattern: `None` where it cannot read it, and `Pattern` only where it can.
+#[tactic(auto, using(crate::proofs::RegexAgrees::of_patterns))]
 fn regex_of(
     alloc: Global,
     matching: Matching,

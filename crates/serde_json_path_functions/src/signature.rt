@@ -60,6 +60,7 @@ impl Signature {
     }
 
     /// Whether both have the same parameters and the same result.
+    #[tactic(auto, using(crate::proofs::SameSignatures::of_signatures))]
     pub fn is_same(&self, other: &Signature) -> bool
         ensures { IsTrue result ↔ (signature_view self.now ≡ signature_view other.now) }
     {
