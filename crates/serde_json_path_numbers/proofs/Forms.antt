@@ -1,7 +1,7 @@
 -- Numbers by what holds them; integers keep their order.
-use Rattle.serde_json_path_numbers.proofs.Words.{◌≡◌, true, T, arith, sym, ap, ◌∙◌, subst, eqb→eq, eq-eqb, to_z-of_z, to_z, of_z, Ordering, nat_tests, ℤ, nat_eq, int_lt, FitsSigned, w128, float_is_finite, Float, lt, eq, T_from_true, integer, IsOrder, held_number, is_exact, Integer, Double, IntegersKeepTheirOrder}
+use Rattle.serde_json_path_numbers.proofs.Words.{◌≡◌, true, T, arith, sym, ap, ◌∙◌, subst, to_z-of_z, to_z, of_z, Ordering, nat_tests, ℤ, nat_eq, int_lt, FitsSigned, w128, float_is_finite, Float, lt, eq, integer, IsOrder, held_number, is_exact, Integer, Double, IntegersKeepTheirOrder}
 use Rattle.serde_json_path_numbers.specs.declared.exact_number.Form.{Form}
-use Rattle.serde_json_path_numbers.proofs.Floats.{same, sure, equality, IsTold, told}
+use Rattle.serde_json_path_numbers.proofs.Floats.{sure, equality, IsTold, told}
 use lib.Signed.{lt_z_yes}
 
 pub in_range : (z : ℤ) → is_exact (Integer z) ≡ true → FitsSigned w128 z
@@ -29,16 +29,14 @@ module _ (f g : Form) (a b : ℤ) (at : f ≡ Integer a) (by : g ≡ Integer b) 
   right : to_z w128 (of_z w128 b) ≡ b
   right = to_z-of_z (in_range b (sym (ap is_exact by) ∙ y))
 
+  back : of_z w128 a ≡ of_z w128 b → a ≡ b
+  back e = sym left ∙ ap (to_z w128) e ∙ right
+
   pub less_integers : int_lt (to_z w128 (of_z w128 a)) (to_z w128 (of_z w128 b)) ≡ lt (held_number f) (held_number g)
   less_integers = rw (left, right, at, by) (integers_less a b)
 
   pub equal_integers : nat_eq (of_z w128 a) (of_z w128 b) ≡ eq (held_number f) (held_number g)
-  equal_integers =
-      rw (at, by) (same (nat_eq (of_z w128 a) (of_z w128 b)) (eq (integer a) (integer b))
-      (λ t.
-      let e : a ≡ b = sym left ∙ ap (to_z w128) (eqb→eq (of_z w128 a) (of_z w128 b) t) ∙ right in
-      rw e (T_from_true _ (equality.reflexive (integer b) (finite_integer b))))
-      (λ t. T_from_true _ (eq-eqb (of_z w128 a) (of_z w128 b) (ap (of_z w128) (integers_equal a b t)))))
+  equal_integers = rw (at, by) (grind (arith, nat_tests, back, integers_equal a b, equality.reflexive (integer b) (finite_integer b)))
 
 -- an integer and a double
 pub mixed : {f g : Form} {n : ℤ} {x : Float} (o : Ordering) → f ≡ Integer n → g ≡ Double x → is_exact f ≡ true

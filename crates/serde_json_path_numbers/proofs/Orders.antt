@@ -17,9 +17,7 @@ rising : (a b : ℕ) → a ≤ b → T (le (integer (pos a)) (integer (pos b)))
 rising a b h = le_of_values (integer (pos a)) (integer (pos b)) a 1 b 1 (omega arith) (omega arith) (value a) (value b) (omega arith)
 
 pub under_zero : (n : ℕ) (x : Float) → lt x (of_bits binary64 0) ≡ true → lt x (integer (pos n)) ≡ true
-under_zero n x h =
-    let below : T (lt x (integer (pos 0))) = T_from_true _ (sym (ap (lt x) zero_is) ∙ h) in
-    sure _ (lt_of_lt_of_le x (integer (pos 0)) (integer (pos n)) below (rising 0 n (omega arith)))
+under_zero n x h = sure _ (lt_of_lt_of_le x (integer (pos 0)) (integer (pos n)) (T_from_true _ (rw zero_is at h)) (rising 0 n (omega arith)))
 
 pub over_64_bits : (n : ℕ) (x : Float) → n < 2 ^ 64 → le (of_bits binary64 0x43f0_0000_0000_0000) x ≡ true → lt (integer (pos n)) x ≡ true
 over_64_bits n x h k =

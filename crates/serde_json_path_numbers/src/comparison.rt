@@ -36,7 +36,7 @@ fn compare_natural(n: u64, x: f64) -> Ordering
 }
 
 /// How an integer compares with a double.
-#[tactic(auto, using(crate::proofs::Floats::finite_negated))]
+#[tactic(auto, using(crate::proofs::Floats::of_negated))]
 pub(crate) fn compare(n: i128, x: f64) -> Ordering
     requires range { unsigned_abs n < 2 ^ 64 }
     requires finite { float_is_finite x ≡ true }
