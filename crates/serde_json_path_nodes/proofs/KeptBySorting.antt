@@ -1,6 +1,6 @@
 -- Numbered elements are sorted by an order and then by number, those that tie with their neighbour are removed, and the
 -- others are sorted back by number: what is left are the elements that no earlier one ties with, in their order.
-use Rattle.serde_json_path_nodes.proofs.Words.{◌≡◌, ℕ, ◌+◌, ◌<◌, ◌≤◌, Bool, true, false, cond, not, ◌&&◌, ◌||◌, ltb, nat_eq, List, [], ◌∷◌, length, get_or, refl, ap, sym, ◌∙◌, arith, inl, inr, Equal-is, IsTotalOrder, All, AllByRecursion, IsDistinct, dedup, dedup_from, filter, list_any, sum_by, IsNonDecreasingBy, IsPermutation, IsSortedBy, eq_by_cmp, is_eq, is_lt, nat_cmp, on, ordering_reverse, ordering_then, then_cmp, Ordering, Less, and_from, cases_lt, le-ltb, lt-ltb, ne_eqb, or_left, nat_tests, nat_cmp_total, nat_eq_equiv, on_total, ranked, then_total, tied_back, get_or_default, All-filter, All-same, All-tail, filter_agree, All-permutation, IsNonDecreasingBy-drop, list_any-IsPermutation, sum_by-IsPermutation}
+use Rattle.serde_json_path_nodes.proofs.Words.{◌≡◌, ℕ, ◌+◌, ◌<◌, ◌≤◌, Bool, true, false, cond, not, ◌&&◌, ◌||◌, ltb, nat_eq, List, [], ◌∷◌, length, get_or, refl, ap, sym, ◌∙◌, arith, IsTotalOrder, All, AllByRecursion, IsDistinct, dedup, dedup_from, filter, list_any, sum_by, IsNonDecreasingBy, IsPermutation, IsSortedBy, eq_by_cmp, is_eq, is_lt, nat_cmp, on, ordering_reverse, ordering_then, then_cmp, Ordering, Less, ne_eqb, nat_tests, nat_cmp_total, nat_eq_equiv, on_total, ranked, then_total, tied_back, get_or_default, All-filter, All-same, All-tail, filter_agree, All-permutation, IsNonDecreasingBy-drop, list_any-IsPermutation, sum_by-IsPermutation}
 use Rattle.std.specs.List.Sorted.{IsStrictlySortedBy}
 use Rattle.std.proofs.lemmas.List.Kept.{IsNonDecreasingBy-filter}
 use Rattle.std.proofs.lemmas.List.Sums.{sum_by-cons, sum_by-le}
@@ -47,25 +47,14 @@ module _ {X : Type 0} (number : X → ℕ) where
   below_none : (bound : ℕ) (y : X) (ys : List X) → IsNonDecreasingBy number (y ∷ ys) → bound ≤ number y
       → sum_by (λ z. cond (ltb (number z) bound) 1 0) (y ∷ ys) ≡ 0
   below_none bound y ys rise low =
-      let none : All (λ z. cond (ltb (number z) bound) 1 0 ≤ 0) (y ∷ ys) = λ k d within.
-      let above : bound ≤ number (get_or (y ∷ ys) k d) = omega (arith, rise 0 k d (omega arith) within) in
-      rw (le-ltb (number (get_or (y ∷ ys) k d)) bound above) (omega arith) in
-      omega (arith, sum_by-le (λ z. cond (ltb (number z) bound) 1 0) 0 (y ∷ ys) none)
+      grind (arith, nat_tests, sum_by-le (λ z. cond (ltb (number z) bound) 1 0) 0 (y ∷ ys), rise 0)
 
   -- so of two such lists with the same sums neither begins below the other
   head_le : (x y : X) (xs ys : List X) → IsNonDecreasingBy number (y ∷ ys) → ((f : X → ℕ) → sum_by f (x ∷ xs) ≡ sum_by f (y ∷ ys))
       → number y ≤ number x
   head_le x y xs ys rise sums =
-      elim (cases_lt (number x) (number y)) [
-        | inl below ↦
-            let f : X → ℕ = λ z. cond (ltb (number z) (number y)) 1 0 in
-            let one : f x ≡ 1 = ap (λ b. cond b 1 0) (lt-ltb (number x) (number y) below) in
-            let start : sum_by f (x ∷ xs) ≡ f x + sum_by f xs = sum_by-cons f x xs in
-            let end : sum_by f (y ∷ ys) ≡ 0 = below_none (number y) y ys rise (omega arith) in
-            let both : sum_by f (x ∷ xs) ≡ sum_by f (y ∷ ys) = sums f in
-            absurd (omega arith)
-        | inr above ↦ above
-      ]
+      let below : X → ℕ = λ z. cond (ltb (number z) (number y)) 1 0 in
+      grind (arith, nat_tests, sums below, sum_by-cons below x xs, below_none (number y) y ys rise (omega arith))
 
   -- lists with the same sums are the same, where the number tells the element
   pub sorted_same : (P : X → Type 0) (tells : (x y : X) → P x → P y → number x ≡ number y → x ≡ y) (xs ys : List X)
@@ -136,12 +125,11 @@ module _ {X : Type 0} (order : X → X → Ordering) (number : X → ℕ) where
         λ b. elim b as (λ c. is_eq (order y x) ≡ c
         → cond c (dedup_from (eq_by_cmp order) x ys) (x ∷ dedup_from (eq_by_cmp order) y ys) ≡ filter (is_first_among all) all) [
           | true ↦ λ tie.
-              let below : number x < number y = later x y rise.0.0 (ap is_eq (tied_back total y x ((Equal-is (order y x)).0 tie))) in
-              let repeat : repeats y x ≡ true = and_from (is_eq (order y x)) (ltb (number x) (number y)) tie (lt-ltb (number x) (number y) below) in
+              let repeat : repeats y x ≡ true = grind (arith, nat_tests, later x y rise.0.0, tied_back total y x) in
               dedup_from_is x ys (rise.0.1, rise.1.1)
               ∙ filter_agree (is_first_among (x ∷ ys)) (is_first_among all)
-              (λ z. ap not (sym (absorbed (repeats z x) (repeats z y) (list_any (repeats z) ys) (repeats_through x y z rise.0.0 tie)))) (x ∷ ys)
-              ∙ sym (filter-second (is_first_among all) x y ys (ap not (or_left (repeats y x) (list_any (repeats y) (y ∷ ys)) repeat)))
+              (λ z. grind (arith, nat_tests, repeats_through x y z rise.0.0 tie)) (x ∷ ys)
+              ∙ sym (filter-second (is_first_among all) x y ys (grind (arith, nat_tests, repeat)))
           | false ↦ λ no_tie.
               let agree : AllByRecursion (λ z. is_first_among all z ≡ is_first_among (y ∷ ys) z) (y ∷ ys) =
               (ap (λ c. not ((c && ltb (number x) (number y)) || list_any (repeats y) (y ∷ ys))) no_tie, repeats_none_before x y (y ∷ ys) ys rise.0.0 no_tie rise.1.0) in

@@ -1,5 +1,5 @@
 -- A text in quotes, written in stretches of characters that print themselves.
-use Rattle.serde_json_path_nodes.proofs.Words.{◌≡◌, ℕ, ◌+◌, ◌<◌, false, List, [], ◌∷◌, ◌++◌, length, get_or, None, take, drop, unwrap_or, encode_utf8, refl, sym, ap, ◌∙◌, append_assoc, arith, flat_map, IsCharBoundary, IsUtf8, NonePass, chars, nat_tests, common_steps, flat_map-append, take-append-drop, take_more, chars-append, chars_past_char, encodes-chars, IsUtf8-take, escape_of, in_quotes, is_escaped}
+use Rattle.serde_json_path_nodes.proofs.Words.{◌≡◌, ℕ, ◌+◌, ◌<◌, false, List, [], ◌∷◌, ◌++◌, length, get_or, None, take, drop, unwrap_or, encode_utf8, refl, append_assoc, arith, flat_map, IsCharBoundary, IsUtf8, NonePass, chars, nat_tests, common_steps, flat_map-append, take-append-drop, take_more, chars-append, chars_past_char, encodes-chars, IsUtf8-take, escape_of, in_quotes, is_escaped}
 use Rattle.std.proofs.Common.{encode_utf8_all}
 
 -- ---- what prints itself
@@ -34,11 +34,8 @@ none_further bs i h plain e = rw (take_more bs i 0 h) (none_more (take i bs) (ge
 pub front_written : (text front back done whole : List ℕ) (n : ℕ) → IsUtf8 text → IsCharBoundary text n → NonePass is_escaped (take n text) → front ≡ take n text → back ≡ drop n text
     → done ++ flat_map in_quotes (chars text) ≡ whole → (done ++ front) ++ flat_map in_quotes (chars back) ≡ whole
 front_written text front back done whole n utf8 boundary plain is_front is_back all =
-    let utf8_front : IsUtf8 (take n text) = IsUtf8-take text n utf8 boundary in
-    let parted : chars text ≡ chars (take n text) ++ chars (drop n text) = ap chars (sym (take-append-drop n text)) ∙ chars-append (take n text) (drop n text) utf8_front in
-    let printed : flat_map in_quotes (chars text) ≡ take n text ++ flat_map in_quotes (chars (drop n text)) =
-    ap (flat_map in_quotes) parted ∙ flat_map-append in_quotes (chars (take n text)) (chars (drop n text)) ∙ ap (λ bs. bs ++ flat_map in_quotes (chars (drop n text))) (plain_text (take n text) utf8_front plain) in
-    rw (is_front, is_back) (append_assoc done (take n text) (flat_map in_quotes (chars (drop n text))) ∙ ap (λ bs. done ++ bs) (sym printed) ∙ all)
+    let utf8_front = IsUtf8-take text n utf8 boundary in
+    grind (arith, nat_tests, append_assoc, take-append-drop n text, chars-append (take n text) (drop n text) utf8_front, flat_map-append in_quotes (chars (take n text)) (chars (drop n text)), plain_text (take n text) utf8_front plain)
 
 -- the character after it
 pub char_written : (text rest done whole : List ℕ) (c : ℕ) → IsUtf8 text → text ≡ encode_utf8 c ++ rest

@@ -98,12 +98,8 @@ in_quotes-quote c r t same = grind (arith, nat_tests, begins, begins_otherwise)
 -- two texts that begin with characters as they are printed and a quote
 quotes_apart : (cs ds : List ℕ) (r t : List ℕ) → flat_map in_quotes cs ++ 39 ∷ r ≡ flat_map in_quotes ds ++ 39 ∷ t → (cs ≡ ds) × (r ≡ t)
 quotes_apart [] [] r t same = (refl, cc)
-quotes_apart [] (d ∷ ds) r t same = absurd (in_quotes-quote d (flat_map in_quotes ds ++ 39 ∷ t) r (sym (same ∙ append_assoc (in_quotes d) _ _)))
-quotes_apart (c ∷ cs) [] r t same = absurd (in_quotes-quote c (flat_map in_quotes cs ++ 39 ∷ r) t (sym (append_assoc (in_quotes c) _ _) ∙ same))
-quotes_apart (c ∷ cs) (d ∷ ds) r t same =
-    let first = in_quotes_apart c d (flat_map in_quotes cs ++ 39 ∷ r) (flat_map in_quotes ds ++ 39 ∷ t) (sym (append_assoc (in_quotes c) _ _) ∙ same ∙ append_assoc (in_quotes d) _ _) in
-    let rest = quotes_apart cs ds r t first.1 in
-    (λ i. first.0 i ∷ rest.0 i, rest.1)
+quotes_apart (c ∷ cs) (d ∷ ds) r t same = grind (arith, nat_tests, append_assoc, in_quotes_apart c d, quotes_apart cs ds r t)
+quotes_apart _ _ r t same = absurd (grind (arith, nat_tests, append_assoc, in_quotes-quote))
 
 -- ---- indexes
 
@@ -124,13 +120,8 @@ IsInside-in_decimal (suc n) = IsInside-digits (digits_of 10 (suc n)) (all_below_
 -- two texts that go on after their first closing bracket
 brackets_apart : (xs ys r t : List ℕ) → IsInside xs → IsInside ys → xs ++ 93 ∷ r ≡ ys ++ 93 ∷ t → (xs ≡ ys) × (r ≡ t)
 brackets_apart [] [] r t x y same = (refl, cc)
-brackets_apart [] (b ∷ ys) r t x y same = absurd (y.0 (ap (λ (l : List ℕ). get_or l 0 0) (sym same)))
-brackets_apart (a ∷ xs) [] r t x y same = absurd (x.0 (ap (λ (l : List ℕ). get_or l 0 0) same))
-brackets_apart (a ∷ xs) (b ∷ ys) r t x y same =
-    let first : a ≡ b = cc in
-    let after : xs ++ 93 ∷ r ≡ ys ++ 93 ∷ t = cc in
-    let rest = brackets_apart xs ys r t x.1 y.1 after in
-    (λ i. first i ∷ rest.0 i, rest.1)
+brackets_apart (a ∷ xs) (b ∷ ys) r t x y same = grind (arith, nat_tests, brackets_apart xs ys r t x.1 y.1)
+brackets_apart _ _ r t x y same = grind (arith, nat_tests)
 
 -- an index does not begin with a quote
 digits-quote : (digits r t : List ℕ) → 0 < get_or digits 0 0 → map (λ digit. 48 + digit) digits ++ r ≡ 39 ∷ t → ⊥
@@ -179,14 +170,8 @@ normal_step-nil step r same = grind (arith, nat_tests)
 locations_apart : (a b : List Step) → IsProper a → IsProper b
     → flat_map normal_step a ≡ flat_map normal_step b → a ≡ b
 locations_apart [] [] proper_a proper_b same = refl
-locations_apart [] (y ∷ ys) proper_a proper_b same = absurd (normal_step-nil y _ (sym same))
-locations_apart (x ∷ xs) [] proper_a proper_b same = absurd (normal_step-nil x _ same)
-locations_apart (x ∷ xs) (y ∷ ys) proper_a proper_b same =
-    let p = proper_parts x xs proper_a in
-    let q = proper_parts y ys proper_b in
-    let parts = steps_apart x y (flat_map normal_step xs) (flat_map normal_step ys) p.0 q.0 same in
-    let rest = locations_apart xs ys p.1 q.1 parts.1 in
-    λ i. parts.0 i ∷ rest i
+locations_apart (x ∷ xs) (y ∷ ys) proper_a proper_b same = grind (arith, nat_tests, proper_parts x xs proper_a, proper_parts y ys proper_b, steps_apart x y (flat_map normal_step xs) (flat_map normal_step ys), locations_apart xs ys)
+locations_apart _ _ proper_a proper_b same = grind (arith, nat_tests, normal_step-nil)
 
 pub texts_tell_locations : TextsTellLocations
 texts_tell_locations a b proper_a proper_b =

@@ -36,8 +36,7 @@ IsProper (by_position position ∷ steps) = IsProper steps
 abbrev pub StepBefore : Step → Step → Type 0
 StepBefore (by_name a) (by_name b) = slice_cmp nat_cmp a b ≡ Less
 StepBefore (by_position i) (by_position j) = i < j
-StepBefore (by_name a) (by_position j) = ⊥
-StepBefore (by_position i) (by_name b) = ⊥
+StepBefore _ _ = ⊥
 
 -- of two descents from one value, the first in document order: a prefix of the other comes first, else the first step
 -- that differs decides

@@ -9,8 +9,7 @@ use Rattle.serde_json_path_nodes.specs.Location.{Step, by_name, by_position}
 abbrev pub same_step : Step → Step → Bool
 same_step (by_name a) (by_name b) = pointwise nat_eq a b
 same_step (by_position i) (by_position j) = nat_eq i j
-same_step (by_name a) (by_position j) = false
-same_step (by_position i) (by_name b) = false
+same_step _ _ = false
 
 -- locations are the same step by step
 abbrev pub same_steps : List Step → List Step → Bool
@@ -23,15 +22,13 @@ same_step-refl (by_position i) = nat_eq_equiv.refl i
 same_step-symm : (s t : Step) → same_step s t ≡ same_step t s
 same_step-symm (by_name a) (by_name b) = nat_list_eq_equiv.symm a b
 same_step-symm (by_position i) (by_position j) = nat_eq_equiv.symm i j
-same_step-symm (by_name a) (by_position j) = refl
-same_step-symm (by_position i) (by_name b) = refl
+same_step-symm _ _ = refl
 
 -- the test is true only of one and the same step
 pub same_step-true : (s t : Step) → same_step s t ≡ true → s ≡ t
 same_step-true (by_name a) (by_name b) h = ap by_name ((bytes_decides a b).0 h)
 same_step-true (by_position i) (by_position j) h = ap by_position (eqb-true i j h)
-same_step-true (by_name a) (by_position j) h = cc
-same_step-true (by_position i) (by_name b) h = cc
+same_step-true _ _ h = cc
 
 same_step-congr : (s t u : Step) → same_step s t ≡ true → same_step s u ≡ same_step t u
 same_step-congr s t u h = ap (λ v. same_step v u) (same_step-true s t h)
