@@ -1,5 +1,5 @@
 -- In a list of numbered nodes, those that no node of a lower number shares its location with are `first_places`.
-use Rattle.serde_json_path_nodes.proofs.Words.{◌≡◌, ℕ, suc, ◌+◌, ◌<◌, ◌≤◌, Bool, false, not, cond, if◌then◌else◌, List, [], ◌∷◌, ◌++◌, length, get_or, map, refl, ap, sym, ◌∙◌, arith, append_assoc, All, AllByRecursion, filter, list_any, on, nat_tests, map_push, All-nil, All-push, All-weaker, recursion_from_All, Ordering, is_among, first_places, first_places_after, AreNumbered, location_cmp, located, location_of, LocatedNode}
+use Rattle.serde_json_path_nodes.proofs.Words.{◌≡◌, ℕ, suc, ◌+◌, ◌<◌, ◌≤◌, false, List, [], ◌∷◌, ◌++◌, length, get_or, map, refl, sym, ◌∙◌, arith, append_assoc, All, AllByRecursion, filter, list_any, on, nat_tests, map_push, All-nil, All-push, All-weaker, recursion_from_All, Ordering, is_among, first_places, first_places_after, AreNumbered, location_cmp, located, location_of, LocatedNode}
 use Rattle.std.proofs.lemmas.List.Folds.{list_any-append}
 use Rattle.serde_json_path_nodes.proofs.KeptBySorting.{is_first_among, repeats}
 use Rattle.serde_json_path_nodes.proofs.Orders.{location_cmp-ties}
@@ -36,11 +36,6 @@ among_earlier : (node : LocatedNode) (nodes : List LocatedNode) → AllByRecursi
 among_earlier node [] earlier = refl
 among_earlier node (before ∷ nodes) earlier = grind (arith, nat_tests, location_cmp-ties, among_earlier node nodes earlier.1)
 
--- one node first: it is kept unless its location is among the earlier ones
-one_more : (among : Bool) (node : LocatedNode) (nodes : List LocatedNode)
-    → map located (cond (not among) (node ∷ nodes) nodes) ≡ (if among then [] else located node ∷ []) ++ map located nodes
-one_more among node nodes = grind (arith, nat_tests)
-
 -- the nodes from `start` on, of which the ones before them are `before`
 first_places_from : (all before nodes : List LocatedNode) (start : ℕ) → all ≡ before ++ nodes
     → All (λ node. node.number < start) before → AreNumberedFrom start nodes
@@ -62,11 +57,8 @@ first_places_from all before (node ∷ nodes) start split earlier numbered =
     (All-push (λ other. other.number < start + 1) before node
     (All-weaker (λ other. other.number < start) (λ other. other.number < start + 1) (λ other below. omega (arith, below)) before earlier) (omega (arith, numbered.0))) numbered.1 in
     let push : map location_of (map located (before ++ node ∷ [])) ≡ seen ++ node.location ∷ [] =
-    ap (map location_of) (map_push located before node) ∙ map_push location_of (map located before) (located node) in
-    ap (λ b. map located (cond (not b) (node ∷ rest) rest)) among
-    ∙ one_more (is_among node.location seen) node rest
-    ∙ ap (λ l. (if is_among node.location seen then [] else located node ∷ []) ++ l)
-    (further ∙ ap (λ l. first_places_after l (map located nodes)) push)
+    simp (map_push located before node, map_push location_of (map located before) (located node)) in
+    grind (arith, nat_tests, among, further, push)
 
 pub first_places_are_first : (nodes : List LocatedNode) → AreNumbered nodes
     → map located (filter (is_first_among by_location number_of nodes) nodes) ≡ first_places (map located nodes)

@@ -1,27 +1,10 @@
 -- Numbered elements are sorted by an order and then by number, those that tie with their neighbour are removed, and the
 -- others are sorted back by number: what is left are the elements that no earlier one ties with, in their order.
-use Rattle.serde_json_path_nodes.proofs.Words.{◌≡◌, ℕ, ◌+◌, ◌<◌, ◌≤◌, Bool, true, false, cond, not, ◌&&◌, ◌||◌, ltb, nat_eq, List, [], ◌∷◌, length, get_or, refl, ap, sym, ◌∙◌, arith, IsTotalOrder, All, AllByRecursion, IsDistinct, dedup, dedup_from, filter, list_any, sum_by, IsNonDecreasingBy, IsPermutation, IsSortedBy, eq_by_cmp, is_eq, is_lt, nat_cmp, on, ordering_reverse, ordering_then, then_cmp, Ordering, Less, ne_eqb, nat_tests, nat_cmp_total, nat_eq_equiv, on_total, ranked, then_total, tied_back, get_or_default, All-filter, All-same, All-tail, filter_agree, All-permutation, IsNonDecreasingBy-drop, list_any-IsPermutation, sum_by-IsPermutation}
+use Rattle.serde_json_path_nodes.proofs.Words.{◌≡◌, ℕ, ◌+◌, ◌<◌, ◌≤◌, Bool, true, false, cond, not, ◌&&◌, ltb, nat_eq, List, [], ◌∷◌, length, get_or, refl, ap, sym, ◌∙◌, arith, IsTotalOrder, All, AllByRecursion, IsDistinct, dedup, dedup_from, filter, list_any, sum_by, IsNonDecreasingBy, IsPermutation, IsSortedBy, eq_by_cmp, is_eq, is_lt, nat_cmp, on, then_cmp, Ordering, Less, ne_eqb, nat_tests, nat_cmp_total, nat_eq_equiv, on_total, then_total, tied_back, get_or_default, All-filter, All-same, All-tail, filter_agree, All-permutation, IsNonDecreasingBy-drop, list_any-IsPermutation, sum_by-IsPermutation}
 use Rattle.std.specs.List.Sorted.{IsStrictlySortedBy}
 use Rattle.std.proofs.lemmas.List.Kept.{IsNonDecreasingBy-filter}
 use Rattle.std.proofs.lemmas.List.Sums.{sum_by-cons, sum_by-le}
 use Rattle.std.proofs.lemmas.Map.Keys.{sorted_from_all_adjacent, apart_from_distinct, IsDistinct-from_apart, IsDistinct-IsPermutation}
-
--- ---- orderings
-
-next_less : (first next : Ordering) → ordering_then first next ≡ Less → is_eq first ≡ true → next ≡ Less
-next_less first next less tie = grind (arith, nat_tests)
-
--- what is neither less nor a tie the other way round is less
-less_from : (forth back : Ordering) → forth ≡ ordering_reverse back → is_lt back ≡ false → is_eq back ≡ false → forth ≡ Less
-less_from forth back reversed not_less no_tie = grind (arith, nat_tests)
-
--- numbers that differ do not tie
-no_tie_by_next : (first : Ordering) (m n : ℕ) → nat_eq m n ≡ false → is_eq (ordering_then first (nat_cmp m n)) ≡ false
-no_tie_by_next first m n differ = grind (arith, nat_tests)
-
--- a test that implies another one adds nothing to it
-absorbed : (first next rest : Bool) → (next ≡ true → first ≡ true) → (first || (next || rest)) ≡ (first || rest)
-absorbed first next rest through = grind (arith, nat_tests)
 
 -- ---- filters and sums
 
@@ -85,15 +68,12 @@ module _ {X : Type 0} (order : X → X → Ordering) (number : X → ℕ) where
   order_then_number = then_cmp order (on number nat_cmp)
 
   later : (x y : X) → order_then_number x y ≡ Less → is_eq (order x y) ≡ true → number x < number y
-  later x y less tie = ranked (number x) (number y) Less (sym (next_less (order x y) (nat_cmp (number x) (number y)) less tie))
-
-  repeats_none : (x y : X) → order_then_number x y ≡ Less → repeats x y ≡ false
-  repeats_none x y less = grind (arith, nat_tests, later x y less)
+  later x y less tie = grind (arith, nat_tests)
 
   -- nothing repeats an element that comes later
   repeats_no_later : (x : X) (xs : List X) → AllByRecursion (λ y. order_then_number x y ≡ Less) xs → list_any (repeats x) xs ≡ false
   repeats_no_later x [] above = refl
-  repeats_no_later x (y ∷ ys) above = rw (repeats_none x y above.0) (repeats_no_later x ys above.1)
+  repeats_no_later x (y ∷ ys) above = grind (arith, nat_tests, later x y above.0, repeats_no_later x ys above.1)
 
   first_is_first : (x : X) (xs : List X) → AllByRecursion (λ y. order_then_number x y ≡ Less) xs → is_first_among (x ∷ xs) x ≡ true
   first_is_first x xs above = grind (arith, nat_tests, repeats_no_later x xs above)
@@ -113,30 +93,29 @@ module _ {X : Type 0} (order : X → X → Ordering) (number : X → ℕ) where
     repeats_none_before x y all [] less no_tie above = tt
     repeats_none_before x y all (z ∷ zs) less no_tie above = grind (arith, nat_tests, apart, repeats_none_before x y all zs less no_tie above.1)
 
+    -- the second of two elements is left out where it ties with the first, and else what comes after does not repeat the first
+    second_repeats : (x y : X) (ys : List X) → order_then_number x y ≡ Less → is_eq (order y x) ≡ true
+        → filter (is_first_among (x ∷ ys)) (x ∷ ys) ≡ filter (is_first_among (x ∷ y ∷ ys)) (x ∷ y ∷ ys)
+    second_repeats x y ys less tie =
+        let repeat : repeats y x ≡ true = grind (arith, nat_tests, later x y less, tied_back total y x) in
+        filter_agree (is_first_among (x ∷ ys)) (is_first_among (x ∷ y ∷ ys)) (λ z. grind (arith, nat_tests, repeats_through x y z less tie)) (x ∷ ys)
+        ∙ sym (filter-second (is_first_among (x ∷ y ∷ ys)) x y ys (grind (arith, nat_tests, repeat)))
+
+    second_is_apart : (x y : X) (ys : List X) → AllByRecursion (λ z. order_then_number x z ≡ Less) (y ∷ ys) → AllByRecursion (λ z. order_then_number y z ≡ Less) ys
+        → is_eq (order y x) ≡ false → x ∷ filter (is_first_among (y ∷ ys)) (y ∷ ys) ≡ filter (is_first_among (x ∷ y ∷ ys)) (x ∷ y ∷ ys)
+    second_is_apart x y ys above above_next no_tie =
+        let all = is_first_among (x ∷ y ∷ ys) in
+        let here : all y ≡ is_first_among (y ∷ ys) y = grind (arith, nat_tests, no_tie) in
+        let agree = filter_agree_all all (is_first_among (y ∷ ys)) (y ∷ ys) (here, repeats_none_before x y (y ∷ ys) ys above.0 no_tie above_next) in
+        grind (arith, nat_tests, agree, first_is_first x (y ∷ ys) above)
+
     -- in a list that rises strictly, those that differ from their neighbour are those that repeat nothing
     dedup_from_is : (x : X) (xs : List X) → IsStrictlySortedBy order_then_number (x ∷ xs)
         → dedup_from (eq_by_cmp order) x xs ≡ filter (is_first_among (x ∷ xs)) (x ∷ xs)
     unfolding IsStrictlySortedBy
-    dedup_from_is x [] rise = sym (ap (λ b. cond b (x ∷ []) []) (first_is_first x [] tt))
+    dedup_from_is x [] rise = grind (arith, nat_tests, first_is_first x [])
     dedup_from_is x (y ∷ ys) rise =
-        let all = x ∷ y ∷ ys in
-        let known : (b : Bool) → is_eq (order y x) ≡ b
-        → cond b (dedup_from (eq_by_cmp order) x ys) (x ∷ dedup_from (eq_by_cmp order) y ys) ≡ filter (is_first_among all) all =
-        λ b. elim b as (λ c. is_eq (order y x) ≡ c
-        → cond c (dedup_from (eq_by_cmp order) x ys) (x ∷ dedup_from (eq_by_cmp order) y ys) ≡ filter (is_first_among all) all) [
-          | true ↦ λ tie.
-              let repeat : repeats y x ≡ true = grind (arith, nat_tests, later x y rise.0.0, tied_back total y x) in
-              dedup_from_is x ys (rise.0.1, rise.1.1)
-              ∙ filter_agree (is_first_among (x ∷ ys)) (is_first_among all)
-              (λ z. grind (arith, nat_tests, repeats_through x y z rise.0.0 tie)) (x ∷ ys)
-              ∙ sym (filter-second (is_first_among all) x y ys (grind (arith, nat_tests, repeat)))
-          | false ↦ λ no_tie.
-              let agree : AllByRecursion (λ z. is_first_among all z ≡ is_first_among (y ∷ ys) z) (y ∷ ys) =
-              (ap (λ c. not ((c && ltb (number x) (number y)) || list_any (repeats y) (y ∷ ys))) no_tie, repeats_none_before x y (y ∷ ys) ys rise.0.0 no_tie rise.1.0) in
-              ap (λ (l : List X). x ∷ l) (dedup_from_is y ys rise.1 ∙ sym (filter_agree_all (is_first_among all) (is_first_among (y ∷ ys)) (y ∷ ys) agree))
-              ∙ sym (ap (λ c. cond c (x ∷ filter (is_first_among all) (y ∷ ys)) (filter (is_first_among all) (y ∷ ys))) (first_is_first x (y ∷ ys) rise.0))
-        ] in
-        known (is_eq (order y x)) refl
+        grind (arith, nat_tests, second_repeats x y ys rise.0.0, second_is_apart x y ys rise.0 rise.1.0, dedup_from_is x ys (rise.0.1, rise.1.1), dedup_from_is y ys rise.1)
 
     dedup-strict : (xs : List X) → IsStrictlySortedBy order_then_number xs → dedup (eq_by_cmp order) xs ≡ filter (is_first_among xs) xs
     dedup-strict [] rise = refl
@@ -153,9 +132,7 @@ module _ {X : Type 0} (order : X → X → Ordering) (number : X → ℕ) where
     strict_from_sorted (first ∷ others) up distinct = sorted_from_all_adjacent order_then_number-total (first ∷ others) first (λ k within.
         let x = get_or (first ∷ others) k first in
         let y = get_or (first ∷ others) (k + 1) first in
-        less_from (order_then_number x y) (order_then_number y x) (order_then_number-total.antisymm x y) (up k first (omega arith) within)
-        (no_tie_by_next (order y x) (number y) (number x) (nat_eq_equiv.symm (number y) (number x)
-        ∙ apart_from_distinct (on number nat_eq) (first ∷ others) k (k + 1) first distinct (omega arith) within)))
+        grind (arith, nat_tests, order_then_number-total.antisymm x y, up k first (omega arith) within, apart_from_distinct (on number nat_eq) (first ∷ others) k (k + 1) first distinct (omega arith) within))
 
     -- numbered elements are sorted, freed of repeats and sorted back
     module _ (numbered sorted back : List X) (numbers : (k : ℕ) (d : X) → k < length numbered → number (get_or numbered k d) ≡ k)
@@ -183,11 +160,8 @@ module _ {X : Type 0} (order : X → X → Ordering) (number : X → ℕ) where
 
       same_sums : (f : X → ℕ) → sum_by f back ≡ sum_by f (filter (is_first_among numbered) numbered)
       same_sums f =
-          sum_by-IsPermutation f (dedup (eq_by_cmp order) sorted) back moved_back
-          ∙ ap (sum_by f) kept_is
-          ∙ sum_by-filter f (is_first_among numbered) sorted
-          ∙ sum_by-IsPermutation (λ x. cond (is_first_among numbered x) (f x) 0) numbered sorted moved
-          ∙ sym (sum_by-filter f (is_first_among numbered) numbered)
+          let counted : X → ℕ = λ x. cond (is_first_among numbered x) (f x) 0 in
+          cc (sum_by-IsPermutation f (dedup (eq_by_cmp order) sorted) back moved_back, ap (sum_by f) kept_is, sum_by-filter f (is_first_among numbered) sorted, sum_by-IsPermutation counted numbered sorted moved, sum_by-filter f (is_first_among numbered) numbered)
 
       pub kept_by_sorting : back ≡ filter (is_first_among numbered) numbered
       kept_by_sorting =

@@ -1,5 +1,5 @@
 -- The order of steps is total, and so is that of locations, which goes step by step.
-use Rattle.serde_json_path_nodes.proofs.Words.{◌≡◌, ◌⊎◌, ℕ, suc, List, [], ◌∷◌, length, map, refl, sym, arith, nat_tests, nat_cmp_total, nat_list_cmp_total, lists_total, IsTotalOrder, unsigned_ties, slice_cmp, lists_ties, eq_by_cmp, ordering_reverse, ordering_then, nat_cmp, Ordering, Less, Equal, Step, by_name, by_position, same_step, same_steps, step_cmp, location_cmp}
+use Rattle.serde_json_path_nodes.proofs.Words.{◌≡◌, ◌⊎◌, List, [], ◌∷◌, length, map, refl, arith, nat_tests, nat_cmp_total, nat_list_cmp_total, lists_total, IsTotalOrder, unsigned_ties, slice_cmp, lists_ties, eq_by_cmp, ordering_reverse, nat_cmp, Ordering, Less, Equal, Step, by_name, by_position, same_step, same_steps, step_cmp, location_cmp}
 
 step_cmp-antisymm : (s t : Step) → step_cmp s t ≡ ordering_reverse (step_cmp t s)
 step_cmp-antisymm (by_name a) (by_name b) = nat_list_cmp_total.antisymm a b
@@ -32,13 +32,6 @@ location_cmp-ties = lists_ties step_cmp step_cmp-ties
 
 -- ---- lists, compared element by element
 
-nat_cmp-suc : (m n : ℕ) → nat_cmp m n ≡ nat_cmp (suc m) (suc n)
-nat_cmp-suc m n = grind (arith, nat_tests)
-
--- an order that is no tie decides
-then_decided : (first second : Ordering) → (first ≡ Equal → ⊥) → ordering_then first second ≡ first
-then_decided first second differ = grind (arith, nat_tests)
-
 -- of two lists with their first elements, seen by `f`
 module _ {A B : Type 0} (R : A → A → Ordering) (f : B → A) {a b : B} {xs ys rest_x rest_y : List B}
     (first_x : xs ≡ a ∷ rest_x) (first_y : ys ≡ b ∷ rest_y) where
@@ -48,11 +41,11 @@ module _ {A B : Type 0} (R : A → A → Ordering) (f : B → A) {a b : B} {xs y
 
   -- and so do the lengths
   pub lengths-tie : nat_cmp (length rest_x) (length rest_y) ≡ nat_cmp (length xs) (length ys)
-  lengths-tie = rw (first_x, first_y) (nat_cmp-suc (length rest_x) (length rest_y))
+  lengths-tie = rw (first_x, first_y) (grind (arith, nat_tests))
 
   -- elements that differ decide
   pub slice_cmp-decided : (R (f a) (f b) ≡ Equal → ⊥) → R (f a) (f b) ≡ slice_cmp R (map f xs) (map f ys)
-  slice_cmp-decided differ = rw (first_x, first_y) (sym (then_decided (R (f a) (f b)) (slice_cmp R (map f rest_x) (map f rest_y)) differ))
+  slice_cmp-decided differ = rw (first_x, first_y) (grind (arith, nat_tests))
 
 -- where one list has ended, the lengths decide
 pub slice_cmp-ended : {A B : Type 0} (R : A → A → Ordering) (f : B → A) (xs ys : List B) → (length xs ≡ 0) ⊎ (length ys ≡ 0)

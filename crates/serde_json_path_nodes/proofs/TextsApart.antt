@@ -1,5 +1,5 @@
 -- Locations are read back from their normalised paths, since decimals and escapes are.
-use Rattle.serde_json_path_nodes.proofs.Words.{common_steps, decimal, escape_of, in_quotes, normal_step, normal, nat_tests, encode_same, char_from_byte, encodes-chars, append_cancel_left, flat_map, chars, encode_utf8_all, Step, by_name, by_position, IsProper, ◌≡◌, ℕ, zero, suc, ◌+◌, ◌-◌, ◌^◌, ◌<◌, List, [], ◌∷◌, map, refl, ap, sym, ◌∙◌, arith, ◌*◌, ◌==◌, nat_lt, Bool, true, false, if◌then◌else◌, ◌++◌, get_or, drop, is_some, encode_utf8, true≢false, ◌≢◌, codes, append_assoc, in_decimal}
+use Rattle.serde_json_path_nodes.proofs.Words.{common_steps, decimal, escape_of, in_quotes, normal_step, normal, nat_tests, encode_same, char_from_byte, encodes-chars, append_cancel_left, flat_map, chars, Step, by_name, by_position, IsProper, ◌≡◌, ℕ, zero, suc, ◌+◌, ◌-◌, ◌^◌, ◌<◌, List, [], ◌∷◌, map, refl, ap, sym, ◌∙◌, arith, ◌*◌, ◌==◌, nat_lt, Bool, true, false, if◌then◌else◌, ◌++◌, get_or, drop, is_some, encode_utf8, true≢false, ◌≢◌, codes, append_assoc, in_decimal}
 use Rattle.std.specs.Int.Digits.{digits_of, number_from_digits, AllBelowBase}
 use Rattle.std.proofs.lemmas.Fmt.{decimal_digit, decimal-digits_of}
 use Rattle.std.proofs.lemmas.Int.Digits.{number_digits_of, all_below_base_digits_of, first_digits_of}
@@ -146,15 +146,9 @@ name_position_apart name r t i same = grind (arith, nat_tests, in_decimal-quote,
 -- two texts that begin with steps
 steps_apart : (a b : Step) (r t : List ℕ) → IsProper (a ∷ []) → IsProper (b ∷ [])
     → normal_step a ++ r ≡ normal_step b ++ t → (a ≡ b) × (r ≡ t)
-steps_apart (by_name n) (by_name m) r t proper_a proper_b same =
-    let inside = quotes_apart (chars n) (chars m) (93 ∷ r) (93 ∷ t) (ap (drop 2) (sym (name_text n r) ∙ same ∙ name_text m t)) in (
-      ap by_name (sym (encodes-chars n proper_a.0) ∙ ap encode_utf8_all inside.0 ∙ encodes-chars m proper_b.0),
-      ap (drop 1) inside.1,
-    )
+steps_apart (by_name n) (by_name m) r t proper_a proper_b same = grind (arith, nat_tests, name_text, quotes_apart (chars n) (chars m) (93 ∷ r) (93 ∷ t), encodes-chars n, encodes-chars m)
 steps_apart (by_position i) (by_position j) r t proper_a proper_b same =
-    let inside = brackets_apart (in_decimal i) (in_decimal j) r t (IsInside-in_decimal i) (IsInside-in_decimal j)
-    (ap (drop 1) (sym (position_text i r) ∙ same ∙ position_text j t)) in
-    (ap by_position (in_decimal_injective i j inside.0), inside.1)
+    grind (arith, nat_tests, position_text, brackets_apart (in_decimal i) (in_decimal j) r t (IsInside-in_decimal i) (IsInside-in_decimal j), in_decimal_injective)
 steps_apart (by_name n) (by_position j) r t proper_a proper_b same = absurd (name_position_apart n r t j same)
 steps_apart (by_position i) (by_name m) r t proper_a proper_b same = absurd (name_position_apart m t r i (sym same))
 

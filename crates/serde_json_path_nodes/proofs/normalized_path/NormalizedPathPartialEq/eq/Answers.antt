@@ -8,9 +8,7 @@ returns-then-eq-clause-computes c =
     rw (← c.self.view_is, ← c.other.view_is) (c.eq-then-eq.ensures ∙ elements-same_steps c.self.inside.steps.items c.other.inside.steps.items)
 
 pub returns-then-eq-clause-same : goal.returns-then-eq-clause-same
-returns-then-eq-clause-same c =
-    let decides = same_steps_decides c.args.self.now c.args.other.now in
-    (λ holds. decides.0 (sym (returns-then-eq-clause-computes c) ∙ holds), λ same. returns-then-eq-clause-computes c ∙ decides.1 same)
+returns-then-eq-clause-same c = rw (returns-then-eq-clause-computes c) (same_steps_decides c.args.self.now c.args.other.now)
 
 pub returns-else-eq-clause-computes : goal.returns-else-eq-clause-computes
 returns-else-eq-clause-computes c = rw (← c.self.view_is, ← c.other.view_is) (c.if-eq.false ∙ elim c.if-len.branch [
@@ -21,6 +19,4 @@ returns-else-eq-clause-computes c = rw (← c.self.view_is, ← c.other.view_is)
 ])
 
 pub returns-else-eq-clause-same : goal.returns-else-eq-clause-same
-returns-else-eq-clause-same c =
-    let decides = same_steps_decides c.args.self.now c.args.other.now in
-    (λ holds. decides.0 (sym (returns-else-eq-clause-computes c) ∙ holds), λ same. returns-else-eq-clause-computes c ∙ decides.1 same)
+returns-else-eq-clause-same c = rw (returns-else-eq-clause-computes c) (same_steps_decides c.args.self.now c.args.other.now)
