@@ -16,11 +16,8 @@ number x h = grind (arith, nat_tests)
 pub level : (x y : Float) → NotNan x → NotNan y → lt x y ≡ false → lt y x ≡ false → eq x y ≡ true
 level x y p q h k = grind (arith, nat_tests, lt-or-eq, le_of_not-lt, sure)
 
-pub same : (a b : Bool) → (T a → T b) → (T b → T a) → a ≡ b
-same a b f g = grind (arith, nat_tests)
-
 pub equal_swapped : (x y : Float) → eq x y ≡ eq y x
-equal_swapped x y = same (eq x y) (eq y x) (eq_flip x y) (eq_flip y x)
+equal_swapped x y = grind (arith, nat_tests, sure, eq_flip x y, eq_flip y x, T_from_true)
 
 -- what is less is not greater
 not_greater : (x y : Float) → lt x y ≡ true → lt y x ≡ false
