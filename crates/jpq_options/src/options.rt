@@ -104,123 +104,35 @@ struct OptionRow {
     help: &'static str,
 }
 
+/// The rows of the table of options: a name, its letter, what the word after it is, and the help.
+macro_rules! options {
+    ($($name:literal, $short:expr, $takes:ident => $help:literal;)*) => {
+        [$(OptionRow { name: $name, short: $short, takes: Takes::$takes, help: $help }),*]
+    };
+}
+
 /// The options, in the order of the help.
-static OPTIONS: [OptionRow; 19] = [
-    OptionRow {
-        name: "values",
-        short: Some('v'),
-        takes: Takes::Nothing,
-        help: "Print values alone",
-    },
-    OptionRow {
-        name: "raw",
-        short: Some('r'),
-        takes: Takes::Nothing,
-        help: "Print values alone, and strings without quotes",
-    },
-    OptionRow {
-        name: "locations",
-        short: Some('l'),
-        takes: Takes::Nothing,
-        help: "Print normalised paths alone",
-    },
-    OptionRow {
-        name: "pointers",
-        short: Some('p'),
-        takes: Takes::Nothing,
-        help: "Print JSON pointers (RFC 6901) alone",
-    },
-    OptionRow {
-        name: "json",
-        short: Some('j'),
-        takes: Takes::Nothing,
-        help: "Print one JSON array of objects with a path and a value",
-    },
-    OptionRow {
-        name: "count",
-        short: Some('c'),
-        takes: Takes::Nothing,
-        help: "Print how many nodes are selected",
-    },
-    OptionRow {
-        name: "quiet",
-        short: Some('q'),
-        takes: Takes::Nothing,
-        help: "Print nothing",
-    },
-    OptionRow {
-        name: "pretty",
-        short: None,
-        takes: Takes::Nothing,
-        help: "Indent values",
-    },
-    OptionRow {
-        name: "null",
-        short: Some('0'),
-        takes: Takes::Nothing,
-        help: "End lines by a NUL in place of a line feed",
-    },
-    OptionRow {
-        name: "max",
-        short: Some('n'),
-        takes: Takes::Number,
-        help: "Print at most N nodes of a document for each path",
-    },
-    OptionRow {
-        name: "unique",
-        short: Some('u'),
-        takes: Takes::Nothing,
-        help: "Print each location once",
-    },
-    OptionRow {
-        name: "lines",
-        short: Some('L'),
-        takes: Takes::Nothing,
-        help: "Read each line as a document (NDJSON)",
-    },
-    OptionRow {
-        name: "strict",
-        short: None,
-        takes: Takes::Nothing,
-        help: "With --lines, stop at a line that is not JSON",
-    },
-    OptionRow {
-        name: "check",
-        short: None,
-        takes: Takes::Nothing,
-        help: "Read no document, and print each path in its canonical form",
-    },
-    OptionRow {
-        name: "whole-numbers",
-        short: None,
-        takes: Takes::Nothing,
-        help: "Let a number that is not held as an integer equal nothing",
-    },
-    OptionRow {
-        name: "silent",
-        short: Some('s'),
-        takes: Takes::Nothing,
-        help: "Give no hints",
-    },
-    OptionRow {
-        name: "color",
-        short: None,
-        takes: Takes::When,
-        help: "When to use colours",
-    },
-    OptionRow {
-        name: "expression",
-        short: Some('e'),
-        takes: Takes::Path,
-        help: "Select by this path; may be used several times",
-    },
-    OptionRow {
-        name: "from-file",
-        short: Some('f'),
-        takes: Takes::File,
-        help: "Select by the paths of a file, one on each line; '#' begins a comment",
-    },
-];
+static OPTIONS: [OptionRow; 19] = options! {
+    "values", Some('v'), Nothing => "Print values alone";
+    "raw", Some('r'), Nothing => "Print values alone, and strings without quotes";
+    "locations", Some('l'), Nothing => "Print normalised paths alone";
+    "pointers", Some('p'), Nothing => "Print JSON pointers (RFC 6901) alone";
+    "json", Some('j'), Nothing => "Print one JSON array of objects with a path and a value";
+    "count", Some('c'), Nothing => "Print how many nodes are selected";
+    "quiet", Some('q'), Nothing => "Print nothing";
+    "pretty", None, Nothing => "Indent values";
+    "null", Some('0'), Nothing => "End lines by a NUL in place of a line feed";
+    "max", Some('n'), Number => "Print at most N nodes of a document for each path";
+    "unique", Some('u'), Nothing => "Print each location once";
+    "lines", Some('L'), Nothing => "Read each line as a document (NDJSON)";
+    "strict", None, Nothing => "With --lines, stop at a line that is not JSON";
+    "check", None, Nothing => "Read no document, and print each path in its canonical form";
+    "whole-numbers", None, Nothing => "Let a number that is not held as an integer equal nothing";
+    "silent", Some('s'), Nothing => "Give no hints";
+    "color", None, When => "When to use colours";
+    "expression", Some('e'), Path => "Select by this path; may be used several times";
+    "from-file", Some('f'), File => "Select by the paths of a file, one on each line; '#' begins a comment";
+};
 
 /// The options of which one may be used, and the form that each asks for.
 static FORMS: [(&'static str, Form); 7] = [

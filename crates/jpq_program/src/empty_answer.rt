@@ -3,7 +3,7 @@
 ghost use Rattle.std.specs.Prelude.{ℕ, ◌≤◌, length};
 ghost use Rattle.serde_json_path_syntax.specs.Words.{NamesBelow, nodes_in, parts_bound};
 
-use serde_json_path_syntax::{Argument, Basic, Checked, Comparable, Node, Part, Segment, Selector};
+use serde_json_path_syntax::{Basic, Checked, Node, Operand, Part, Segment, Selector};
 use std::slice;
 
 /// A segment that is often meant otherwise.
@@ -88,15 +88,9 @@ fn parts_below(node: &Node) -> (&[Part], &[Part])
             (slice::from_ref(left), slice::from_ref(right))
         }
         Node::Selector(Selector::Filter(part))
-        | Node::Basic(Basic::Paren(part) | Basic::NotParen(part))
-        | Node::Basic(Basic::Exist(part) | Basic::NotExist(part))
-        | Node::Basic(Basic::Test(part) | Basic::NotTest(part))
-        | Node::Comparable(Comparable::Singular(part) | Comparable::Called(part))
-        | Node::Argument(Argument::Query(part) | Argument::Call(part) | Argument::Logical(part)) =>
-            { (slice::from_ref(part), &[]) }
-        Node::Segment { .. } | Node::Selector(_) | Node::Comparable(_) | Node::Argument(_) => {
-            (&[], &[])
-        }
+        | Node::Basic(Basic::Paren { inner: part, .. } | Basic::Test { operand: part, .. })
+        | Node::Operand(Operand::Query(part) | Operand::Call(part)) => (slice::from_ref(part), &[]),
+        Node::Segment { .. } | Node::Selector(_) | Node::Operand(_) => (&[], &[]),
     }
 }
 

@@ -10,7 +10,6 @@ pub use Rattle.jsonpath_lines.proofs.Pieces.{lines_pushed}
 pub use Rattle.jsonpath_lines.specs.Distinct.{AreEnough}
 pub use Rattle.jsonpath_program.specs.declared.report.DocumentError.TheVariants.{NotJson}
 pub use Rattle.jsonpath_program.specs.declared.report.ReportError.TheVariants.{Document, Path, Query}
-pub use Rattle.serde_json_path_functions.proofs.Sets.{before_itself}
 pub use Rattle.serde_json_path_functions.specs.declared.error.QueryError.{QueryError}
 pub use Rattle.serde_json_path_functions.specs.declared.error.QueryError.TheVariants.{Pattern}
 pub use Rattle.std.proofs.lemmas.List.{drop_more, length_push, map-append, map_push, take-append-drop}

@@ -6,7 +6,7 @@ use crate::output::put;
 use crate::refusal::{Refusal, put_refusal};
 use crate::status::{DOCUMENT_REFUSED, NO_MEMORY, NOT_UTF8, QUERY_REFUSED};
 use jsonpath_lines::Form;
-use jsonpath_program::report::{DocumentError, ReportError, report_in};
+use jsonpath_program::report::{DocumentError, ReportError, report_under};
 use serde_json_path::QueryError;
 use serde_json_path::functions::{CachedPatterns, PatternStore};
 use std::alloc::Global;
@@ -29,7 +29,7 @@ fn lines(
     };
     let store = PatternStore::new();
     let functions = CachedPatterns::new(alloc, &store);
-    match report_in(alloc, form, path, document, &functions) {
+    match report_under(alloc, form, path, document, functions) {
         Ok(text) => put(text.as_str(), out, size),
         Err(ReportError::Path(e)) => put_refusal(&e, refusal),
         Err(ReportError::Document(DocumentError::NotJson)) => DOCUMENT_REFUSED,

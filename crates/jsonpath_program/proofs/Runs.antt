@@ -2,7 +2,7 @@
 use Rattle.std.proofs.Common.{◌≡◌, ℕ, ◌<◌, ◌≤◌, false, List, [], ◌∷◌, ◌++◌, length, get_or, codes, Option, Some, None, Result, Ok, Err, String, string_bytes, Global, refl, sym, ap, subst, ◌∙◌, arith}
 use Rattle.std.specs.Prelude.{IfSome, OnOk, MatchResult, IsErrAnd, is_err}
 use Rattle.std.specs.Fmt.{decimal, digits}
-use Rattle.serde_json_path_functions.specs.Patterns.{before_builtin, builtin_functions}
+use Rattle.serde_json_path_functions.specs.Patterns.{builtin_functions}
 use Rattle.serde_json_path_functions.specs.declared.error.QueryError.{QueryError}
 use Rattle.serde_json_path_functions.specs.declared.error.QueryError.TheVariants.{Pattern}
 use Rattle.serde_json_path_parser.specs.Errors.{kind_of, position_of, message}
@@ -13,7 +13,6 @@ use Rattle.jsonpath_program.specs.declared.report.ReportError.{ReportError}
 use Rattle.jsonpath_program.specs.declared.report.ReportError.TheVariants.{Path, Document, Query}
 use Rattle.jsonpath_program.specs.Report.{IsReportOf}
 use Rattle.jsonpath_program.specs.Run.{status_of, line_of, IsOneWord, IsReportOfRun}
-use Rattle.serde_json_path_functions.proofs.Sets.{before_itself}
 
 pub one_word : (words : List (String Global)) (word : String Global) (text : List ℕ) → 1 ≤ length words → length words < 2 → word ≡ get_or words 0 word → text ≡ string_bytes word → IsOneWord words text
 one_word [] word text low high is e = absurd (omega arith)
@@ -50,9 +49,9 @@ of_known Fact (Some bytes) document is fact = subst Fact is fact
 
 -- the report that was made is the one that the run asks for
 pub report_of_run : (words : List (String Global)) (input : Option (List ℕ)) (document path text written : List ℕ) → IsOneWord words path → IfSome input (λ bytes. document ≡ bytes)
-    → IsReportOf (before_builtin builtin_functions) path document text → written ≡ text → IsReportOfRun words input written
+    → IsReportOf builtin_functions path document text → written ≡ text → IsReportOfRun words input written
 report_of_run words input document path text written one known report same =
-    (document, path, one, known, rw (before_itself, ← same) at report)
+    (document, path, one, known, rw (← same) at report)
 
 -- a refusal is of what its status says
 pub path_of : (e : ReportError) → status_of e ≡ 1 → (p : ParseError) × (e ≡ Path p)

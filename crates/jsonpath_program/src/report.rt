@@ -7,19 +7,23 @@ ghost use Rattle.serde_json_path_nodes.specs.Location.{Located};
 ghost use Rattle.serde_json_path_functions.specs.Functions.{Fits};
 ghost use Rattle.serde_json_path_functions.specs.Patterns.{before_builtin};
 ghost use Rattle.serde_json_path_core.specs.Selects.{OnlyMemoryOrPattern, Selects};
-ghost use Rattle.serde_json_path.specs.Paths.{path_signatures, path_tree, path_view};
+ghost use Rattle.serde_json_path.specs.Paths.{path_view};
+ghost use Rattle.serde_json_path_syntax.specs.Parts.{signatures_of, tree_of};
 ghost use Rattle.serde_json_path_parser.specs.Parse.{IsParseOf};
 ghost use Rattle.serde_json_path_parser.specs.Reported.{ReportsFirst};
 ghost use Rattle.serde_json_path_parser.specs.declared.error.ParseError as path_error;
 ghost use Rattle.jsonpath_document.specs.Document.{ReadsAs};
 ghost use Rattle.jsonpath_lines.specs.Output.{AreLines, compact_lines};
-ghost use Rattle.jsonpath_program.specs.Report.{IsNoPath, CallsByPatternOn, IsReportIn, IsReportOf};
+ghost use Rattle.jsonpath_program.specs.Report.{IsNoPath, CallsByPatternOn, IsReport, IsReportIn};
 
 use jsonpath_document::{DocumentError as ReadError, DocumentFault, read_document};
 use jsonpath_lines::{Form, Output, write_nodes};
 use serde_json::Value;
 use serde_json_path::functions::{Both, CachedPatterns, Functions, PatternStore};
-use serde_json_path::{JsonPath, ParseError, QueryError};
+use serde_json_path::{ParseError, QueryError};
+use serde_json_path_core::walk;
+use serde_json_path_parser::{TextSource, parse};
+use serde_json_path_syntax::Checked;
 use std::alloc::Global;
 use thiserror::Error;
 
@@ -87,25 +91,23 @@ fn room(alloc: Global) -> String
 }
 
 /// The text, in a form, of the nodes that a path selects, in order, in a text that is empty before.
-fn selected<F: Functions>(
+fn selected<F: Functions + Drop>(
     alloc: Global,
     form: Form,
     text: String,
-    path: &JsonPath,
+    path: &Checked,
     document: &Value,
-    functions: &F,
+    functions: F,
 ) -> Result<String, QueryError>
     requires empty { string_bytes text ≡ [] }
-    requires fits { Fits (before_builtin (F.set functions.now)) (path_signatures path.now) }
+    requires fits { Fits (F.set functions) (signatures_of path.now) }
     ensures lines { IfOk result (λ text. (nodes : List Located)
         × AreLines (compact_lines form) [] nodes (string_bytes text)
-        × Selects (before_builtin (F.set functions.now)) (path_tree path.now) (view document.now) nodes) }
-    ensures refused { OnlyMemoryOrPattern (before_builtin (F.set functions.now))
-        (path_tree path.now) (view document.now) result }
+        × Selects (F.set functions) (tree_of path.now) (view document.now) nodes) }
+    ensures refused { OnlyMemoryOrPattern (F.set functions) (tree_of path.now)
+        (view document.now) result }
 {
-    let store = PatternStore::new();
-    let functions = Both(functions, CachedPatterns::new(alloc, &store));
-    let walk = path.walk_under(alloc, document, functions)?;
+    let walk = walk(alloc, path, document, functions)?;
     Ok(write_nodes::<_, false>(alloc, &Output::compact_lines(form), "", text, walk)?.text)
 }
 
@@ -125,25 +127,8 @@ pub fn report<F: Functions>(
     document: &[u8],
     functions: &F,
 ) -> Result<String, ReportError>
-    ensures lines { IfOk result (λ text.
-        IsReportOf (before_builtin (F.set functions.now)) path.now document.now (string_bytes text)) }
-
-    // A path is refused as the parse refuses it, and before the document is looked at.
-    ensures path_refused { (e : path_error.ParseError) → result ≡ Err (ReportError.Path e)
-        → IsParseOf path_view (before_builtin (F.set functions.now)).signature path.now (Err e) }
-    ensures path_reported { (e : path_error.ParseError) → result ≡ Err (ReportError.Path e)
-        → ReportsFirst path_view (before_builtin (F.set functions.now)).signature path.now (Err e) }
-    ensures path_first { IsNoPath (before_builtin (F.set functions.now)) path.now
-        → (e : path_error.ParseError) × (result ≡ Err (ReportError.Path e)) }
-
-    ensures not_json { result ≡ Err (ReportError.Document DocumentError.NotJson) → (d : Data)
-        → ReadsAs document.now d → ⊥ }
-    ensures pattern_refused { result ≡ Err (ReportError.Query QueryError.Pattern)
-        → CallsByPatternOn (before_builtin (F.set functions.now)) path.now document.now }
-
-    // A query is refused only where the document is read.
-    ensures query_last { (e : QueryError) → result ≡ Err (ReportError.Query e)
-        → (d : Data) × ReadsAs document.now d }
+    ensures { IsReport Form.LocationAndValue (before_builtin (F.set functions.now)) path.now
+        document.now result }
 {
     report_in(alloc, Form::LocationAndValue, path, document, functions)
 }
@@ -161,27 +146,49 @@ pub fn report_in<F: Functions>(
     document: &[u8],
     functions: &F,
 ) -> Result<String, ReportError>
+    ensures { IsReport form (before_builtin (F.set functions.now)) path.now document.now result }
+{
+    let store = PatternStore::new();
+    let functions = Both(functions, CachedPatterns::new(alloc, &store));
+    report_under(alloc, form, path, document, functions)
+}
+
+/// The same under a function set alone: the built-in functions are there only if the set has them. So a set that keeps patterns
+/// can stand in the place of the built-in functions.
+///
+/// ```text
+/// let store = PatternStore::new();
+/// report_under(alloc, Form::Value, path, document, CachedPatterns::new(alloc, &store))
+/// ```
+pub fn report_under<F: Functions + Drop>(
+    alloc: Global,
+    form: Form,
+    path: &str,
+    document: &[u8],
+    functions: F,
+) -> Result<String, ReportError>
     ensures lines { IfOk result (λ text.
-        IsReportIn form (before_builtin (F.set functions.now)) path.now document.now (string_bytes text)) }
+        IsReportIn form (F.set functions) path.now document.now (string_bytes text)) }
 
     // A path is refused as the parse refuses it, and before the document is looked at.
     ensures path_refused { (e : path_error.ParseError) → result ≡ Err (ReportError.Path e)
-        → IsParseOf path_view (before_builtin (F.set functions.now)).signature path.now (Err e) }
+        → IsParseOf path_view (F.set functions).signature path.now (Err e) }
     ensures path_reported { (e : path_error.ParseError) → result ≡ Err (ReportError.Path e)
-        → ReportsFirst path_view (before_builtin (F.set functions.now)).signature path.now (Err e) }
-    ensures path_first { IsNoPath (before_builtin (F.set functions.now)) path.now
+        → ReportsFirst path_view (F.set functions).signature path.now (Err e) }
+    ensures path_first { IsNoPath (F.set functions) path.now
         → (e : path_error.ParseError) × (result ≡ Err (ReportError.Path e)) }
 
     ensures not_json { result ≡ Err (ReportError.Document DocumentError.NotJson) → (d : Data)
         → ReadsAs document.now d → ⊥ }
     ensures pattern_refused { result ≡ Err (ReportError.Query QueryError.Pattern)
-        → CallsByPatternOn (before_builtin (F.set functions.now)) path.now document.now }
+        → CallsByPatternOn (F.set functions) path.now document.now }
 
     // A query is refused only where the document is read.
     ensures query_last { (e : QueryError) → result ≡ Err (ReportError.Query e)
         → (d : Data) × ReadsAs document.now d }
 {
-    let path = JsonPath::parse_with(alloc, path, functions).map_err(ReportError::Path)?;
+    let mut source = TextSource::new(path);
+    let path = parse(alloc, &mut source, &functions).map_err(ReportError::Path)?;
     let text = room(alloc);
     let value = self::document(alloc, document).map_err(ReportError::Document)?;
     let text = selected(alloc, form, text, &path, &value, functions).map_err(ReportError::Query)?;

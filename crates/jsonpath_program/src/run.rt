@@ -11,7 +11,8 @@ ghost use Rattle.serde_json_path_parser.specs.declared.error.ParseError as path_
 ghost use Rattle.jsonpath_program.specs.Report.{IsNoPath};
 ghost use Rattle.jsonpath_program.specs.Run.{status_of, line_of, IsStatus, IsDocumentLine, IsQueryLine, IsOneWord, IsReportOfRun, MayBeDocument, AppendsBeginning};
 
-use crate::report::{DocumentError, ReportError, report};
+use crate::report::{DocumentError, ReportError, report_under};
+use jsonpath_lines::Form;
 use serde_json_path::functions::{CachedPatterns, PatternStore};
 use serde_json_path::{ParseError, ParseErrorKind, QueryError};
 use std::alloc::Global;
@@ -212,7 +213,8 @@ pub fn run<R: Read, W: Write, E: Write>(
     }
     let store = PatternStore::new();
     let functions = CachedPatterns::new(alloc, &store);
-    match report(alloc, path.as_str(), document.as_slice(), &functions) {
+    let (form, document) = (Form::LocationAndValue, document.as_slice());
+    match report_under(alloc, form, path.as_str(), document, functions) {
         Ok(lines) => print(lines.as_str(), out, err),
         Err(e) => refuse(alloc, &e, err),
     }

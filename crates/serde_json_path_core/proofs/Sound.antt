@@ -1,5 +1,5 @@
 -- The parts of a sound query are sound.
-use Rattle.serde_json_path_core.proofs.Words.{◌≡◌, ℕ, zero, suc, ◌<◌, ◌≤◌, ◌&&◌, List, [], ◌∷◌, ◌++◌, Bool, true, length, get_or, slice_get, Option, Some, refl, sym, subst, arith, ap, ◌∙◌, none-some, same_Some, Query, query, Segments, segments_of, Segment, dot_name, dot_wildcard, long_hand, Selectors, no_selectors, selector, Selector, name, wildcard, Operator, LogicalOr, no_or, or, no_and, and, Basic, relation, Comparable, Call, call, FunctionSet, Signature, Kind, Fits, IsTyped, AreTypedSegments, IsTypedSegment, AreTypedSelectors, IsTypedSelector, IsTypedOr, IsTypedAnd, IsTypedBasic, IsTypedComparable, IsTypedCall, AreTypedArguments, arguments_of, calls_of, calls_in_segments, calls_in_segment, calls_in_selectors, calls_in_selector, calls_in_or, calls_in_and, calls_in_basic, calls_in_comparable, calls_from, calls_in_arguments, calls_in_argument, name_of, IsIn, parts_bound, EndsIn, Branch, argument_in, arguments_in, branch_in, branches_named, segment_in, segments_in, and_in, ors_in, basic_in, ands_in, selectors_list, selectors_of, params_of, each_is, is_segment, is_and, is_basic, is_argument, one_of, and_parts, ∥∥₁_elim, AreCallsOf, IsSound, Part, ∥∥₁_map₂}
+use Rattle.serde_json_path_core.proofs.Words.{◌≡◌, ℕ, zero, suc, ◌<◌, ◌≤◌, ◌&&◌, List, [], ◌∷◌, ◌++◌, Bool, true, length, get_or, slice_get, Option, Some, refl, sym, subst, arith, ap, ◌∙◌, none-some, same_Some, Query, query, Segments, segments_of, Segment, dot_name, dot_wildcard, long_hand, Selectors, no_selectors, selector, Selector, name, wildcard, Operator, LogicalOr, no_or, or, no_and, and, Basic, relation, Operand, Call, call, FunctionSet, Signature, Kind, Fits, IsTyped, AreTypedSegments, IsTypedSegment, AreTypedSelectors, IsTypedSelector, IsTypedOr, IsTypedAnd, IsTypedBasic, IsTypedComparable, IsTypedCall, AreTypedArguments, arguments_of, calls_of, calls_in_segments, calls_in_segment, calls_in_selectors, calls_in_selector, calls_in_or, calls_in_and, calls_in_basic, calls_in_operand, calls_from, calls_in_arguments, calls_in_argument, name_of, IsIn, parts_bound, EndsIn, Branch, argument_in, arguments_in, branch_in, branches_named, segment_in, segments_in, and_in, ors_in, basic_in, ands_in, selectors_list, selectors_of, params_of, each_is, is_segment, is_and, is_basic, is_argument, one_of, and_parts, ∥∥₁_elim, AreCallsOf, IsSound, Part, ∥∥₁_map₂}
 use Rattle.serde_json_path_syntax.proofs.Names.Once.{fits_each, found_in, in_from, of_both}
 use mathlib.Core.List.{is_set}
 use mathlib.Core.Sum.{⊎_set}
@@ -97,16 +97,16 @@ module _ (F : FunctionSet) (q : Query) where
   sound-basic = one_of (Is (each_is is_basic) ands_in IsTypedAnd calls_in_and) (Is is_basic basic_in IsTypedBasic calls_in_basic) (λ p more s. first_of is_basic p more _ _ s)
 
   -- both sides of a comparison
-  pub sound-relation : (x : Comparable) (op : Operator) (y : Comparable) (b : Basic) → b ≡ relation x op y
-      → IsSound F q IsTypedBasic calls_in_basic b → IsSound F q IsTypedComparable calls_in_comparable x × IsSound F q IsTypedComparable calls_in_comparable y
+  pub sound-relation : (x : Operand) (op : Operator) (y : Operand) (b : Basic) → b ≡ relation x op y
+      → IsSound F q IsTypedBasic calls_in_basic b → IsSound F q IsTypedComparable calls_in_operand x × IsSound F q IsTypedComparable calls_in_operand y
   sound-relation x op y b is sound =
       let s = subst (IsSound F q IsTypedBasic calls_in_basic) is sound in
-      let sides = both-calls q (calls_in_comparable x) (calls_in_comparable y) s.1 in
+      let sides = both-calls q (calls_in_operand x) (calls_in_operand y) s.1 in
       ((s.0.0, sides.0), (s.0.1, sides.1))
 
   -- the same of an expression that consists of it
-  pub sound-sides : (e : LogicalOr) (x : Comparable) (op : Operator) (y : Comparable) → e ≡ or (and (relation x op y) no_and) no_or
-      → IsSound F q IsTypedOr calls_in_or e → IsSound F q IsTypedComparable calls_in_comparable x × IsSound F q IsTypedComparable calls_in_comparable y
+  pub sound-sides : (e : LogicalOr) (x : Operand) (op : Operator) (y : Operand) → e ≡ or (and (relation x op y) no_and) no_or
+      → IsSound F q IsTypedOr calls_in_or e → IsSound F q IsTypedComparable calls_in_operand x × IsSound F q IsTypedComparable calls_in_operand y
   sound-sides e x op y is sound =
       let s = subst (IsSound F q IsTypedOr calls_in_or) is sound in
       let in_and = (both-calls q (calls_in_and (and (relation x op y) no_and)) (calls_in_or no_or) s.1).0 in

@@ -13,17 +13,17 @@ pub use Rattle.serde_json_path_nodes.specs.Location.{DescentBefore, Located, Ste
 pub use Rattle.serde_json_path_nodes.specs.Views.{located, node_value, step_view}
 pub use Rattle.serde_json_path_numbers.specs.Numbers.{AreEqualNumbers, IsInLiteralRange, IsLessNumber, document_number, literal_number}
 pub use Rattle.serde_json_path_numbers.specs.Views.{exact_view}
-pub use Rattle.serde_json_path_syntax.specs.Calls.{OfEach, calls_from, calls_in_and, calls_in_argument, calls_in_basic, calls_in_comparable, calls_in_or, calls_in_segment, calls_in_segments, calls_in_selector, calls_of}
-pub use Rattle.serde_json_path_syntax.specs.Flat.{and_at, and_in, ands_in, argument_at, argument_in, arguments_in, basic_at, basic_in, call_at, comparable_at, held_view, or_at, ors_in, part_query, branch_at, branch_in, branches, branches_named, segment_at, segment_in, segment_kind_in, segment_kind_view, segments_at, segments_in}
-pub use Rattle.serde_json_path_syntax.specs.Kinds.{AreOfKind, IsOfKind, are_singular, each_is, is_and, is_argument, is_basic, is_call, is_comparable, is_or, is_query, is_segment, is_singular, literal_fits, selector_ref_fits}
+pub use Rattle.serde_json_path_syntax.specs.Calls.{OfEach, calls_from, calls_in_and, calls_in_argument, calls_in_basic, calls_in_operand, calls_in_or, calls_in_segment, calls_in_segments, calls_in_selector, calls_of}
+pub use Rattle.serde_json_path_syntax.specs.Flat.{and_at, and_in, ands_in, argument_at, argument_in, arguments_in, basic_at, basic_in, call_at, operand_at, held_view, or_at, ors_in, part_query, branch_at, branch_in, branches, branches_named, segment_at, segment_in, segment_kind_in, segment_kind_view, segments_at, segments_in}
+pub use Rattle.serde_json_path_syntax.specs.Kinds.{AreOfKind, IsOfKind, are_singular, each_is, is_and, is_argument, is_basic, is_call, is_comparable, is_or, is_query, is_segment, is_singular, is_tested, literal_fits, selector_ref_fits}
 pub use Rattle.serde_json_path_syntax.specs.Lists.{IsIn, IsInOrder}
 pub use Rattle.serde_json_path_syntax.specs.Literals.{number_amount, operator_view}
 pub use Rattle.serde_json_path_syntax.specs.PartBounds.{parts_bound, selector_bound}
 pub use Rattle.serde_json_path_syntax.specs.Parts.{nodes_in, signatures_of, tree_of}
 pub use Rattle.serde_json_path_syntax.specs.SliceView.{slice_view}
 pub use Rattle.serde_json_path_syntax.specs.Stages.{Stage, selector_view, selectors_list, selectors_of, stage_at, stage_of, stages, stages_at}
-pub use Rattle.serde_json_path_syntax.specs.Tree.{AreSingular, Argument, Arguments, Basic, Call, Comparable, IsSingular, IsSingularSegment, Literal, LogicalAnd, LogicalOr, Operator, Query, QueryKind, Segment, SegmentKind, Segments, Selector, Selectors, Slice, and, argument, call, call_argument, called, child, current, descendant, dot_name, dot_wildcard, equal, exist, filter, greater, greater_or_equal, index, kind_of, less, less_or_equal, literal, literal_argument, logical_argument, long_hand, name, no_and, no_arguments, no_or, no_segments, no_selectors, not_equal, not_exist, not_paren, not_test, or, paren, query, query_argument, relation, root, segment, segments_of, selector, singular, slice, test, text, truth, wildcard}
-pub use Rattle.serde_json_path_syntax.specs.Typing.{AreTypedArguments, AreTypedSegments, AreTypedSelectors, IsTyped, IsTypedAnd, IsTypedArgument, IsTypedBasic, IsTypedCall, IsTypedComparable, IsTypedOr, IsTypedSegment, IsTypedSelector, result_kind}
+pub use Rattle.serde_json_path_syntax.specs.Tree.{AreSingular, Argument, Arguments, Basic, Call, Operand, IsSingular, IsSingularSegment, Literal, LogicalAnd, LogicalOr, Operator, Query, QueryKind, Segment, SegmentKind, Segments, Selector, Selectors, Slice, and, argument, call, called, child, current, descendant, dot_name, dot_wildcard, equal, filter, greater, greater_or_equal, index, kind_of, less, less_or_equal, literal, logical_argument, long_hand, name, no_and, no_arguments, no_or, no_segments, no_selectors, not_equal, or, paren, query, operand, relation, root, segment, segments_of, selector, queried, slice, test, text, truth, wildcard}
+pub use Rattle.serde_json_path_syntax.specs.Typing.{AreTypedArguments, AreTypedSegments, AreTypedSelectors, IsTyped, IsTypedAnd, IsTypedArgument, IsTypedBasic, IsTypedCall, IsTypedComparable, IsTypedOperand, IsTypedOr, IsTypedSegment, IsTypedSelector, result_kind}
 pub use Rattle.serde_json_path_syntax.specs.declared.node.Node.{Node}
 pub use Rattle.serde_json_path_syntax.specs.declared.node.Part.{Part}
 pub use Rattle.serde_json_path_syntax.specs.declared.selector_ref.SelectorRef.{SelectorRef}

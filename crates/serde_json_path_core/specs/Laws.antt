@@ -1,6 +1,6 @@
 -- Laws of the definitions.
 use Rattle.std.specs.Prelude.{◌≡◌, ◌≢◌, ◌≤◌, ℕ, ℤ, List, [], ◌∷◌, ◌++◌, length, map, ◌⊎◌, ◌↔◌, Some}
-use Rattle.serde_json_path_core.specs.Imports.{Data, Step, child_at, StepBefore, Located, QueryKind, Query, query, current, Segments, no_segments, segment, SegmentKind, child, descendant, Segment, relation, equal, not_equal, less, less_or_equal, Comparable, IsSingular, view, Value, IsInLiteralRange, FunctionSet, KeepsTypes, all_numbers, IsIn, IsInOrder, IsTyped, IsTypedComparable}
+use Rattle.serde_json_path_core.specs.Imports.{Data, Step, child_at, StepBefore, Located, QueryKind, Query, query, current, Segments, no_segments, segment, SegmentKind, child, descendant, Segment, relation, equal, not_equal, less, less_or_equal, Operand, IsSingular, view, Value, IsInLiteralRange, FunctionSet, KeepsTypes, all_numbers, IsIn, IsInOrder, IsTyped, IsTypedComparable}
 use Rattle.serde_json_path_core.specs.Compared.{Compared, nothing, value, billionths, AreEqual}
 use Rattle.serde_json_path_core.specs.Height.{IsHeight}
 use Rattle.serde_json_path_core.specs.Derivation.{beneath, Triple, start_of, Before}
@@ -14,7 +14,7 @@ SingularQuerySelectsAtMostOne =
 -- `!=` holds exactly where `==` does not, under a function set that keeps types (section 2.3.5.2.2)
 abbrev pub NotEqualNegatesEqual : Type 0
 NotEqualNegatesEqual =
-    (F : FunctionSet) (top : Data) (a b : Comparable) (v : Data) → KeepsTypes F → IsTypedComparable F.signature a → IsTypedComparable F.signature b
+    (F : FunctionSet) (top : Data) (a b : Operand) (v : Data) → KeepsTypes F → IsTypedComparable F.signature a → IsTypedComparable F.signature b
     → HoldsBasic F top (relation a not_equal b) v ↔ (HoldsBasic F top (relation a equal b) v → ⊥)
 
 -- by all numbers every value of a document equals itself, and so do Nothing and every literal; equal sides are equal either
@@ -29,7 +29,7 @@ pub record EqualityIsAnEquivalence : Type 0 where
 -- `<=` holds exactly where `<` or `==` does (section 2.3.5.2.2)
 abbrev pub LessOrEqualIsEither : Type 0
 LessOrEqualIsEither =
-    (F : FunctionSet) (top : Data) (a b : Comparable) (v : Data)
+    (F : FunctionSet) (top : Data) (a b : Operand) (v : Data)
     → HoldsBasic F top (relation a less_or_equal b) v ↔ (HoldsBasic F top (relation a less b) v ⊎ HoldsBasic F top (relation a equal b) v)
 
 -- the children of a value with their steps, each once, in document order (section 2.5.2.2)

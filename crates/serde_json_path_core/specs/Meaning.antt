@@ -1,6 +1,6 @@
 -- What a query selects (RFC 9535, sections 2.1 to 2.5), under a function set and at the root of a document.
-use Rattle.std.specs.Prelude.{◌≡◌, ◌≢◌, ℕ, zero, suc, ℤ, pos, ◌+ℤ◌, ◌<ℤ◌, List, [], ◌∷◌, map, ◌⊎◌, ◌↔◌, Bool, Option, Some, None, IsTrue, int_div}
-use Rattle.serde_json_path_core.specs.Imports.{AllZip, Data, Items, null_data, boolean, number_data, string, as_array, of_integer, items_len, Step, by_name, by_position, child_at, at, Located, Query, query, Segments, no_segments, segment, SegmentKind, child, descendant, Segment, dot_name, dot_wildcard, long_hand, Selectors, no_selectors, selector, Selector, name, wildcard, index, slice, filter, LogicalOr, no_or, or, LogicalAnd, no_and, and, Basic, paren, not_paren, relation, exist, not_exist, test, not_test, Comparable, literal, singular, called, Call, call, Arguments, no_arguments, argument, Argument, literal_argument, query_argument, call_argument, logical_argument, Literal, text, truth, Kind, of_value, of_nodes, of_logical, Signature, Term, value, nodes, logical, FunctionSet, IsIn, IsInOrder}
+use Rattle.std.specs.Prelude.{◌≡◌, ◌≢◌, ℕ, zero, suc, ℤ, pos, ◌+ℤ◌, ◌<ℤ◌, List, [], ◌∷◌, map, ◌⊎◌, ◌↔◌, Bool, true, false, Option, Some, None, IsTrue, int_div}
+use Rattle.serde_json_path_core.specs.Imports.{AllZip, Data, Items, null_data, boolean, number_data, string, as_array, of_integer, items_len, Step, by_name, by_position, child_at, at, Located, Query, query, Segments, no_segments, segment, SegmentKind, child, descendant, Segment, dot_name, dot_wildcard, long_hand, Selectors, no_selectors, selector, Selector, name, wildcard, index, slice, filter, LogicalOr, no_or, or, LogicalAnd, no_and, and, Basic, paren, relation, test, Operand, literal, queried, called, Call, call, Arguments, no_arguments, argument, Argument, operand, logical_argument, Literal, text, truth, Kind, of_value, of_nodes, of_logical, Signature, Term, value, nodes, FunctionSet, IsIn, IsInOrder, logical}
 use Rattle.serde_json_path_syntax.specs.Tree.{number, null}
 use Rattle.serde_json_path_core.specs.Slices.{SelectsPosition}
 use Rattle.serde_json_path_core.specs.Compared.{Compared, Compares, literal_compared, value_compared}
@@ -24,6 +24,11 @@ abbrev pub AnswersYes : Term → Type 0
 AnswersYes (value v) = ⊥
 AnswersYes (nodes ds) = ds ≢ []
 AnswersYes (logical b) = IsTrue b
+
+-- what is so, or its opposite where it is negated
+abbrev pub NotIf : Bool → Type 0 → Type 0
+NotIf true P = P → ⊥
+NotIf false P = P
 
 -- the truth value of P as an argument
 abbrev pub IsTruthOf : Type 0 → Term → Type 0
@@ -86,13 +91,15 @@ module _ (F : FunctionSet) (top : Data) where
     HoldsAll (and b more) v = HoldsBasic b v × HoldsAll more v
 
     pub HoldsBasic : Basic → Data → Type 0
-    HoldsBasic (paren e) v = Holds e v
-    HoldsBasic (not_paren e) v = Holds e v → ⊥
+    HoldsBasic (paren negated e) v = NotIf negated (Holds e v)
     HoldsBasic (relation a op b) v = (x y : Compared) × IsComparedAs a v x × IsComparedAs b v y × Compares F.numbers op x y
-    HoldsBasic (exist q) v = Exists q v
-    HoldsBasic (not_exist q) v = Exists q v → ⊥
-    HoldsBasic (test c) v = (t : Term) × Answers c v t × AnswersYes t
-    HoldsBasic (not_test c) v = ((t : Term) × Answers c v t × AnswersYes t) → ⊥
+    HoldsBasic (test negated o) v = NotIf negated (HoldsTest o v)
+
+    -- the query has a derivation, or the call's answer holds
+    pub HoldsTest : Operand → Data → Type 0
+    HoldsTest (literal l) v = ⊥
+    HoldsTest (queried q) v = Exists q v
+    HoldsTest (called c) v = (t : Term) × Answers c v t × AnswersYes t
 
     -- the query has a derivation
     pub Exists : Query → Data → Type 0
@@ -107,9 +114,9 @@ module _ (F : FunctionSet) (top : Data) where
         × AllZip (BelongsTo (start_of kind top v)) ds ns
 
     -- what a side of a comparison stands for
-    pub IsComparedAs : Comparable → Data → Compared → Type 0
+    pub IsComparedAs : Operand → Data → Compared → Type 0
     IsComparedAs (literal l) v x = x ≡ literal_compared l
-    IsComparedAs (singular q) v x = (ns : List Located) × IsResult q v ns × (x ≡ value_compared (first_value ns))
+    IsComparedAs (queried q) v x = (ns : List Located) × IsResult q v ns × (x ≡ value_compared (first_value ns))
     IsComparedAs (called c) v x = (o : Option Data) × Answers c v (value o) × (x ≡ value_compared o)
 
     -- the call's answer is the set's meaning of its name and arguments (section 2.4)
@@ -121,12 +128,16 @@ module _ (F : FunctionSet) (top : Data) where
     AreArguments (argument a more) (kind ∷ kinds) v (t ∷ ts) = IsArgument a kind v t × AreArguments more kinds v ts
     AreArguments (argument a more) _ v _ = ⊥
 
-    -- the argument as the parameter takes it: a value or Nothing, the values of a list, or a truth value
+    -- the argument as the parameter takes it
     pub IsArgument : Argument → Kind → Data → Term → Type 0
-    IsArgument (literal_argument l) kind v t = t ≡ value (Some (literal_value l))
-    IsArgument (query_argument q) of_value v t = (ns : List Located) × IsResult q v ns × (t ≡ value (first_value ns))
-    IsArgument (query_argument q) of_nodes v t = (ns : List Located) × IsResult q v ns × (t ≡ nodes (map (λ n. n.value) ns))
-    IsArgument (query_argument q) of_logical v t = IsTruthOf (Exists q v) t
-    IsArgument (call_argument c) of_logical v t = (u : Term) × Answers c v u × IsTruthOf (AnswersYes u) t
-    IsArgument (call_argument c) _ v t = Answers c v t
+    IsArgument (operand o) kind v t = IsTakenAs o kind v t
     IsArgument (logical_argument e) kind v t = IsTruthOf (Holds e v) t
+
+    -- the operand as the parameter takes it: a value or Nothing, the values of a list, or a truth value
+    pub IsTakenAs : Operand → Kind → Data → Term → Type 0
+    IsTakenAs (literal l) kind v t = t ≡ value (Some (literal_value l))
+    IsTakenAs (queried q) of_value v t = (ns : List Located) × IsResult q v ns × (t ≡ value (first_value ns))
+    IsTakenAs (queried q) of_nodes v t = (ns : List Located) × IsResult q v ns × (t ≡ nodes (map (λ n. n.value) ns))
+    IsTakenAs (queried q) of_logical v t = IsTruthOf (Exists q v) t
+    IsTakenAs (called c) of_logical v t = (u : Term) × Answers c v u × IsTruthOf (AnswersYes u) t
+    IsTakenAs (called c) _ v t = Answers c v t

@@ -1,5 +1,12 @@
 //! The table of slips, by the kind of refusal. Of two slips that are both there, the first is named.
 
+/// The rows of a table: what is before the place, what is ahead of it, and what was probably meant.
+macro_rules! slips {
+    ($($before:expr, $ahead:expr => $meant:expr;)*) => {
+        &[$(($before, $ahead, $meant)),*]
+    };
+}
+
 mod calls;
 mod expressions;
 mod operands;

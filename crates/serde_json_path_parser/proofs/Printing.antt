@@ -3,7 +3,7 @@
 pub mod QuotedTexts
 -- numbers, slices and literals
 pub mod Literals
-use Rattle.serde_json_path_parser.proofs.Words.{AllByRecursion, flat_map, IsUtf8, chars, all_scalars, nat_tests, chars-encodes, scalars-chars, Query, query, QueryKind, root, current, Segments, no_segments, segment, SegmentKind, child, descendant, Segment, dot_name, dot_wildcard, long_hand, Selectors, no_selectors, selector, Selector, name, wildcard, index, slice, filter, LogicalOr, no_or, or, LogicalAnd, no_and, and, Basic, paren, not_paren, relation, exist, not_exist, test, not_test, Comparable, literal, singular, called, Call, call, Arguments, no_arguments, argument, Argument, literal_argument, query_argument, call_argument, logical_argument, Operator, equal, not_equal, less, less_or_equal, greater, greater_or_equal, operator_text, query_kind_text, dots_of, bracket_dots_of, joined, query_text, segments_text, segment_text, selector_texts, selector_text, or_text, and_texts, and_text, basic_texts, basic_text, comparable_text, call_text, argument_texts, argument_text, IsFunctionName, is_function_char, Reads, ReadSegments, ReadsSegment, ReadSelectors, ReadMoreSelectors, ReadsSelector, ReadsOr, ReadMoreOrs, ReadsAnd, ReadMoreAnds, ReadsBasic, ReadsComparable, ReadsCall, ReadArguments, ReadMoreArguments, ReadsArgument, InParentheses, Negated, IsSign, IsName, query_sign, operator_sign, dots_before_bracket, dots_before_name, ◌≡◌, ◌<◌, ℕ, true, List, [], ◌∷◌, ◌++◌, codes, refl, sym, ap, subst, ◌∙◌, append_assoc, arith}
+use Rattle.serde_json_path_parser.proofs.Words.{true, false, AllByRecursion, flat_map, IsUtf8, chars, all_scalars, nat_tests, chars-encodes, scalars-chars, Query, query, QueryKind, root, current, Segments, no_segments, segment, SegmentKind, child, descendant, Segment, dot_name, dot_wildcard, long_hand, Selectors, no_selectors, selector, Selector, name, wildcard, index, slice, filter, LogicalOr, no_or, or, LogicalAnd, no_and, and, Basic, paren, relation, test, Operand, literal, queried, called, Call, call, Arguments, no_arguments, argument, Argument, operand, logical_argument, Operator, equal, not_equal, less, less_or_equal, greater, greater_or_equal, operator_text, query_kind_text, dots_of, bracket_dots_of, joined, query_text, segments_text, segment_text, selector_texts, selector_text, or_text, and_texts, and_text, basic_texts, basic_text, operand_text, call_text, argument_texts, argument_text, IsFunctionName, is_function_char, Reads, ReadSegments, ReadsSegment, ReadSelectors, ReadMoreSelectors, ReadsSelector, ReadsOr, ReadMoreOrs, ReadsAnd, ReadMoreAnds, ReadsBasic, ReadsOperand, ReadsCall, ReadArguments, ReadMoreArguments, ReadsArgument, InParentheses, Negated, IsSign, IsName, query_sign, operator_sign, dots_before_bracket, dots_before_name, ◌≡◌, ◌<◌, ℕ, List, [], ◌∷◌, ◌++◌, codes, refl, sym, ap, subst, ◌∙◌, append_assoc, arith, Bool, negation_text}
 use QuotedTexts.{Spells, Spelt, spell_nothing, scalars_parts, scalars_of, spell_both, spell_ascii, spell_sign, spelt_nothing, spelt_as, spelt_after, spelt_between, spelt_both, string_spelt}
 use Literals.{int_spelt, slice_spelt, literal_spelt}
 
@@ -83,8 +83,13 @@ module _ {Is More : List ℕ → Type 0} {first more : List ℕ} where
 in_parentheses : {Is : List ℕ → Type 0} {bytes : List ℕ} → Spelt Is bytes → Spelt (InParentheses Is) ((codes "(" ++ bytes) ++ codes ")")
 in_parentheses x = spelt_between (spell_sign 40 (omega arith)) x (spell_sign 41 (omega arith)) (λ a is. ([], a, [], tt, is, tt, refl))
 
-negated : {Is : List ℕ → Type 0} {bytes : List ℕ} → Spelt Is bytes → Spelt (Negated Is) (codes "!" ++ bytes)
+negated : {Is : List ℕ → Type 0} {bytes : List ℕ} → Spelt Is bytes → Spelt (Negated true Is) (codes "!" ++ bytes)
 negated x = spelt_after (spell_sign 33 (omega arith)) x (λ a is. ([], a, tt, is, refl))
+
+-- what may be negated
+negation_spelt : {Is : List ℕ → Type 0} {bytes : List ℕ} (b : Bool) (t : List ℕ) → all_scalars t ≡ true → ((t : List ℕ) → all_scalars t ≡ true → Is t → Spelt Is bytes) → Negated b Is t → Spelt (Negated b Is) (negation_text b ++ bytes)
+negation_spelt false t e spelt h = spelt t e h
+negation_spelt true t e spelt (k, a, blank, inside, split) = negated (spelt a (scalars_after t (codes "!") k a e split).1 inside)
 
 -- ---- trees, part by part
 
@@ -155,29 +160,23 @@ mutual
       one_more (codes "&&") (operator_spelt (codes "&&") (spell_ascii (codes "&&") (omega arith, (omega arith, tt)))) (basic_spelt part a h.0 first) (more_ands_spelt more b h.1 rest)
 
   basic_spelt : (part : Basic) (t : List ℕ) → all_scalars t ≡ true → ReadsBasic part t → Spelt (ReadsBasic part) (basic_text part)
-  basic_spelt (paren c) t e (j, a, k, blank, inside, blank', split) =
-      in_parentheses (ors_spelt c a (scalars_inside t (codes "(") j a (k ++ codes ")") e split) inside)
-  basic_spelt (not_paren c) t e (i, p, blank, (j, a, k, blank', inside, blank'', within), split) =
-      let x = ors_spelt c a (scalars_inside p (codes "(") j a (k ++ codes ")") (scalars_after t (codes "!") i p e split).1 within) inside in
-      negated (in_parentheses x)
+  basic_spelt (paren b c) t e h = negation_spelt b t e (λ t e (j, a, k, blank, inside, blank', split).
+      in_parentheses (ors_spelt c a (scalars_inside t (codes "(") j a (k ++ codes ")") e split) inside)) h
   basic_spelt (relation left op right) t e (a, s, b, l, sign, r, split) =
-      let x = comparable_spelt left a (scalars_of t a (s ++ b) e split).0 l in
-      let y = comparable_spelt right b (scalars_after t a s b e split).1 r in
+      let x = operand_spelt left a (scalars_of t a (s ++ b) e split).0 l in
+      let y = operand_spelt right b (scalars_after t a s b e split).1 r in
       let o = operator_spells op in
       record {
         characters = (((x.characters ++ codes " ") ++ operator_sign op) ++ codes " ") ++ y.characters;
         spells = spell_both (spell_both (spell_both (spell_both x.spells blank_spells) o) blank_spells) y.spells;
         is_so = (x.characters, codes " " ++ (operator_sign op ++ codes " "), y.characters, x.is_so, between_blanks (operator_sign op), y.is_so, simp append_assoc refl);
       }
-  basic_spelt (exist q) t e h = query_spelt q t e h
-  basic_spelt (not_exist q) t e (k, a, blank, inside, split) = negated (query_spelt q a (scalars_after t (codes "!") k a e split).1 inside)
-  basic_spelt (test c) t e h = call_spelt c t e h
-  basic_spelt (not_test c) t e (k, a, blank, inside, split) = negated (call_spelt c a (scalars_after t (codes "!") k a e split).1 inside)
+  basic_spelt (test b o) t e h = negation_spelt b t e (λ t e h. operand_spelt o t e h) h
 
-  comparable_spelt : (c : Comparable) (t : List ℕ) → all_scalars t ≡ true → ReadsComparable c t → Spelt (ReadsComparable c) (comparable_text c)
-  comparable_spelt (literal l) t e h = literal_spelt l t e h
-  comparable_spelt (singular q) t e h = spelt_as (λ a is. (h.0, is)) (query_spelt q t e h.1)
-  comparable_spelt (called c) t e h = call_spelt c t e h
+  operand_spelt : (o : Operand) (t : List ℕ) → all_scalars t ≡ true → ReadsOperand o t → Spelt (ReadsOperand o) (operand_text o)
+  operand_spelt (literal l) t e h = literal_spelt l t e h
+  operand_spelt (queried q) t e h = query_spelt q t e h
+  operand_spelt (called c) t e h = call_spelt c t e h
 
   call_spelt : (c : Call) (t : List ℕ) → all_scalars t ≡ true → ReadsCall c t → Spelt (ReadsCall c) (call_text c)
   call_spelt (call f args) t e (n, j, a, k, is, blank, inside, blank', split) =
@@ -198,9 +197,7 @@ mutual
       one_more (codes ",") comma_spelt (argument_spelt arg a h.0 first) (more_arguments_spelt more b h.1 rest)
 
   argument_spelt : (arg : Argument) (t : List ℕ) → all_scalars t ≡ true → ReadsArgument arg t → Spelt (ReadsArgument arg) (argument_text arg)
-  argument_spelt (literal_argument l) t e h = literal_spelt l t e h
-  argument_spelt (query_argument q) t e h = query_spelt q t e h
-  argument_spelt (call_argument c) t e h = call_spelt c t e h
+  argument_spelt (operand o) t e h = operand_spelt o t e h
   argument_spelt (logical_argument c) t e h = spelt_as (λ a is. (h.0, is)) (ors_spelt c t e h.1)
 
 -- ---- whole queries

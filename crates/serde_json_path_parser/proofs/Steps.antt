@@ -1,18 +1,18 @@
 -- Steps of the code: rows of items that a loop reads, how the builder grows by them, arguments, and what stands in filters.
-use Rattle.serde_json_path_parser.proofs.Words.{◌↔◌, append-nil, map-append, name_of, names_of, calls_in_segments, calls_from, calls_in_arguments, KeepsParts, KeepsTrees, calls_in, AreDeclared, MayFinish, deepest, names_in, IsTyped, depth, Part, query, root, Segments, Call, call, Arguments, SyntaxBuilder, Signature, Grows, Parsed, Failure, Reader, Ghosts, SegmentKind, Segment, ArePartsOf, segment_list, length-append, Branch, IsPart, ArePartsFor, parts_for_kept, Fails, GrowsFrom, ◌>>=◌, many, Selector, LogicalOr, LogicalAnd, Basic, Deeper, a_selector, an_and, a_basic, segment_branch, segment_branches, selector_branches, or_branches, and_branches, calls_in_selectors, calls_in_or, calls_in_and, selector_list, or_list, and_list, past_blanks, is_at, is_small_letter, are_at, begins, opens, opens_next, level, read_segment, read_selector, read_and, read_basic, no_arguments, argument, Argument, Kind, ExpectedClosingParenthesis, calls_in_argument, an_argument, IsAsRead, MakesArguments, refusal, ends_argument, read_argument, read_some_arguments, nat_tests, Literal, ExpectedExpression, Operand, a_literal, word, past_word, read_literal_word, literal_word, of_value, kind_view, is_result, ◌==◌, filter, byte_count, read_or, read_call, IsTrue, calls_in_operand, alone, is_singular, is_whole, is_value_literal, number, IsValueLiteral, Query, IsSingular, cases_Bool, not_test, result_kind, WrongReturnType, begins_call, read_named_call, read_named, read_negated, a_call, cond, ◌≡◌, ◌≤◌, ℕ, List, [], ◌∷◌, ◌++◌, inl, inr, Some, Option, Result, Ok, Err, refl, sym, ap, subst, ◌∙◌, append_assoc, ◌<◌, Bool, true, false, length, arith, drop, None, zero, suc, ◌-◌, Memory, Refused, Context, read_filter, LongHand, MakesSo, IsOperandOf, calls_in_branch, same_from_decides, query_singular}
+use Rattle.serde_json_path_parser.proofs.Words.{◌↔◌, append-nil, map-append, name_of, names_of, calls_in_segments, calls_from, calls_in_arguments, KeepsParts, KeepsTrees, calls_in, AreDeclared, MayFinish, deepest, names_in, IsTyped, depth, Part, query, root, Segments, Call, call, Arguments, SyntaxBuilder, Signature, Grows, Parsed, Failure, Reader, Ghosts, SegmentKind, Segment, ArePartsOf, segment_list, length-append, Branch, IsPart, ArePartsFor, parts_for_kept, Fails, GrowsFrom, ◌>>=◌, many, Selector, LogicalOr, LogicalAnd, Basic, Deeper, a_selector, an_and, a_basic, segment_branch, segment_branches, selector_branches, or_branches, and_branches, calls_in_selectors, calls_in_or, calls_in_and, selector_list, or_list, and_list, past_blanks, is_at, is_small_letter, are_at, begins, opens, opens_next, level, read_segment, read_selector, read_and, read_basic, no_arguments, argument, Argument, Kind, ExpectedClosingParenthesis, calls_in_argument, an_operand, IsAsRead, MakesArguments, refusal, ends_argument, read_argument, read_some_arguments, nat_tests, Literal, ExpectedExpression, Operand, literal, word, past_word, read_literal_word, literal_word, of_value, kind_view, is_result, ◌==◌, filter, byte_count, read_or, read_call, IsTrue, calls_in_operand, is_singular, is_whole, is_value_literal, number, IsValueLiteral, Query, IsSingular, cases_Bool, result_kind, WrongReturnType, begins_call, read_named_call, read_named, read_negated, called, cond, ◌≡◌, ◌≤◌, ℕ, List, [], ◌∷◌, ◌++◌, inl, inr, Some, Option, Result, Ok, Err, refl, sym, ap, subst, ◌∙◌, append_assoc, ◌<◌, Bool, true, false, length, arith, drop, None, zero, suc, ◌-◌, Memory, Refused, Context, read_filter, LongHand, MakesSo, IsOperandOf, calls_in_branch, same_from_decides, IsComparable, argument_branch, read_comparable, queried, refusal_at, NonSingularQuery, read_negated_test, read_test}
 use Rattle.serde_json_path_syntax.proofs.Names.Finishing.{may_finish}
 use Rattle.serde_json_path_syntax.proofs.Lists.{in_append}
 use Rattle.serde_json_path_parser.proofs.Grammar.Calls.{level_laws, amount_whole, whole_amount}
 use Rattle.serde_json_path_parser.proofs.Grammar.LogicalExpressions.{next_basic_consumes, next_and_consumes}
 use Rattle.serde_json_path_parser.proofs.Grammar.Segments as segments
-use Rattle.serde_json_path_parser.proofs.Reading.{first_fails, begins_differs, Consumes, many_end, many_err, many_more, with_front}
+use Rattle.serde_json_path_parser.proofs.Reading.{first_fails, begins_differs, Consumes, many_end, many_err, many_more, with_front, ok_is}
 use Rattle.serde_json_path_parser.specs.declared.parser.operand.Operand as operands
 use Rattle.serde_json_path_parser.specs.declared.parser.operand.Operand.TheVariants as the_operands
 use denote.Enum.Bare.{sameb}
 use Rattle.serde_json_path_functions.specs.contracts.types.FunctionArgType.{the_type}
 use Rattle.serde_json_path_functions.specs.declared.types.FunctionArgType.{FunctionArgType}
 use Rattle.serde_json_path_functions.specs.declared.types.FunctionArgType.TheVariants as results
-use Rattle.serde_json_path_parser.proofs.Grammar.LogicalForms.{singular_query}
+use Rattle.serde_json_path_parser.proofs.Grammar.LogicalForms.{query_singular, singular_query}
 
 -- ---- how the builder grows, and by which calls; and which parts stand for no segment
 
@@ -56,6 +56,10 @@ module _ {signature : List ℕ → Option Signature} where
       | inr k ↦ elim k [ inl e ↦ ap (λ (v : List ℕ × Signature). signature v.0) e ∙ is ∙ ap (λ (v : List ℕ × Signature). Some v.1) (sym e) | inr none ↦ absurd none ]
     ]);
   })
+
+-- it keeps its parts over two steps
+pub keeps_both : {old mid new : SyntaxBuilder} → KeepsParts old mid → KeepsParts mid new → KeepsParts old new
+keeps_both first second = record { trees = λ part branch h. second.trees part branch (first.trees part branch h); calls = second.calls ∙ first.calls }
 
 -- ---- the whole query
 
@@ -290,12 +294,12 @@ none_made signature builder parts (Err s) reader read h = h
 
 -- One is put after others, and those that are read after it.
 one_made : {S : Type 0} {g : Ghosts S} {signature : List ℕ → Option Signature} {old builder : SyntaxBuilder} {mid : List Part} {part : Part}
-    (a : Argument) (new : SyntaxBuilder) (before after : List Part) (reader : Reader S g) (result : Result Unit Failure) (read whole : Parsed Arguments) → mid ≡ before ++ part ∷ [] → IsPart builder part (an_argument a) → Grows signature old builder (calls_in_argument a)
+    (a : Argument) (new : SyntaxBuilder) (before after : List Part) (reader : Reader S g) (result : Result Unit Failure) (read whole : Parsed Arguments) → mid ≡ before ++ part ∷ [] → IsPart builder part (argument_branch a) → Grows signature old builder (calls_in_argument a)
     → whole ≡ (read >>= λ more. Ok (argument a more.0, more.1))
     → MakesArguments signature builder new mid after result reader read → MakesArguments signature old new before after result reader whole
 one_made {part = part} a new before after reader (Ok u) read whole pushed is grown e h = (
   argument a h.0,
-  (part ∷ h.1.0, h.1.1 ∙ ap (λ (ps : List Part). ps ++ h.1.0) pushed ∙ append_assoc before (part ∷ []) h.1.0, (h.3.trees part (an_argument a) is, h.1.2)),
+  (part ∷ h.1.0, h.1.1 ∙ ap (λ (ps : List Part). ps ++ h.1.0) pushed ∙ append_assoc before (part ∷ []) h.1.0, (h.3.trees part (argument_branch a) is, h.1.2)),
   e ∙ ap (λ (y : Parsed Arguments). y >>= λ more. Ok (argument a more.0, more.1)) h.2,
   grows_then grown h.3,
 )
@@ -308,7 +312,7 @@ pub record LeadsTo {S : Type 0} (g : Ghosts S) (signature : List ℕ → Option 
 
 -- one more is put after them
 pub one_more : {S : Type 0} {g : Ghosts S} {signature : List ℕ → Option Signature} {old builder new : SyntaxBuilder} {before parts pushed : List Part} {part : Part} {read others whole : Parsed Arguments}
-    (a : Argument) → LeadsTo g signature old builder before parts read whole → pushed ≡ parts ++ part ∷ [] → IsPart new part (an_argument a) → Grows signature builder new (calls_in_argument a)
+    (a : Argument) → LeadsTo g signature old builder before parts read whole → pushed ≡ parts ++ part ∷ [] → IsPart new part (argument_branch a) → Grows signature builder new (calls_in_argument a)
     → read ≡ (others >>= λ more. Ok (argument a more.0, more.1)) → LeadsTo g signature old new before pushed others whole
 one_more {parts = parts} {read = read} {others = others} a so_far put is grown e =
     record { made = λ new after reader result made. so_far.made new after reader result (one_made a new parts after reader result others read put is grown e made) }
@@ -329,7 +333,7 @@ module _ (signature : List ℕ → Option Signature) (deeper : Deeper) (start : 
 
 -- what reading gives where the word is that literal's, or none's
 abbrev pub read_literal : Option Literal → List ℕ → Parsed Operand
-read_literal (Some l) cs = Ok (a_literal l, past_blanks (past_word cs))
+read_literal (Some l) cs = Ok (literal l, past_blanks (past_word cs))
 read_literal None cs = Err (refusal ExpectedExpression LongHand cs)
 
 -- the tests for each literal's word, one after another, give what the word's literal does
@@ -359,41 +363,28 @@ pub value_kind : (kind : FunctionArgType) → is_result of_value (Some (kind_vie
 value_kind results.Value = refl
 value_kind _ = refl
 
--- ---- a name after `!`
-
-module _ (signature : List ℕ → Option Signature) (cs : List ℕ) where
-  -- what is made of the operand that the name begins
-  abbrev negated : Operand → List ℕ → Parsed Basic
-  negated (a_call c) rest = cond (is_result of_value (result_kind signature c)) (Err (refusal WrongReturnType LongHand cs)) (Ok (not_test c, rest))
-  negated o rest = Err (refusal ExpectedExpression LongHand cs)
-
-  -- what is no call may not stand there
-  pub no_call : (builder : SyntaxBuilder) (o : operands.Operand) (x : Operand) (rest : List ℕ) → ((part : Part) (kind : FunctionArgType) → o ≡ the_operands.Call part kind → ⊥)
-      → IsOperandOf signature builder o x → negated x rest ≡ Err (refusal ExpectedExpression LongHand cs)
-  no_call builder (the_operands.Literal l) x rest other h = rw h refl
-  no_call builder (the_operands.Query part) x rest other h = rw h.1 refl
-  no_call builder (the_operands.Call part kind) x rest other h = absurd (other part kind refl)
-
-  module _ (deeper : Deeper) where
-    pub negated_named : begins is_small_letter cs ≡ true → read_negated signature deeper cs ≡ (read_named signature deeper cs >>= λ o. negated o.0 o.1)
-    negated_named letter = rw (begins_differs is_small_letter 40 cs refl letter, begins_differs is_small_letter 64 cs refl letter, begins_differs is_small_letter 36 cs refl letter) (elim (cases_Bool (begins_call cs)) [
-      | inl e ↦ rw e (by_call (read_named_call signature deeper cs))
-      | inr e ↦ rw (e, literal_word_reads cs) (by_word (literal_word (word cs)))
-    ])
-      where
-        by_call : (read : Parsed Call) → (read >>= λ c. negated (a_call c.0) c.1) ≡ ((read >>= λ c. Ok (a_call c.0, c.1)) >>= λ (o : Operand × List ℕ). negated o.0 o.1)
-        by_call (Ok c) = refl
-        by_call (Err d) = refl
-
-        by_word : (l : Option Literal) → Err (refusal ExpectedExpression LongHand cs) ≡ (read_literal l cs >>= λ o. negated o.0 o.1)
-        by_word (Some l) = refl
-        by_word None = refl
-
 -- ---- the steps of the code at operands, and at what an argument's type is
 
-pub alone_calls : (x : Operand) → calls_in_operand x ≡ calls_in_argument (alone x)
-alone_calls (a_literal l) = refl
-alone_calls _ = refl
+-- what is no literal is read as a test after `!`
+pub no_literal : (signature : List ℕ → Option Signature) (deeper : Deeper) (start : ℕ) (builder : SyntaxBuilder) (o : operands.Operand) (x : Operand) (rest : List ℕ)
+    → ((l : _) → o ≡ the_operands.Literal l → ⊥) → IsOperandOf signature builder o x → read_negated_test signature deeper start x rest ≡ read_test signature deeper true start x rest
+no_literal signature deeper start builder (the_operands.Literal l) x rest other h = absurd (other l refl)
+no_literal signature deeper start builder (the_operands.Query part) x rest other h = rw h.1 refl
+no_literal signature deeper start builder (the_operands.Call part kind) x rest other h = rw h.1 refl
+
+-- what is read as a side of a comparison may be one
+pub comparable_read : (signature : List ℕ → Option Signature) (deeper : Deeper) (start : ℕ) (o a : Operand) (cs rest : List ℕ) → read_comparable signature deeper start o cs ≡ Ok (a, rest) → IsComparable a
+comparable_read signature deeper start (literal l) a cs rest e = subst (λ (y : Operand × List ℕ). IsComparable y.0) (ok_is (literal l, cs) (a, rest) e) tt
+comparable_read signature deeper start (queried q) a cs rest e = by (is_singular q) refl e
+  where
+    by : (b : Bool) → is_singular q ≡ b → cond {A = Parsed Operand} b (Ok (queried q, cs)) (Err (refusal_at NonSingularQuery LongHand start)) ≡ Ok (a, rest) → IsComparable a
+    by true is e = subst (λ (y : Operand × List ℕ). IsComparable y.0) (ok_is (queried q, cs) (a, rest) e) (singular_query q is)
+    by false is e = absurd cc
+comparable_read signature deeper start (called c) a cs rest e = by (is_result of_value (result_kind signature c)) e
+  where
+    by : (b : Bool) → cond {A = Parsed Operand} b (Ok (called c, cs)) (Err (refusal_at WrongReturnType LongHand start)) ≡ Ok (a, rest) → IsComparable a
+    by true e = subst (λ (y : Operand × List ℕ). IsComparable y.0) (ok_is (called c, cs) (a, rest) e) tt
+    by false e = absurd cc
 
 -- a test that says whether a query is a singular one
 pub singular_by : (b : Bool) (q : Query) → IsTrue b ↔ IsSingular q → is_singular q ≡ b

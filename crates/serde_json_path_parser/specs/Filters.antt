@@ -1,8 +1,8 @@
 -- Logical expressions and whole paths, as they are read from left to right (RFC 9535, sections
 -- 2.3.5 and 2.4), on lists of characters. An operand is read before its use is known; what follows
 -- it decides. Each piece takes the blanks after it, but for segments.
-use Rattle.std.specs.Prelude.{ℕ, zero, suc, ◌==◌, ◌&&◌, Bool, true, false, List, [], ◌∷◌, length, drop, codes, bytes_eq, Option, Some, None, Result, Ok, Err, if◌then◌else◌}
-use Rattle.serde_json_path_parser.specs.Imports.{is_singular, QueryKind, root, current, Query, query, Segments, Selector, filter, LogicalOr, no_or, or, LogicalAnd, no_and, and, Basic, paren, not_paren, relation, exist, not_exist, test, not_test, Comparable, literal, singular, called, Call, call, Arguments, no_arguments, argument, Argument, literal_argument, query_argument, call_argument, logical_argument, text, number, truth, null, Operator, equal, not_equal, less, less_or_equal, greater, greater_or_equal, result_kind, deepest, Kind, of_value, Signature, code}
+use Rattle.std.specs.Prelude.{ℕ, zero, suc, ◌==◌, ◌&&◌, ◌||◌, Bool, true, false, List, [], ◌∷◌, length, drop, codes, bytes_eq, Option, Some, None, Result, Ok, Err, if◌then◌else◌}
+use Rattle.serde_json_path_parser.specs.Imports.{is_singular, QueryKind, root, current, Query, query, Segments, Selector, filter, LogicalOr, no_or, or, LogicalAnd, no_and, and, Basic, paren, relation, test, Operand, literal, queried, called, Call, call, Arguments, no_arguments, argument, Argument, operand, logical_argument, text, number, truth, null, Operator, equal, not_equal, less, less_or_equal, greater, greater_or_equal, result_kind, deepest, Kind, of_value, Signature, code}
 use Rattle.serde_json_path_parser.specs.declared.error.ParseErrorKind.TheVariants.{ExpectedRoot, ExpectedExpression, ExpectedClosingParenthesis, ExpectedComparisonOperator, NonSingularQuery, UndefinedFunction, WrongNumberOfArguments, WrongArgumentType, WrongReturnType, NestedTooDeep, TextAfterPath}
 use Rattle.serde_json_path_parser.specs.declared.error.Context.TheVariants as context
 use Rattle.serde_json_path_parser.specs.declared.error.Refusal.{Refusal}
@@ -10,7 +10,7 @@ use Rattle.serde_json_path_parser.specs.Lexical.{◌∈◌, is_at, are_at, begin
 use Rattle.serde_json_path_parser.specs.Parsed.{Parsed, ◌>>=◌, refusal, front, past, past_blanks, many, refusal_at, byte_count}
 use Rattle.serde_json_path_parser.specs.Strings.{read_string}
 use Rattle.serde_json_path_parser.specs.Numbers.{read_number}
-use Rattle.serde_json_path_parser.specs.Operands.{Operand, a_literal, a_query, a_call, is_result, suits}
+use Rattle.serde_json_path_parser.specs.Operands.{is_result, suits}
 use Rattle.serde_json_path_parser.specs.Parsing.{read_segments, segment_list}
 
 -- ---- words
@@ -30,10 +30,10 @@ begins_call cs = begins is_small_letter cs && is_at "(" (past_word cs)
 abbrev pub read_literal_word : List ℕ → Parsed Operand
 read_literal_word cs =
     if bytes_eq (word cs) (codes "true") then
-    Ok (a_literal (truth true), past_blanks (past_word cs))
+    Ok (literal (truth true), past_blanks (past_word cs))
     else if bytes_eq (word cs) (codes "false") then
-    Ok (a_literal (truth false), past_blanks (past_word cs))
-    else if bytes_eq (word cs) (codes "null") then Ok (a_literal null, past_blanks (past_word cs))
+    Ok (literal (truth false), past_blanks (past_word cs))
+    else if bytes_eq (word cs) (codes "null") then Ok (literal null, past_blanks (past_word cs))
     else Err (refusal ExpectedExpression context.LongHand cs)
 
 -- ---- operators
@@ -52,7 +52,7 @@ read_operator cs =
 -- a string as an operand, at its quote
 unfoldable pub read_text : ℕ → List ℕ → Parsed Operand
 read_text quote cs =
-    read_string quote (drop 1 cs) >>= λ t. Ok (a_literal (text t.0), past_blanks t.1)
+    read_string quote (drop 1 cs) >>= λ t. Ok (literal (text t.0), past_blanks t.1)
 
 -- ---- what was read in a row
 
@@ -64,13 +64,11 @@ abbrev pub or_list : List LogicalAnd → LogicalOr
 or_list [] = no_or
 or_list (a ∷ more) = or a (or_list more)
 
--- ---- arguments
+-- ---- tests and arguments
 
--- an operand that stands alone
-abbrev pub alone : Operand → Argument
-alone (a_literal l) = literal_argument l
-alone (a_query q) = query_argument q
-alone (a_call c) = call_argument c
+-- what is tested begins with `@`, `$` or a small letter
+abbrev pub begins_test : ℕ → Bool
+begins_test c = c ∈ "@$" || is_small_letter c
 
 abbrev pub ends_argument : ℕ → Bool
 ends_argument c = c ∈ ",)"
@@ -108,44 +106,45 @@ module _ (signature : List ℕ → Option Signature) (deeper : Deeper) where
   -- at a small letter
   abbrev pub read_named : List ℕ → Parsed Operand
   read_named cs =
-      if begins_call cs then (read_named_call cs >>= λ c. Ok (a_call c.0, c.1))
+      if begins_call cs then (read_named_call cs >>= λ c. Ok (called c.0, c.1))
       else read_literal_word cs
 
   abbrev pub read_operand : List ℕ → Parsed Operand
   read_operand cs =
       if is_at "'" cs then read_text (code "'") cs
       else if is_at "\"" cs then read_text (code "\"") cs
-      else if is_at "@" cs then (read_query current cs >>= λ q. Ok (a_query q.0, q.1))
-      else if is_at "$" cs then (read_query root cs >>= λ q. Ok (a_query q.0, q.1))
-      else if begins_call cs then (read_named_call cs >>= λ c. Ok (a_call c.0, c.1))
+      else if is_at "@" cs then (read_query current cs >>= λ q. Ok (queried q.0, q.1))
+      else if is_at "$" cs then (read_query root cs >>= λ q. Ok (queried q.0, q.1))
+      else if begins_call cs then (read_named_call cs >>= λ c. Ok (called c.0, c.1))
       else if begins is_small_letter cs then read_literal_word cs
-      else (read_number cs >>= λ n. Ok (a_literal (number n.0), past_blanks n.1))
+      else (read_number cs >>= λ n. Ok (literal (number n.0), past_blanks n.1))
 
   -- ---- comparisons and tests; start bytes are left where the operand begins
 
-  abbrev pub read_comparable : ℕ → Operand → List ℕ → Parsed Comparable
-  read_comparable start (a_literal l) cs = Ok (literal l, cs)
-  read_comparable start (a_query q) cs =
-      if is_singular q then Ok (singular q, cs)
+  abbrev pub read_comparable : ℕ → Operand → List ℕ → Parsed Operand
+  read_comparable start (literal l) cs = Ok (literal l, cs)
+  read_comparable start (queried q) cs =
+      if is_singular q then Ok (queried q, cs)
       else Err (refusal_at NonSingularQuery context.LongHand start)
-  read_comparable start (a_call c) cs =
+  read_comparable start (called c) cs =
       if is_result of_value (result_kind signature c) then Ok (called c, cs)
       else Err (refusal_at WrongReturnType context.LongHand start)
 
   -- no operator stands after the operand
-  abbrev pub read_test : ℕ → Operand → List ℕ → Parsed Basic
-  read_test start (a_literal l) cs = Err (refusal ExpectedComparisonOperator context.LongHand cs)
-  read_test start (a_query q) cs = Ok (exist q, cs)
-  read_test start (a_call c) cs =
+  abbrev pub read_test : Bool → ℕ → Operand → List ℕ → Parsed Basic
+  read_test negated start (literal l) cs =
+      Err (refusal ExpectedComparisonOperator context.LongHand cs)
+  read_test negated start (queried q) cs = Ok (test negated (queried q), cs)
+  read_test negated start (called c) cs =
       if is_result of_value (result_kind signature c) then
       Err (refusal_at WrongReturnType context.LongHand start)
-      else Ok (test c, cs)
+      else Ok (test negated (called c), cs)
 
-  abbrev pub read_right_side : List ℕ → Parsed Comparable
+  abbrev pub read_right_side : List ℕ → Parsed Operand
   read_right_side cs = read_operand cs >>= λ o. read_comparable (byte_count cs) o.0 o.1
 
   abbrev pub read_relation : ℕ → Operand → Option (Operator × List ℕ) → List ℕ → Parsed Basic
-  read_relation start o None cs = read_test start o cs
+  read_relation start o None cs = read_test false start o cs
   read_relation start o (Some op) cs = do
     a ← read_comparable start o (past_blanks op.1)
     b ← read_right_side a.1
@@ -163,26 +162,25 @@ module _ (signature : List ℕ → Option Signature) (deeper : Deeper) where
       if is_at ")" e.1 then Ok (e.0, past_blanks (drop 1 e.1))
       else Err (refusal ExpectedClosingParenthesis context.LongHand e.1)
 
-  abbrev pub read_negated_call : List ℕ → Parsed Basic
-  read_negated_call cs = read_named_call cs >>= λ c.
-      if is_result of_value (result_kind signature c.0) then
-      Err (refusal WrongReturnType context.LongHand cs)
-      else Ok (not_test c.0, c.1)
+  -- after an operand that begins at start
+  abbrev pub read_negated_test : ℕ → Operand → List ℕ → Parsed Basic
+  read_negated_test start (literal l) cs =
+      Err (refusal_at ExpectedExpression context.LongHand start)
+  read_negated_test start o cs = read_test true start o cs
 
   -- after `!` and blanks
   abbrev pub read_negated : List ℕ → Parsed Basic
   read_negated cs =
-      if is_at "(" cs then (read_paren cs >>= λ e. Ok (not_paren e.0, e.1))
-      else if is_at "@" cs then (read_query current cs >>= λ q. Ok (not_exist q.0, q.1))
-      else if is_at "$" cs then (read_query root cs >>= λ q. Ok (not_exist q.0, q.1))
-      else if begins_call cs then read_negated_call cs
+      if is_at "(" cs then (read_paren cs >>= λ e. Ok (paren true e.0, e.1))
+      else if begins begins_test cs then
+      (read_operand cs >>= λ o. read_negated_test (byte_count cs) o.0 o.1)
       else Err (refusal ExpectedExpression context.LongHand cs)
 
   -- ---- logical expressions
 
   abbrev pub read_basic : List ℕ → Parsed Basic
   read_basic cs =
-      if is_at "(" cs then (read_paren cs >>= λ e. Ok (paren e.0, e.1))
+      if is_at "(" cs then (read_paren cs >>= λ e. Ok (paren false e.0, e.1))
       else if is_at "!" cs then read_negated (past_blanks (drop 1 cs))
       else (read_operand cs >>= λ o. read_basic_from (byte_count cs) o.0 o.1)
 
@@ -223,7 +221,7 @@ module _ (signature : List ℕ → Option Signature) (deeper : Deeper) where
   read_argument cs =
       if begins (λ c. c ∈ "(!") cs then (read_or cs >>= λ e. Ok (logical_argument e.0, e.1))
       else (read_operand cs >>= λ o.
-      if begins ends_argument o.1 then Ok (alone o.0, o.1)
+      if begins ends_argument o.1 then Ok (operand o.0, o.1)
       else read_logical_from (byte_count cs) o.0 o.1)
 
   -- one argument or more, of a call that begins at start, for parameters of these types

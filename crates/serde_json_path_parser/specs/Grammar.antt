@@ -1,7 +1,7 @@
 -- The grammar: which text has which tree (RFC 9535, sections 2.1 to 2.5). A text is a list of
 -- characters, and the joining of the texts of its parts, of signs and of blanks.
-use Rattle.std.specs.Prelude.{◌≡◌, ℕ, ℤ, List, [], ◌++◌, ◌⊎◌, true, false, Option, Some, None, codes}
-use Rattle.serde_json_path_parser.specs.Imports.{QueryKind, root, current, Query, query, Segments, no_segments, segment, SegmentKind, child, descendant, Segment, dot_name, dot_wildcard, long_hand, Selectors, no_selectors, selector, Selector, name, wildcard, index, slice, filter, Slice, LogicalOr, no_or, or, LogicalAnd, no_and, and, Basic, paren, not_paren, relation, exist, not_exist, test, not_test, Operator, equal, not_equal, less, less_or_equal, greater, greater_or_equal, Comparable, literal, singular, called, Call, call, Arguments, no_arguments, argument, Argument, literal_argument, query_argument, call_argument, logical_argument, Literal, text, number, truth, null, IsSingular}
+use Rattle.std.specs.Prelude.{Bool, true, false, ◌≡◌, ℕ, ℤ, List, [], ◌++◌, ◌⊎◌, Option, Some, None, codes}
+use Rattle.serde_json_path_parser.specs.Imports.{QueryKind, root, current, Query, query, Segments, no_segments, segment, SegmentKind, child, descendant, Segment, dot_name, dot_wildcard, long_hand, Selectors, no_selectors, selector, Selector, name, wildcard, index, slice, filter, Slice, LogicalOr, no_or, or, LogicalAnd, no_and, and, Basic, paren, relation, test, Operator, equal, not_equal, less, less_or_equal, greater, greater_or_equal, Operand, literal, queried, called, Call, call, Arguments, no_arguments, argument, Argument, operand, logical_argument, Literal, text, number, truth, null, IsSingular}
 use Rattle.serde_json_path_parser.specs.Lexical.{IsBlank, IsName, IsFunctionName, IsInt, IsNumber, IsString}
 
 -- ---- signs
@@ -64,9 +64,11 @@ InParentheses ReadsInside t =
     (j a k : List ℕ) × IsBlank j × ReadsInside a × IsBlank k
     × (t ≡ codes "(" ++ (j ++ (a ++ (k ++ codes ")"))))
 
--- after `!` and blanks
-abbrev pub Negated : (List ℕ → Type 0) → List ℕ → Type 0
-Negated ReadsInside t = (k a : List ℕ) × IsBlank k × ReadsInside a × (t ≡ codes "!" ++ (k ++ a))
+-- where it is negated, after `!` and blanks
+abbrev pub Negated : Bool → (List ℕ → Type 0) → List ℕ → Type 0
+Negated false ReadsInside t = ReadsInside t
+Negated true ReadsInside t =
+    (k a : List ℕ) × IsBlank k × ReadsInside a × (t ≡ codes "!" ++ (k ++ a))
 
 -- blanks, a sign and blanks
 abbrev pub IsSign : List ℕ → List ℕ → Type 0
@@ -75,8 +77,7 @@ IsSign sign t = (j k : List ℕ) × IsBlank j × IsBlank k × (t ≡ j ++ (sign 
 -- A query or a call alone: as an argument it is read as that and not as a logical expression. The
 -- RFC's grammar allows both; this is the project's own choice.
 abbrev pub StandsAlone : LogicalOr → Type 0
-StandsAlone (or (and (exist q) no_and) no_or) = Unit {0}
-StandsAlone (or (and (test c) no_and) no_or) = Unit {0}
+StandsAlone (or (and (test false o) no_and) no_or) = Unit {0}
 StandsAlone _ = ⊥
 
 -- ---- the grammar
@@ -147,21 +148,18 @@ abbrev mutual
       × (t ≡ s ++ (a ++ b))
 
   pub ReadsBasic : Basic → List ℕ → Type 0
-  ReadsBasic (paren e) t = InParentheses (ReadsOr e) t
-  ReadsBasic (not_paren e) t = Negated (InParentheses (ReadsOr e)) t
+  ReadsBasic (paren negated e) t = Negated negated (InParentheses (ReadsOr e)) t
   ReadsBasic (relation left op right) t =
-      (a s b : List ℕ) × ReadsComparable left a × IsSign (operator_sign op) s
-      × ReadsComparable right b × (t ≡ a ++ (s ++ b))
-  ReadsBasic (exist q) t = Reads q t
-  ReadsBasic (not_exist q) t = Negated (Reads q) t
-  ReadsBasic (test c) t = ReadsCall c t
-  ReadsBasic (not_test c) t = Negated (ReadsCall c) t
+      (a s b : List ℕ) × ReadsOperand left a × IsSign (operator_sign op) s
+      × ReadsOperand right b × (t ≡ a ++ (s ++ b))
+  ReadsBasic (test negated o) t = Negated negated (ReadsOperand o) t
 
-  -- a query in a comparison is singular; blanks inside its brackets are the project's own choice
-  pub ReadsComparable : Comparable → List ℕ → Type 0
-  ReadsComparable (literal l) t = IsLiteral l t
-  ReadsComparable (singular q) t = IsSingular q × Reads q t
-  ReadsComparable (called c) t = ReadsCall c t
+  -- what may stand where is typing's; blanks inside the brackets of a singular query are the
+  -- project's own choice
+  pub ReadsOperand : Operand → List ℕ → Type 0
+  ReadsOperand (literal l) t = IsLiteral l t
+  ReadsOperand (queried q) t = Reads q t
+  ReadsOperand (called c) t = ReadsCall c t
 
   -- a name with `(` at once after it (section 2.4)
   pub ReadsCall : Call → List ℕ → Type 0
@@ -183,7 +181,5 @@ abbrev mutual
 
   -- a literal, a query or a call that stands alone is that, and all else is a logical expression
   pub ReadsArgument : Argument → List ℕ → Type 0
-  ReadsArgument (literal_argument l) t = IsLiteral l t
-  ReadsArgument (query_argument q) t = Reads q t
-  ReadsArgument (call_argument c) t = ReadsCall c t
+  ReadsArgument (operand o) t = ReadsOperand o t
   ReadsArgument (logical_argument e) t = (StandsAlone e → ⊥) × ReadsOr e t

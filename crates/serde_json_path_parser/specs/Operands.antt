@@ -1,18 +1,6 @@
--- What a filter compares or tests: a literal, a query or a call, which is read before its use is
--- known; and what decides how it may be used.
+-- What decides how an operand may be used, which is read before its use is known.
 use Rattle.std.specs.Prelude.{ℕ, ◌+◌, ◌%◌, ◌==◌, ◌||◌, Bool, true, false, ℤ, pos, negsuc, List, [], Option, Some}
-use Rattle.serde_json_path_parser.specs.Imports.{calls_of, calls_from, is_singular, Query, Call, Argument, literal_argument, query_argument, call_argument, logical_argument, Literal, number, result_kind, Kind, of_value, of_nodes, of_logical, Signature}
-
-pub data Operand : Type 0 where
-  a_literal : Literal → Operand
-  a_query : Query → Operand
-  a_call : Call → Operand
-
--- the calls that an operand makes
-abbrev pub calls_in_operand : Operand → List Call
-calls_in_operand (a_literal l) = []
-calls_in_operand (a_query q) = calls_of q
-calls_in_operand (a_call c) = calls_from c
+use Rattle.serde_json_path_parser.specs.Imports.{is_singular, literal, queried, called, Argument, operand, logical_argument, Literal, number, result_kind, Kind, of_value, of_nodes, of_logical, Signature}
 
 -- ---- results (section 2.4.3)
 
@@ -45,10 +33,10 @@ is_value_literal _ = true
 
 -- the argument, whose parts are well-typed, suits a parameter of that type
 abbrev pub suits : (List ℕ → Option Signature) → Argument → Kind → Bool
-suits signature (literal_argument l) of_value = is_value_literal l
-suits signature (literal_argument l) _ = false
-suits signature (query_argument q) of_value = is_singular q
-suits signature (query_argument q) _ = true
-suits signature (call_argument c) kind = takes_result kind (result_kind signature c)
+suits signature (operand (literal l)) of_value = is_value_literal l
+suits signature (operand (literal l)) _ = false
+suits signature (operand (queried q)) of_value = is_singular q
+suits signature (operand (queried q)) _ = true
+suits signature (operand (called c)) kind = takes_result kind (result_kind signature c)
 suits signature (logical_argument e) of_logical = true
 suits signature (logical_argument e) _ = false

@@ -1,7 +1,6 @@
 -- Equality of parts, of any kind and one by one.
-use Rattle.serde_json_path_syntax.proofs.Words.{◌≡◌, ◌≢◌, ◌≤◌, ◌⊎◌, List, [], ◌∷◌, length, Bool, true, false, ◌&&◌, refl, sym, ap, ◌∙◌, arith, length-map, branch_in, branches_named, ands_in, arguments_in, call_in, comparable_in, or_in, ors_in, query_in, segments_in, selectors_in, parts_bound, Branch, a_query, a_segment, a_selector, an_or, an_and, a_basic, a_comparable, a_call, an_argument, same_branch, same_and, same_arguments, same_call, same_comparable, same_or, same_query, same_segments, same_selectors, Part, each_is, is_and, is_argument, is_basic, is_call, is_comparable, is_or, is_query, is_segment, is_selector}
+use Rattle.serde_json_path_syntax.proofs.Words.{◌≡◌, ◌≢◌, ◌≤◌, ◌⊎◌, List, [], ◌∷◌, length, Bool, true, false, ◌&&◌, refl, sym, ap, ◌∙◌, arith, length-map, branch_in, branches_named, ands_in, arguments_in, call_in, operand_in, or_in, ors_in, query_in, segments_in, selectors_in, parts_bound, Branch, a_query, a_segment, a_selector, an_or, an_and, a_basic, an_operand, a_call, same_branch, same_and, same_arguments, same_call, same_operand, same_or, same_query, same_segments, same_selectors, Part, each_is, is_and, is_argument, is_basic, is_call, is_comparable, is_or, is_query, is_segment, is_selector, is_tested}
 use Rattle.std.specs.Cmp.Lexicographic.{pointwise, unequal}
-use Rattle.serde_json_path_syntax.proofs.Tree.NamedParts.{query_of_singular}
 
 -- ---- parts of two trees that are compared one by one
 
@@ -44,9 +43,13 @@ pub or_same : (p q : Branch) → is_or p ≡ true → is_or q ≡ true → same_
 or_same (an_or a) (an_or b) h g = refl
 or_same _ _ h g = absurd cc
 
-pub comparable_same : (p q : Branch) → is_comparable p ≡ true → is_comparable q ≡ true → same_branch p q ≡ same_comparable (comparable_in p) (comparable_in q)
-comparable_same (a_comparable a) (a_comparable b) h g = refl
+pub comparable_same : (p q : Branch) → is_comparable p ≡ true → is_comparable q ≡ true → same_branch p q ≡ same_operand (operand_in p) (operand_in q)
+comparable_same (an_operand a) (an_operand b) h g = refl
 comparable_same _ _ h g = absurd cc
+
+pub tested_same : (p q : Branch) → is_tested p ≡ true → is_tested q ≡ true → same_branch p q ≡ same_operand (operand_in p) (operand_in q)
+tested_same (an_operand a) (an_operand b) h g = refl
+tested_same _ _ h g = absurd cc
 
 pub call_same : (p q : Branch) → is_call p ≡ true → is_call q ≡ true → same_branch p q ≡ same_call (call_in p) (call_in q)
 call_same (a_call a) (a_call b) h g = refl
@@ -76,11 +79,12 @@ ands_same _ _ h g = cc
 
 pub arguments_same : (xs ys : List Branch) → each_is is_argument xs ≡ true → each_is is_argument ys ≡ true → pointwise same_branch xs ys ≡ same_arguments (arguments_in xs) (arguments_in ys)
 arguments_same [] [] h g = refl
-arguments_same (an_argument a ∷ xs) (an_argument b ∷ ys) h g = ap (λ rest. same_branch (an_argument a) (an_argument b) && rest) (arguments_same xs ys h g)
+arguments_same (an_operand a ∷ xs) (an_operand b ∷ ys) h g = ap (λ rest. same_branch (an_operand a) (an_operand b) && rest) (arguments_same xs ys h g)
+arguments_same (an_or a ∷ xs) (an_or b ∷ ys) h g = ap (λ rest. same_branch (an_or a) (an_or b) && rest) (arguments_same xs ys h g)
 arguments_same _ _ h g = cc
 
 -- what the parts that are left are the same by
 pub ruleset of_parts = (uneven, all_left, unlike_next, none_left)
 
 -- what the trees of branches are the same by
-pub ruleset of_kinds = (query_of_singular, query_same, or_same, comparable_same, call_same, segments_same, selectors_same, ors_same, ands_same, arguments_same)
+pub ruleset of_kinds = (query_same, or_same, comparable_same, tested_same, call_same, segments_same, selectors_same, ors_same, ands_same, arguments_same)

@@ -1,10 +1,10 @@
 -- What is printed of a part of any kind.
-use Rattle.serde_json_path_syntax.proofs.Words.{◌≡◌, ◌≢◌, ◌∙◌, ℕ, zero, suc, ◌+◌, ◌-◌, ◌*◌, ◌/◌, ◌%◌, ◌<◌, ℤ, pos, negsuc, List, [], ◌++◌, codes, true, false, refl, sym, ap, append_assoc, arith, ◌≤◌, ◌∷◌, length, map, take, get_or, ints, decimal, HasWritten, IsPlainFormatter, amount_text, fraction_digits, number_text, query_text, joined, branch_text, and_text, and_texts, argument_text, argument_texts, basic_text, basic_texts, call_text, comparable_text, or_text, segment_text, segments_text, selector_text, selector_texts, has_written_append, has_written_of_eq, flat_map_more, map_more, take_all, branch_in, branches_named, ands_in, arguments_in, call_in, comparable_in, or_in, ors_in, query_in, segments_in, selectors_in, Branch, a_query, a_segment, a_selector, an_or, an_and, a_basic, a_comparable, a_call, an_argument, Part, each_is, is_and, is_argument, is_basic, is_call, is_comparable, is_or, is_query, is_segment, is_selector}
+use Rattle.serde_json_path_syntax.proofs.Words.{◌≡◌, ◌≢◌, ◌∙◌, ℕ, zero, suc, ◌+◌, ◌-◌, ◌*◌, ◌/◌, ◌%◌, ◌<◌, ℤ, pos, negsuc, List, [], ◌++◌, codes, true, false, refl, sym, ap, append_assoc, arith, ◌≤◌, ◌∷◌, length, map, take, get_or, ints, decimal, HasWritten, IsPlainFormatter, amount_text, fraction_digits, number_text, query_text, joined, branch_text, and_text, and_texts, argument_texts, basic_text, basic_texts, call_text, operand_text, or_text, segment_text, segments_text, selector_text, selector_texts, has_written_append, has_written_of_eq, flat_map_more, map_more, take_all, branch_in, branches_named, ands_in, arguments_in, call_in, operand_in, or_in, ors_in, query_in, segments_in, selectors_in, Branch, a_query, a_segment, a_selector, an_or, an_and, a_basic, an_operand, a_call, Part, each_is, is_and, is_argument, is_basic, is_call, is_operand, is_or, is_query, is_segment, is_selector}
 use lib.Signed.{lt_z}
 use Rattle.std.proofs.Math.IntN.{nat_abs}
 use Rattle.std.specs.declared.fmt.Formatter.{Formatter}
 use Rattle.std.specs.List.{flat_map}
-use Rattle.serde_json_path_syntax.proofs.Tree.NamedParts.{one_is, others, others-bound, others-cons, others_are, query_of_singular, within_get}
+use Rattle.serde_json_path_syntax.proofs.Tree.NamedParts.{one_is, others, others-bound, others-cons, operand_of_comparable, operand_of_tested, others_are, within_get}
 
 -- ---- the digits of a fraction, one after another; numbers with a sign and without
 
@@ -92,9 +92,9 @@ pub text_of_or : (p : Branch) → is_or p ≡ true → branch_text p ≡ or_text
 text_of_or (an_or e) h = refl
 text_of_or _ h = absurd cc
 
-pub text_of_comparable : (p : Branch) → is_comparable p ≡ true → branch_text p ≡ comparable_text (comparable_in p)
-text_of_comparable (a_comparable c) h = refl
-text_of_comparable _ h = absurd cc
+pub text_of_operand : (p : Branch) → is_operand p ≡ true → branch_text p ≡ operand_text (operand_in p)
+text_of_operand (an_operand o) h = refl
+text_of_operand _ h = absurd cc
 
 pub text_of_call : (p : Branch) → is_call p ≡ true → branch_text p ≡ call_text (call_in p)
 text_of_call (a_call c) h = refl
@@ -131,10 +131,11 @@ text_of_basics [] h = refl
 text_of_basics (p ∷ ps) h = ap (joined (codes " && ")) (texts_of_basics (p ∷ ps) h)
 
 pub texts_of_arguments : (ps : List Branch) → each_is is_argument ps ≡ true → map branch_text ps ≡ argument_texts (arguments_in ps)
-texts_of_arguments (an_argument a ∷ ps) h = ap (λ ts. argument_text a ∷ ts) (texts_of_arguments ps h)
+texts_of_arguments (an_operand o ∷ ps) h = ap (λ ts. operand_text o ∷ ts) (texts_of_arguments ps h)
+texts_of_arguments (an_or e ∷ ps) h = ap (λ ts. or_text e ∷ ts) (texts_of_arguments ps h)
 texts_of_arguments _ h = cc
 
-pub ruleset of_kinds = (query_of_singular, text_of_query, text_of_or, text_of_comparable, text_of_call, text_of_segments, texts_of_selectors, text_of_ands, text_of_basics, texts_of_arguments)
+pub ruleset of_kinds = (operand_of_comparable, operand_of_tested, text_of_query, text_of_or, text_of_operand, text_of_call, text_of_segments, texts_of_selectors, text_of_ands, text_of_basics, texts_of_arguments)
 
 -- several parts, one after another
 pub ruleset of_parts = (nothing_printed, printed_more, printed_apart, all_printed, text_of_segments, one_is, others-bound, others_are, within_get)

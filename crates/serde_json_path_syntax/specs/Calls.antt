@@ -1,7 +1,7 @@
 -- The calls that a query makes, those in arguments too: the inner ones of a call before itself.
 use Rattle.std.specs.Prelude.{ℕ, List, [], ◌∷◌, ◌++◌, map}
 use Rattle.serde_json_path_syntax.specs.Lists.{IsIn}
-use Rattle.serde_json_path_syntax.specs.Tree.{Query, query, Segments, no_segments, segment, Segment, dot_name, dot_wildcard, long_hand, Selectors, no_selectors, selector, Selector, name, wildcard, index, slice, filter, LogicalOr, no_or, or, LogicalAnd, no_and, and, Basic, paren, not_paren, relation, exist, not_exist, test, not_test, Comparable, literal, singular, called, Call, call, Arguments, no_arguments, argument, Argument, literal_argument, query_argument, call_argument, logical_argument}
+use Rattle.serde_json_path_syntax.specs.Tree.{Query, query, Segments, no_segments, segment, Segment, dot_name, dot_wildcard, long_hand, Selectors, no_selectors, selector, Selector, name, wildcard, index, slice, filter, LogicalOr, no_or, or, LogicalAnd, no_and, and, Basic, paren, relation, test, Operand, literal, queried, called, Call, call, Arguments, no_arguments, argument, Argument, operand, logical_argument}
 
 -- the name that is called, and the arguments
 abbrev pub name_of : Call → List ℕ
@@ -43,18 +43,14 @@ abbrev mutual
   calls_in_and (and b more) = calls_in_basic b ++ calls_in_and more
 
   pub calls_in_basic : Basic → List Call
-  calls_in_basic (paren e) = calls_in_or e
-  calls_in_basic (not_paren e) = calls_in_or e
-  calls_in_basic (relation a op b) = calls_in_comparable a ++ calls_in_comparable b
-  calls_in_basic (exist q) = calls_of q
-  calls_in_basic (not_exist q) = calls_of q
-  calls_in_basic (test c) = calls_from c
-  calls_in_basic (not_test c) = calls_from c
+  calls_in_basic (paren negated e) = calls_in_or e
+  calls_in_basic (relation a op b) = calls_in_operand a ++ calls_in_operand b
+  calls_in_basic (test negated o) = calls_in_operand o
 
-  pub calls_in_comparable : Comparable → List Call
-  calls_in_comparable (literal l) = []
-  calls_in_comparable (singular q) = calls_of q
-  calls_in_comparable (called c) = calls_from c
+  pub calls_in_operand : Operand → List Call
+  calls_in_operand (literal l) = []
+  calls_in_operand (queried q) = calls_of q
+  calls_in_operand (called c) = calls_from c
 
   -- those in its arguments, and the call itself
   pub calls_from : Call → List Call
@@ -65,9 +61,7 @@ abbrev mutual
   calls_in_arguments (argument a more) = calls_in_argument a ++ calls_in_arguments more
 
   pub calls_in_argument : Argument → List Call
-  calls_in_argument (literal_argument l) = []
-  calls_in_argument (query_argument q) = calls_of q
-  calls_in_argument (call_argument c) = calls_from c
+  calls_in_argument (operand o) = calls_in_operand o
   calls_in_argument (logical_argument e) = calls_in_or e
 
 -- the names of some calls

@@ -1,6 +1,6 @@
 -- How many filters, parentheses and calls stand within each other at most: the measure of this project's own limit.
 use Rattle.std.specs.Prelude.{ℕ, ◌+◌, max}
-use Rattle.serde_json_path_syntax.specs.Tree.{Query, query, Segments, no_segments, segment, Segment, dot_name, dot_wildcard, long_hand, Selectors, no_selectors, selector, Selector, name, wildcard, index, slice, filter, LogicalOr, no_or, or, LogicalAnd, no_and, and, Basic, paren, not_paren, relation, exist, not_exist, test, not_test, Comparable, literal, singular, called, Call, call, Arguments, no_arguments, argument, Argument, literal_argument, query_argument, call_argument, logical_argument}
+use Rattle.serde_json_path_syntax.specs.Tree.{Query, query, Segments, no_segments, segment, Segment, dot_name, dot_wildcard, long_hand, Selectors, no_selectors, selector, Selector, name, wildcard, index, slice, filter, LogicalOr, no_or, or, LogicalAnd, no_and, and, Basic, paren, relation, test, Operand, literal, queried, called, Call, call, Arguments, no_arguments, argument, Argument, operand, logical_argument}
 
 abbrev mutual
   pub depth : Query → ℕ
@@ -37,18 +37,14 @@ abbrev mutual
 
   -- a parenthesis counts
   pub basic_depth : Basic → ℕ
-  basic_depth (paren e) = or_depth e + 1
-  basic_depth (not_paren e) = or_depth e + 1
-  basic_depth (relation a op b) = max (comparable_depth a) (comparable_depth b)
-  basic_depth (exist q) = depth q
-  basic_depth (not_exist q) = depth q
-  basic_depth (test c) = call_depth c
-  basic_depth (not_test c) = call_depth c
+  basic_depth (paren negated e) = or_depth e + 1
+  basic_depth (relation a op b) = max (operand_depth a) (operand_depth b)
+  basic_depth (test negated o) = operand_depth o
 
-  pub comparable_depth : Comparable → ℕ
-  comparable_depth (literal l) = 0
-  comparable_depth (singular q) = depth q
-  comparable_depth (called c) = call_depth c
+  pub operand_depth : Operand → ℕ
+  operand_depth (literal l) = 0
+  operand_depth (queried q) = depth q
+  operand_depth (called c) = call_depth c
 
   -- a call counts
   pub call_depth : Call → ℕ
@@ -59,7 +55,5 @@ abbrev mutual
   arguments_depth (argument a more) = max (argument_depth a) (arguments_depth more)
 
   pub argument_depth : Argument → ℕ
-  argument_depth (literal_argument l) = 0
-  argument_depth (query_argument q) = depth q
-  argument_depth (call_argument c) = call_depth c
+  argument_depth (operand o) = operand_depth o
   argument_depth (logical_argument e) = or_depth e

@@ -1,15 +1,15 @@
 -- The trees of a vector of nodes, each of which names earlier ones.
-use Rattle.std.specs.Prelude.{ℕ, ◌<◌, ◌≤◌, List, [], ◌∷◌, ◌++◌, length, map, flat_map, slice_index_or, string_bytes, Option, Some, None}
+use Rattle.std.specs.Prelude.{ℕ, ◌<◌, ◌≤◌, false, List, [], ◌∷◌, ◌++◌, length, map, flat_map, slice_index_or, string_bytes, Option, Some, None}
 use Rattle.serde_json.specs.Data.{Data, boolean, string}
 use Rattle.serde_json.specs.View.{view}
-use Rattle.serde_json_path_syntax.specs.Tree.{QueryKind, root, current, SegmentKind, child, descendant, Query, query, Segments, no_segments, segment, Segment, dot_name, dot_wildcard, long_hand, Selectors, no_selectors, selector, Selector, name, wildcard, index, slice, filter, LogicalOr, no_or, or, LogicalAnd, no_and, and, Basic, paren, not_paren, relation, exist, not_exist, test, not_test, Comparable, literal, singular, called, Call, call, Arguments, no_arguments, argument, Argument, literal_argument, query_argument, call_argument, logical_argument, Literal, text, truth, null}
+use Rattle.serde_json_path_syntax.specs.Tree.{QueryKind, root, current, SegmentKind, child, descendant, Query, query, Segments, no_segments, segment, Segment, dot_name, dot_wildcard, long_hand, Selectors, no_selectors, selector, Selector, name, wildcard, index, slice, filter, LogicalOr, no_or, or, LogicalAnd, no_and, and, Basic, paren, relation, test, Operand, literal, queried, called, Call, call, Arguments, no_arguments, argument, Argument, operand, logical_argument, Literal, text, truth, null}
 use Rattle.serde_json_path_syntax.specs.Tree as tree
 use Rattle.serde_json_path_syntax.specs.SliceView.{slice_view}
 use Rattle.serde_json_path_syntax.specs.Literals.{number_amount, operator_view}
 use Rattle.serde_json_path_functions.specs.Functions.{Signature}
 use Rattle.serde_json_path_functions.specs.Terms.{signature_view}
 use Rattle.serde_json_path_syntax.specs.PartBounds.{parts_bound}
-use Rattle.serde_json_path_syntax.specs.Branch.{Branch, a_query, a_segment, a_selector, an_or, an_and, a_basic, a_comparable, a_call, an_argument}
+use Rattle.serde_json_path_syntax.specs.Branch.{Branch, a_query, a_segment, a_selector, an_or, an_and, a_basic, an_operand, a_call}
 use Rattle.serde_json_path_syntax.specs.declared.node.Node.{Node}
 use Rattle.serde_json_path_syntax.specs.declared.node.Node.TheVariants as node
 use Rattle.serde_json_path_syntax.specs.declared.node.Segment as segments
@@ -17,13 +17,11 @@ use Rattle.serde_json_path_syntax.specs.declared.node.Segment.TheVariants.{DotNa
 use Rattle.serde_json_path_syntax.specs.declared.node.Selector as selectors
 use Rattle.serde_json_path_syntax.specs.declared.node.Selector.TheVariants as one
 use Rattle.serde_json_path_syntax.specs.declared.node.Basic as basics
-use Rattle.serde_json_path_syntax.specs.declared.node.Basic.TheVariants.{Paren, NotParen, Relation, Exist, NotExist, Test, NotTest}
-use Rattle.serde_json_path_syntax.specs.declared.node.Comparable as comparables
-use Rattle.serde_json_path_syntax.specs.declared.node.Comparable.TheVariants as side
+use Rattle.serde_json_path_syntax.specs.declared.node.Basic.TheVariants.{Paren, Relation, Test}
+use Rattle.serde_json_path_syntax.specs.declared.node.Operand as operands
+use Rattle.serde_json_path_syntax.specs.declared.node.Operand.TheVariants as one_operand
 use Rattle.serde_json_path_syntax.specs.declared.literal.LiteralValue as held
 use Rattle.serde_json_path_syntax.specs.declared.literal.LiteralValue.TheVariants.{Value, Number}
-use Rattle.serde_json_path_syntax.specs.declared.node.Argument as given
-use Rattle.serde_json_path_syntax.specs.declared.node.Argument.TheVariants as given_as
 use Rattle.serde_json_path_syntax.specs.declared.node.Part.{Part}
 use Rattle.serde_json_path_syntax.specs.declared.node.QueryKind as kind
 use Rattle.serde_json_path_syntax.specs.declared.node.QueryKind.TheVariants.{Root, Current}
@@ -75,19 +73,20 @@ and_in _ = no_and
 
 abbrev pub basic_in : Branch → Basic
 basic_in (a_basic b) = b
-basic_in _ = paren no_or
+basic_in _ = paren false no_or
 
-abbrev pub comparable_in : Branch → Comparable
-comparable_in (a_comparable c) = c
-comparable_in _ = literal null
+abbrev pub operand_in : Branch → Operand
+operand_in (an_operand o) = o
+operand_in _ = literal null
 
 abbrev pub call_in : Branch → Call
 call_in (a_call c) = c
 call_in _ = call [] no_arguments
 
+-- an argument is an operand or a logical expression
 abbrev pub argument_in : Branch → Argument
-argument_in (an_argument a) = a
-argument_in _ = literal_argument null
+argument_in (an_or e) = logical_argument e
+argument_in branch = operand (operand_in branch)
 
 abbrev pub segments_in : List Branch → Segments
 segments_in [] = no_segments
@@ -141,13 +140,9 @@ selector_of earlier (one.Slice s) = slice (slice_view s)
 selector_of earlier (one.Filter part) = filter (or_in (branch_in earlier part.number))
 
 abbrev pub basic_of : List Branch → basics.Basic → Basic
-basic_of earlier (Paren part) = paren (or_in (branch_in earlier part.number))
-basic_of earlier (NotParen part) = not_paren (or_in (branch_in earlier part.number))
-basic_of earlier (Relation left operator right) = relation (comparable_in (branch_in earlier left.number)) (operator_view operator) (comparable_in (branch_in earlier right.number))
-basic_of earlier (Exist part) = exist (query_in (branch_in earlier part.number))
-basic_of earlier (NotExist part) = not_exist (query_in (branch_in earlier part.number))
-basic_of earlier (Test part) = test (call_in (branch_in earlier part.number))
-basic_of earlier (NotTest part) = not_test (call_in (branch_in earlier part.number))
+basic_of earlier (Paren negated part) = paren negated (or_in (branch_in earlier part.number))
+basic_of earlier (Relation left operator right) = relation (operand_in (branch_in earlier left.number)) (operator_view operator) (operand_in (branch_in earlier right.number))
+basic_of earlier (Test negated part) = test negated (operand_in (branch_in earlier part.number))
 
 -- the literal that writes a text, a truth value or null; no builder makes one of any other value
 abbrev pub literal_of : Data → Literal
@@ -160,16 +155,10 @@ abbrev pub held_view : held.LiteralValue → Literal
 held_view (Value v) = literal_of (view v)
 held_view (Number n) = tree.number (number_amount n)
 
-abbrev pub comparable_of : List Branch → comparables.Comparable → Comparable
-comparable_of earlier (side.Literal l) = literal (held_view l)
-comparable_of earlier (side.Singular part) = singular (query_in (branch_in earlier part.number))
-comparable_of earlier (side.Called part) = called (call_in (branch_in earlier part.number))
-
-abbrev pub argument_of : List Branch → given.Argument → Argument
-argument_of earlier (given_as.Literal l) = literal_argument (held_view l)
-argument_of earlier (given_as.Query part) = query_argument (query_in (branch_in earlier part.number))
-argument_of earlier (given_as.Call part) = call_argument (call_in (branch_in earlier part.number))
-argument_of earlier (given_as.Logical part) = logical_argument (or_in (branch_in earlier part.number))
+abbrev pub operand_of : List Branch → operands.Operand → Operand
+operand_of earlier (one_operand.Literal l) = literal (held_view l)
+operand_of earlier (one_operand.Query part) = queried (query_in (branch_in earlier part.number))
+operand_of earlier (one_operand.Call part) = called (call_in (branch_in earlier part.number))
 
 -- the branch that a node makes of earlier ones
 abbrev pub branch_of : List Branch → Node → Branch
@@ -179,9 +168,8 @@ branch_of earlier (node.Selector sel) = a_selector (selector_of earlier sel)
 branch_of earlier (node.LogicalOr parts) = an_or (ors_in (branches_named earlier (parts_in parts)))
 branch_of earlier (node.LogicalAnd parts) = an_and (ands_in (branches_named earlier (parts_in parts)))
 branch_of earlier (node.Basic b) = a_basic (basic_of earlier b)
-branch_of earlier (node.Comparable c) = a_comparable (comparable_of earlier c)
+branch_of earlier (node.Operand o) = an_operand (operand_of earlier o)
 branch_of earlier (node.Call k s parts) = a_call (call (string_bytes k) (arguments_in (branches_named earlier parts.items)))
-branch_of earlier (node.Argument a) = an_argument (argument_of earlier a)
 
 abbrev pub branches_from : List Branch → List Node → List Branch
 branches_from earlier [] = earlier
@@ -208,8 +196,8 @@ and_at nodes part = and_in (branch_at nodes part.number)
 abbrev pub basic_at : List Node → Part → Basic
 basic_at nodes part = basic_in (branch_at nodes part.number)
 
-abbrev pub comparable_at : List Node → Part → Comparable
-comparable_at nodes part = comparable_in (branch_at nodes part.number)
+abbrev pub operand_at : List Node → Part → Operand
+operand_at nodes part = operand_in (branch_at nodes part.number)
 
 abbrev pub call_at : List Node → Part → Call
 call_at nodes part = call_in (branch_at nodes part.number)
@@ -249,24 +237,14 @@ selector_parts (one.Index i) = []
 selector_parts (one.Slice s) = []
 
 abbrev pub basic_parts : basics.Basic → List Part
-basic_parts (Paren part) = part ∷ []
-basic_parts (NotParen part) = part ∷ []
+basic_parts (Paren negated part) = part ∷ []
 basic_parts (Relation left operator right) = left ∷ right ∷ []
-basic_parts (Exist part) = part ∷ []
-basic_parts (NotExist part) = part ∷ []
-basic_parts (Test part) = part ∷ []
-basic_parts (NotTest part) = part ∷ []
+basic_parts (Test negated part) = part ∷ []
 
-abbrev pub comparable_parts : comparables.Comparable → List Part
-comparable_parts (side.Literal l) = []
-comparable_parts (side.Singular part) = part ∷ []
-comparable_parts (side.Called part) = part ∷ []
-
-abbrev pub argument_parts : given.Argument → List Part
-argument_parts (given_as.Literal l) = []
-argument_parts (given_as.Query part) = part ∷ []
-argument_parts (given_as.Call part) = part ∷ []
-argument_parts (given_as.Logical part) = part ∷ []
+abbrev pub operand_parts : operands.Operand → List Part
+operand_parts (one_operand.Literal l) = []
+operand_parts (one_operand.Query part) = part ∷ []
+operand_parts (one_operand.Call part) = part ∷ []
 
 -- the parts that a node names
 abbrev pub parts_named : Node → List Part
@@ -276,9 +254,8 @@ parts_named (node.Selector sel) = selector_parts sel
 parts_named (node.LogicalOr parts) = parts_in parts
 parts_named (node.LogicalAnd parts) = parts_in parts
 parts_named (node.Basic b) = basic_parts b
-parts_named (node.Comparable c) = comparable_parts c
+parts_named (node.Operand o) = operand_parts o
 parts_named (node.Call k s parts) = parts.items
-parts_named (node.Argument a) = argument_parts a
 
 -- the node names numbers below the bound alone
 abbrev pub NamesBelow : ℕ → Node → Type 0

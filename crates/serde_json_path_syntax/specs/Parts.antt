@@ -1,9 +1,9 @@
 -- The parts that a builder has made and the finished tree, as contracts see them.
 use Rattle.std.specs.Prelude.{◌≡◌, ◌<◌, ℕ, List, [], ◌∷◌, length}
-use Rattle.serde_json_path_syntax.specs.Tree.{Query, Segments, no_segments, segment, Selectors, no_selectors, selector, LogicalOr, no_or, or, LogicalAnd, no_and, and, Arguments, no_arguments, argument}
+use Rattle.serde_json_path_syntax.specs.Tree.{Query, Segments, no_segments, segment, Selectors, no_selectors, selector, LogicalOr, no_or, or, LogicalAnd, no_and, and, Arguments, no_arguments, argument, Argument, operand, logical_argument}
 use Rattle.serde_json_path_functions.specs.Functions.{Signature}
 use Rattle.serde_json_path_syntax.specs.Used.{each_once}
-use Rattle.serde_json_path_syntax.specs.Branch.{Branch, a_segment, a_selector, an_and, a_basic, an_argument}
+use Rattle.serde_json_path_syntax.specs.Branch.{Branch, a_segment, a_selector, an_or, an_and, a_basic, an_operand}
 use Rattle.serde_json_path_syntax.specs.Flat.{calls_among, branch_at, query_at}
 use Rattle.serde_json_path_syntax.specs.declared.node.Node.{Node}
 use Rattle.serde_json_path_syntax.specs.declared.node.Part.{Part}
@@ -42,10 +42,14 @@ abbrev pub and_branches : LogicalAnd → List Branch
 and_branches no_and = []
 and_branches (and e more) = a_basic e ∷ and_branches more
 
--- the branches of arguments
+-- the branches of arguments: each is an operand or a logical expression
+abbrev pub argument_branch : Argument → Branch
+argument_branch (operand o) = an_operand o
+argument_branch (logical_argument e) = an_or e
+
 abbrev pub argument_branches : Arguments → List Branch
 argument_branches no_arguments = []
-argument_branches (argument a more) = an_argument a ∷ argument_branches more
+argument_branches (argument a more) = argument_branch a ∷ argument_branches more
 
 -- the parts stand for the segments, one for each
 abbrev pub ArePartsOf : SyntaxBuilder → List Part → Segments → Type 0

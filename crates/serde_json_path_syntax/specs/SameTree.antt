@@ -4,8 +4,8 @@ use Rattle.std.proofs.Math.Bool.{beq}
 use Rattle.std.specs.Option.{option_eq}
 use Rattle.std.specs.Ordering.{int_eq}
 use Rattle.std.specs.Str.{bytes_eq}
-use Rattle.serde_json_path_syntax.specs.Branch.{Branch, a_query, a_segment, a_selector, an_or, an_and, a_basic, a_comparable, a_call, an_argument}
-use Rattle.serde_json_path_syntax.specs.Tree.{QueryKind, root, current, SegmentKind, child, descendant, Slice, Operator, equal, not_equal, less, less_or_equal, greater, greater_or_equal, Literal, text, number, truth, null, Query, query, Segments, no_segments, segment, Segment, dot_name, dot_wildcard, long_hand, Selectors, no_selectors, selector, Selector, name, wildcard, index, slice, filter, LogicalOr, no_or, or, LogicalAnd, no_and, and, Basic, paren, not_paren, relation, exist, not_exist, test, not_test, Comparable, literal, singular, called, Call, call, Arguments, no_arguments, argument, Argument, literal_argument, query_argument, call_argument, logical_argument}
+use Rattle.serde_json_path_syntax.specs.Branch.{Branch, a_query, a_segment, a_selector, an_or, an_and, a_basic, an_operand, a_call}
+use Rattle.serde_json_path_syntax.specs.Tree.{QueryKind, root, current, SegmentKind, child, descendant, Slice, Operator, equal, not_equal, less, less_or_equal, greater, greater_or_equal, Literal, text, number, truth, null, Query, query, Segments, no_segments, segment, Segment, dot_name, dot_wildcard, long_hand, Selectors, no_selectors, selector, Selector, name, wildcard, index, slice, filter, LogicalOr, no_or, or, LogicalAnd, no_and, and, Basic, paren, relation, test, Operand, literal, queried, called, Call, call, Arguments, no_arguments, argument, Argument, operand, logical_argument}
 
 abbrev pub same_query_kind : QueryKind → QueryKind → Bool
 same_query_kind root root = true
@@ -75,20 +75,16 @@ abbrev mutual
   same_and _ _ = false
 
   pub same_basic : Basic → Basic → Bool
-  same_basic (paren a) (paren b) = same_or a b
-  same_basic (not_paren a) (not_paren b) = same_or a b
-  same_basic (relation a op b) (relation c other d) = (same_operator op other && same_comparable a c) && same_comparable b d
-  same_basic (exist a) (exist b) = same_query a b
-  same_basic (not_exist a) (not_exist b) = same_query a b
-  same_basic (test a) (test b) = same_call a b
-  same_basic (not_test a) (not_test b) = same_call a b
+  same_basic (paren n a) (paren m b) = beq n m && same_or a b
+  same_basic (relation a op b) (relation c other d) = (same_operator op other && same_operand a c) && same_operand b d
+  same_basic (test n a) (test m b) = beq n m && same_operand a b
   same_basic _ _ = false
 
-  pub same_comparable : Comparable → Comparable → Bool
-  same_comparable (literal a) (literal b) = same_literal a b
-  same_comparable (singular a) (singular b) = same_query a b
-  same_comparable (called a) (called b) = same_call a b
-  same_comparable _ _ = false
+  pub same_operand : Operand → Operand → Bool
+  same_operand (literal a) (literal b) = same_literal a b
+  same_operand (queried a) (queried b) = same_query a b
+  same_operand (called a) (called b) = same_call a b
+  same_operand _ _ = false
 
   pub same_call : Call → Call → Bool
   same_call (call f args) (call g more) = bytes_eq f g && same_arguments args more
@@ -99,9 +95,7 @@ abbrev mutual
   same_arguments _ _ = false
 
   pub same_argument : Argument → Argument → Bool
-  same_argument (literal_argument a) (literal_argument b) = same_literal a b
-  same_argument (query_argument a) (query_argument b) = same_query a b
-  same_argument (call_argument a) (call_argument b) = same_call a b
+  same_argument (operand a) (operand b) = same_operand a b
   same_argument (logical_argument a) (logical_argument b) = same_or a b
   same_argument _ _ = false
 
@@ -113,7 +107,6 @@ same_branch (a_selector s) (a_selector t) = same_selector s t
 same_branch (an_or a) (an_or b) = same_or a b
 same_branch (an_and a) (an_and b) = same_and a b
 same_branch (a_basic a) (a_basic b) = same_basic a b
-same_branch (a_comparable a) (a_comparable b) = same_comparable a b
+same_branch (an_operand a) (an_operand b) = same_operand a b
 same_branch (a_call a) (a_call b) = same_call a b
-same_branch (an_argument a) (an_argument b) = same_argument a b
 same_branch _ _ = false

@@ -1,10 +1,10 @@
 -- The text in which a query is printed, as the bytes of its UTF-8.
-use Rattle.std.specs.Prelude.{ℕ, zero, suc, ◌*◌, ◌/◌, ◌%◌, ◌==◌, ℤ, pos, negsuc, List, [], ◌∷◌, ◌++◌, true, false, Option, Some, None, codes, if◌then◌else◌}
+use Rattle.std.specs.Prelude.{ℕ, zero, suc, ◌*◌, ◌/◌, ◌%◌, ◌==◌, ℤ, pos, negsuc, List, [], ◌∷◌, ◌++◌, Bool, true, false, Option, Some, None, codes, if◌then◌else◌}
 use Rattle.std.specs.List.{flat_map}
 use Rattle.std.specs.Fmt.{decimal, signed_decimal}
 use Rattle.serde_json_path_nodes.specs.Text.{quoted}
-use Rattle.serde_json_path_syntax.specs.Branch.{Branch, a_query, a_segment, a_selector, an_or, an_and, a_basic, a_comparable, a_call, an_argument}
-use Rattle.serde_json_path_syntax.specs.Tree.{Query, query, QueryKind, root, current, Segments, no_segments, segment, SegmentKind, child, descendant, Segment, dot_name, dot_wildcard, long_hand, Selectors, no_selectors, selector, Selector, name, wildcard, index, slice, filter, Slice, LogicalOr, no_or, or, LogicalAnd, no_and, and, Basic, paren, not_paren, relation, exist, not_exist, test, not_test, Comparable, literal, singular, called, Call, call, Arguments, no_arguments, argument, Argument, literal_argument, query_argument, call_argument, logical_argument, Operator, equal, not_equal, less, less_or_equal, greater, greater_or_equal, Literal, text, number, truth, null}
+use Rattle.serde_json_path_syntax.specs.Branch.{Branch, a_query, a_segment, a_selector, an_or, an_and, a_basic, an_operand, a_call}
+use Rattle.serde_json_path_syntax.specs.Tree.{Query, query, QueryKind, root, current, Segments, no_segments, segment, SegmentKind, child, descendant, Segment, dot_name, dot_wildcard, long_hand, Selectors, no_selectors, selector, Selector, name, wildcard, index, slice, filter, Slice, LogicalOr, no_or, or, LogicalAnd, no_and, and, Basic, paren, relation, test, Operand, literal, queried, called, Call, call, Arguments, no_arguments, argument, Argument, operand, logical_argument, Operator, equal, not_equal, less, less_or_equal, greater, greater_or_equal, Literal, text, number, truth, null}
 
 -- the digits of a fraction in billionths, up to the last that is not 0; a fraction has no more than nine
 abbrev pub fraction_digits : ℕ → ℕ → List ℕ
@@ -69,6 +69,11 @@ abbrev pub bracket_dots_of : SegmentKind → List ℕ
 bracket_dots_of child = []
 bracket_dots_of descendant = codes ".."
 
+-- what stands before a parenthesis or a test
+abbrev pub negation_text : Bool → List ℕ
+negation_text true = codes "!"
+negation_text false = []
+
 -- texts, with a separator between each two
 abbrev pub joined : List ℕ → List (List ℕ) → List ℕ
 joined separator [] = []
@@ -115,18 +120,14 @@ abbrev mutual
   basic_texts (and b more) = basic_text b ∷ basic_texts more
 
   pub basic_text : Basic → List ℕ
-  basic_text (paren e) = (codes "(" ++ or_text e) ++ codes ")"
-  basic_text (not_paren e) = (codes "!(" ++ or_text e) ++ codes ")"
-  basic_text (relation a op b) = (((comparable_text a ++ codes " ") ++ operator_text op) ++ codes " ") ++ comparable_text b
-  basic_text (exist q) = query_text q
-  basic_text (not_exist q) = codes "!" ++ query_text q
-  basic_text (test c) = call_text c
-  basic_text (not_test c) = codes "!" ++ call_text c
+  basic_text (paren negated e) = negation_text negated ++ ((codes "(" ++ or_text e) ++ codes ")")
+  basic_text (relation a op b) = (((operand_text a ++ codes " ") ++ operator_text op) ++ codes " ") ++ operand_text b
+  basic_text (test negated o) = negation_text negated ++ operand_text o
 
-  pub comparable_text : Comparable → List ℕ
-  comparable_text (literal l) = literal_text l
-  comparable_text (singular q) = query_text q
-  comparable_text (called c) = call_text c
+  pub operand_text : Operand → List ℕ
+  operand_text (literal l) = literal_text l
+  operand_text (queried q) = query_text q
+  operand_text (called c) = call_text c
 
   pub call_text : Call → List ℕ
   call_text (call f args) = ((f ++ codes "(") ++ joined (codes ", ") (argument_texts args)) ++ codes ")"
@@ -136,9 +137,7 @@ abbrev mutual
   argument_texts (argument a more) = argument_text a ∷ argument_texts more
 
   pub argument_text : Argument → List ℕ
-  argument_text (literal_argument l) = literal_text l
-  argument_text (query_argument q) = query_text q
-  argument_text (call_argument c) = call_text c
+  argument_text (operand o) = operand_text o
   argument_text (logical_argument e) = or_text e
 
 -- the text of a branch of any kind
@@ -149,6 +148,5 @@ branch_text (a_selector sel) = selector_text sel
 branch_text (an_or e) = or_text e
 branch_text (an_and e) = and_text e
 branch_text (a_basic b) = basic_text b
-branch_text (a_comparable c) = comparable_text c
+branch_text (an_operand o) = operand_text o
 branch_text (a_call c) = call_text c
-branch_text (an_argument a) = argument_text a

@@ -76,21 +76,17 @@ mutual
     no_and : LogicalAnd
     and : Basic → LogicalAnd → LogicalAnd
 
-  -- a parenthesis, a comparison, or a test of a query or a call; `!` stands before the negated ones
+  -- a parenthesis, a comparison or a test; `!` stands before a parenthesis or a test that is negated
   pub data Basic : Type 0 where
-    paren : LogicalOr → Basic
-    not_paren : LogicalOr → Basic
-    relation : Comparable → Operator → Comparable → Basic
-    exist : Query → Basic
-    not_exist : Query → Basic
-    test : Call → Basic
-    not_test : Call → Basic
+    paren : Bool → LogicalOr → Basic
+    relation : Operand → Operator → Operand → Basic
+    test : Bool → Operand → Basic
 
-  -- a side of a comparison
-  pub data Comparable : Type 0 where
-    literal : Literal → Comparable
-    singular : Query → Comparable
-    called : Call → Comparable
+  -- what is compared, tested or an argument
+  pub data Operand : Type 0 where
+    literal : Literal → Operand
+    queried : Query → Operand
+    called : Call → Operand
 
   -- a function's name and its arguments
   pub data Call : Type 0 where
@@ -101,9 +97,7 @@ mutual
     argument : Argument → Arguments → Arguments
 
   pub data Argument : Type 0 where
-    literal_argument : Literal → Argument
-    query_argument : Query → Argument
-    call_argument : Call → Argument
+    operand : Operand → Argument
     logical_argument : LogicalOr → Argument
 
 abbrev pub kind_of : Query → QueryKind
@@ -128,3 +122,13 @@ AreSingular (segment descendant seg more) = ⊥
 -- a singular query (RFC 9535, section 2.3.5.1)
 abbrev pub IsSingular : Query → Type 0
 IsSingular q = AreSingular (segments_of q)
+
+-- a side of a comparison: of queries a singular one alone (section 2.3.5.1)
+abbrev pub IsComparable : Operand → Type 0
+IsComparable (queried q) = IsSingular q
+IsComparable _ = Unit {0}
+
+-- what may be tested: a query or a call (section 2.3.5.1)
+abbrev pub IsTested : Operand → Type 0
+IsTested (literal l) = ⊥
+IsTested _ = Unit {0}

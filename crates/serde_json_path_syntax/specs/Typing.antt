@@ -1,7 +1,7 @@
 -- Well-typed queries (RFC 9535, section 2.4.3): each call names a declared function, has one argument for each parameter,
 -- of a form that the parameter takes, and stands where its result may stand.
 use Rattle.std.specs.Prelude.{◌≡◌, ℕ, ℤ, pos, ◌*ℤ◌, List, [], ◌∷◌, ◌⊎◌, Option, Some, option_map}
-use Rattle.serde_json_path_syntax.specs.Tree.{Query, query, Segments, no_segments, segment, Segment, dot_name, dot_wildcard, long_hand, Selectors, no_selectors, selector, Selector, name, wildcard, index, slice, filter, LogicalOr, no_or, or, LogicalAnd, no_and, and, Basic, paren, not_paren, relation, exist, not_exist, test, not_test, Comparable, literal, singular, called, Call, call, Arguments, no_arguments, argument, Argument, literal_argument, query_argument, call_argument, logical_argument, Literal, text, number, truth, null, IsSingular}
+use Rattle.serde_json_path_syntax.specs.Tree.{Query, query, Segments, no_segments, segment, Segment, dot_name, dot_wildcard, long_hand, Selectors, no_selectors, selector, Selector, name, wildcard, index, slice, filter, LogicalOr, no_or, or, LogicalAnd, no_and, and, Basic, paren, relation, test, Operand, literal, queried, called, Call, call, Arguments, no_arguments, argument, Argument, operand, logical_argument, Literal, text, number, truth, null, IsSingular}
 use Rattle.serde_json_path_functions.specs.Functions.{Kind, of_value, of_nodes, of_logical, Signature}
 
 -- a literal that a parameter of type Value takes: by this project's own rule a number is whole
@@ -58,20 +58,16 @@ module _ (signature : List ℕ → Option Signature) where
     IsTypedAnd no_and = Unit {0}
     IsTypedAnd (and b more) = IsTypedBasic b × IsTypedAnd more
 
-    -- a call as a test has a node list or a truth value as its result
+    -- what is tested is what a parameter of type Logical takes: a query, or a call whose result is a node list or a truth value
     pub IsTypedBasic : Basic → Type 0
-    IsTypedBasic (paren e) = IsTypedOr e
-    IsTypedBasic (not_paren e) = IsTypedOr e
+    IsTypedBasic (paren negated e) = IsTypedOr e
     IsTypedBasic (relation a op b) = IsTypedComparable a × IsTypedComparable b
-    IsTypedBasic (exist q) = IsTyped q
-    IsTypedBasic (not_exist q) = IsTyped q
-    IsTypedBasic (test c) = IsTypedCall c × IsTestKind (result_kind c)
-    IsTypedBasic (not_test c) = IsTypedCall c × IsTestKind (result_kind c)
+    IsTypedBasic (test negated o) = IsTypedOperand o of_logical
 
-    -- a call in a comparison has a value as its result
-    pub IsTypedComparable : Comparable → Type 0
+    -- a query in a comparison is singular, and a call there has a value as its result
+    pub IsTypedComparable : Operand → Type 0
     IsTypedComparable (literal l) = Unit {0}
-    IsTypedComparable (singular q) = IsTyped q
+    IsTypedComparable (queried q) = IsTyped q × IsSingular q
     IsTypedComparable (called c) = IsTypedCall c × (result_kind c ≡ Some of_value)
 
     pub IsTypedCall : Call → Type 0
@@ -84,10 +80,14 @@ module _ (signature : List ℕ → Option Signature) where
     AreTypedArguments (argument a more) (kind ∷ kinds) = IsTypedArgument a kind × AreTypedArguments more kinds
 
     pub IsTypedArgument : Argument → Kind → Type 0
-    IsTypedArgument (literal_argument l) of_value = IsValueLiteral l
-    IsTypedArgument (literal_argument l) _ = ⊥
-    IsTypedArgument (query_argument q) of_value = IsTyped q × IsSingular q
-    IsTypedArgument (query_argument q) _ = IsTyped q
-    IsTypedArgument (call_argument c) kind = IsTypedCall c × TakesResult kind (result_kind c)
+    IsTypedArgument (operand o) kind = IsTypedOperand o kind
     IsTypedArgument (logical_argument e) of_logical = IsTypedOr e
     IsTypedArgument (logical_argument e) _ = ⊥
+
+    -- what a parameter of that type takes
+    pub IsTypedOperand : Operand → Kind → Type 0
+    IsTypedOperand (literal l) of_value = IsValueLiteral l
+    IsTypedOperand (literal l) _ = ⊥
+    IsTypedOperand (queried q) of_value = IsTyped q × IsSingular q
+    IsTypedOperand (queried q) _ = IsTyped q
+    IsTypedOperand (called c) kind = IsTypedCall c × TakesResult kind (result_kind c)

@@ -3,9 +3,7 @@
 use crate::arena::Arena;
 use crate::checked::Checked;
 use crate::literal::Literal;
-use crate::node::{
-    Argument, Basic, Comparable, Node, Part, QueryKind, Segment, SegmentKind, Selector,
-};
+use crate::node::{Basic, Node, Operand, Part, QueryKind, Segment, SegmentKind, Selector};
 use crate::operator::ComparisonOperator;
 use crate::parts::Parts;
 use crate::singular::is_singular;
@@ -28,7 +26,7 @@ pub struct SyntaxBuilder {
 
 impl SyntaxBuilder {
     ghost use Rattle.std.specs.Prelude.{true, ◌≡◌, ◌↔◌, ◌++◌, ◌∷◌, [], IfOk, OnErr, OnOk, IsTrue, string_bytes, length};
-    ghost use Rattle.serde_json_path_syntax.specs.Words.{literal_view, operator_view, a_query, a_segment, a_selector, an_or, an_and, a_basic, a_comparable, a_call, an_argument, IsOptionalInteger, called_by, query_kind_view, segment_kind_view, NamesBelow, parts_in, branch_of, branches, fits, slice_view, HasNoParts, IsPart, ArePartsOf, AreSelectorsOf, AreOrPartsOf, AreAndPartsOf, AreArgumentsOf, KeepsParts, KeepsTrees, calls_in, tree_of, signatures_of, MayFinish, each_once, signature_view};
+    ghost use Rattle.serde_json_path_syntax.specs.Words.{literal_view, operator_view, a_query, a_segment, a_selector, an_or, an_and, a_basic, an_operand, a_call, IsOptionalInteger, called_by, query_kind_view, segment_kind_view, NamesBelow, parts_in, branch_of, branches, fits, slice_view, HasNoParts, IsPart, ArePartsOf, AreSelectorsOf, AreOrPartsOf, AreAndPartsOf, AreArgumentsOf, KeepsParts, KeepsTrees, calls_in, tree_of, signatures_of, MayFinish, each_once, signature_view};
     ghost use Rattle.serde_json_path_syntax.specs.Tree as tree;
 
     /// A builder with no parts. Takes no memory.
@@ -168,58 +166,31 @@ impl SyntaxBuilder {
         self.push(Node::LogicalAnd(parts))
     }
 
-    /// A logical expression in parentheses, as `(@.a || @.b)` (RFC 9535, section 2.3.5.1).
-    pub fn paren(&mut self, inner: Part) -> Result<Part, AllocError>
+    /// A logical expression in parentheses, negated or not, as `(@.a || @.b)` and `!(@.a || @.b)` (RFC 9535, section 2.3.5.1).
+    pub fn paren(&mut self, negated: bool, inner: Part) -> Result<Part, AllocError>
         requires { (e : tree.LogicalOr) × IsPart self.old inner (an_or e) }
         ensures made { IfOk result (λ part. (e : tree.LogicalOr) → IsPart self.old inner (an_or e)
-            → IsPart self.new part (a_basic (tree.paren e))) }
+            → IsPart self.new part (a_basic (tree.paren negated e))) }
         ensures keeps { KeepsParts self.old self.new }
     {
-        self.push(Node::Basic(Basic::Paren(inner)))
+        self.push(Node::Basic(Basic::Paren { negated, inner }))
     }
 
-    /// A negated logical expression in parentheses, as `!(@.a || @.b)` (RFC 9535, section 2.3.5.1).
-    pub fn not_paren(&mut self, inner: Part) -> Result<Part, AllocError>
-        requires { (e : tree.LogicalOr) × IsPart self.old inner (an_or e) }
-        ensures made { IfOk result (λ part. (e : tree.LogicalOr) → IsPart self.old inner (an_or e)
-            → IsPart self.new part (a_basic (tree.not_paren e))) }
-        ensures keeps { KeepsParts self.old self.new }
-    {
-        self.push(Node::Basic(Basic::NotParen(inner)))
-    }
-
-    /// A test whether a query selects a node, as `@.a` (RFC 9535, section 2.3.5.1).
-    pub fn exist(&mut self, query: Part) -> Result<Part, AllocError>
-        requires { (q : tree.Query) × IsPart self.old query (a_query q) }
-        ensures made { IfOk result (λ part. (q : tree.Query) → IsPart self.old query (a_query q)
-            → IsPart self.new part (a_basic (tree.exist q))) }
-        ensures keeps { KeepsParts self.old self.new }
-    {
-        self.push(Node::Basic(Basic::Exist(query)))
-    }
-
-    /// A test whether a query selects no node, as `!@.a` (RFC 9535, section 2.3.5.1).
-    pub fn not_exist(&mut self, query: Part) -> Result<Part, AllocError>
-        requires { (q : tree.Query) × IsPart self.old query (a_query q) }
-        ensures made { IfOk result (λ part. (q : tree.Query) → IsPart self.old query (a_query q)
-            → IsPart self.new part (a_basic (tree.not_exist q))) }
-        ensures keeps { KeepsParts self.old self.new }
-    {
-        self.push(Node::Basic(Basic::NotExist(query)))
-    }
-
-    /// A comparison, as `@.a < 1` (RFC 9535, section 2.3.5.1).
+    /// A comparison of two operands, as `@.a < 1`; of queries singular ones alone may be compared (RFC 9535, section 2.3.5.1).
+    #[tactic(auto, using(crate::proofs::Tree::NamedParts::comparable_is))]
     pub fn relation(
         &mut self,
         left: Part,
         operator: ComparisonOperator,
         right: Part,
     ) -> Result<Part, AllocError>
-        requires left { (a : tree.Comparable) × IsPart self.old left (a_comparable a) }
-        requires right { (b : tree.Comparable) × IsPart self.old right (a_comparable b) }
+        requires left { (a : tree.Operand) × IsPart self.old left (an_operand a)
+            × tree.IsComparable a }
+        requires right { (b : tree.Operand) × IsPart self.old right (an_operand b)
+            × tree.IsComparable b }
         ensures made { IfOk result (λ part.
-            (a b : tree.Comparable) → IsPart self.old left (a_comparable a)
-            → IsPart self.old right (a_comparable b)
+            (a b : tree.Operand) → IsPart self.old left (an_operand a)
+            → IsPart self.old right (an_operand b)
             → IsPart self.new part (a_basic (tree.relation a (operator_view operator) b))) }
         ensures keeps { KeepsParts self.old self.new }
     {
@@ -230,24 +201,36 @@ impl SyntaxBuilder {
         }))
     }
 
-    /// A literal as a side of a comparison (RFC 9535, section 2.3.5.1).
-    pub fn literal(&mut self, literal: Literal) -> Result<Part, AllocError>
-        ensures made { IfOk result (λ part.
-            IsPart self.new part (a_comparable (tree.literal (literal_view literal)))) }
+    /// A test of a query or of a call's answer, negated or not, as `@.a` and `!match(@.a, 'b')` (RFC 9535, sections 2.3.5.1
+    /// and 2.4.2).
+    #[tactic(auto, using(crate::proofs::Tree::NamedParts::tested_is))]
+    pub fn test(&mut self, negated: bool, operand: Part) -> Result<Part, AllocError>
+        requires { (o : tree.Operand) × IsPart self.old operand (an_operand o) × tree.IsTested o }
+        ensures made { IfOk result (λ part. (o : tree.Operand)
+            → IsPart self.old operand (an_operand o)
+            → IsPart self.new part (a_basic (tree.test negated o))) }
         ensures keeps { KeepsParts self.old self.new }
     {
-        self.push(Node::Comparable(Comparable::Literal(literal.held())))
+        self.push(Node::Basic(Basic::Test { negated, operand }))
     }
 
-    /// A singular query as a side of a comparison, as `@.a[0]` (RFC 9535, section 2.3.5.1).
-    #[tactic(auto, using(crate::proofs::Tree::NamedParts::query_singular))]
-    pub fn singular(&mut self, query: Part) -> Result<Part, AllocError>
-        requires { (q : tree.Query) × IsPart self.old query (a_query q) × tree.IsSingular q }
-        ensures made { IfOk result (λ part. (q : tree.Query) → IsPart self.old query (a_query q)
-            → IsPart self.new part (a_comparable (tree.singular q))) }
+    /// A literal as an operand.
+    pub fn literal(&mut self, literal: Literal) -> Result<Part, AllocError>
+        ensures made { IfOk result (λ part.
+            IsPart self.new part (an_operand (tree.literal (literal_view literal)))) }
         ensures keeps { KeepsParts self.old self.new }
     {
-        self.push(Node::Comparable(Comparable::Singular(query)))
+        self.push(Node::Operand(Operand::Literal(literal.held())))
+    }
+
+    /// A query as an operand.
+    pub fn queried(&mut self, query: Part) -> Result<Part, AllocError>
+        requires { (q : tree.Query) × IsPart self.old query (a_query q) }
+        ensures made { IfOk result (λ part. (q : tree.Query) → IsPart self.old query (a_query q)
+            → IsPart self.new part (an_operand (tree.queried q))) }
+        ensures keeps { KeepsParts self.old self.new }
+    {
+        self.push(Node::Operand(Operand::Query(query)))
     }
 
     /// Whether the part is a singular query: only child segments, each of one name or one index (RFC 9535, section
@@ -260,37 +243,18 @@ impl SyntaxBuilder {
         is_singular(&self.arena, query)
     }
 
-    /// A call as a side of a comparison, as `length(@.a)` (RFC 9535, section 2.3.5.1).
+    /// A call as an operand, as `length(@.a)`.
     pub fn called(&mut self, call: Part) -> Result<Part, AllocError>
         requires { (c : tree.Call) × IsPart self.old call (a_call c) }
         ensures made { IfOk result (λ part. (c : tree.Call) → IsPart self.old call (a_call c)
-            → IsPart self.new part (a_comparable (tree.called c))) }
+            → IsPart self.new part (an_operand (tree.called c))) }
         ensures keeps { KeepsParts self.old self.new }
     {
-        self.push(Node::Comparable(Comparable::Called(call)))
+        self.push(Node::Operand(Operand::Call(call)))
     }
 
-    /// A test of a call's answer, as `match(@.a, 'b')` (RFC 9535, section 2.4.2).
-    pub fn test(&mut self, call: Part) -> Result<Part, AllocError>
-        requires { (c : tree.Call) × IsPart self.old call (a_call c) }
-        ensures made { IfOk result (λ part. (c : tree.Call) → IsPart self.old call (a_call c)
-            → IsPart self.new part (a_basic (tree.test c))) }
-        ensures keeps { KeepsParts self.old self.new }
-    {
-        self.push(Node::Basic(Basic::Test(call)))
-    }
-
-    /// A negated test of a call's answer, as `!match(@.a, 'b')` (RFC 9535, section 2.4.2).
-    pub fn not_test(&mut self, call: Part) -> Result<Part, AllocError>
-        requires { (c : tree.Call) × IsPart self.old call (a_call c) }
-        ensures made { IfOk result (λ part. (c : tree.Call) → IsPart self.old call (a_call c)
-            → IsPart self.new part (a_basic (tree.not_test c))) }
-        ensures keeps { KeepsParts self.old self.new }
-    {
-        self.push(Node::Basic(Basic::NotTest(call)))
-    }
-
-    /// A call of a function by name, which keeps that signature, with its arguments in order (RFC 9535, section 2.4).
+    /// A call of a function by name, which keeps that signature, with its arguments in order, each of which is an operand or a
+    /// logical expression (RFC 9535, section 2.4).
     ///
     /// The builder keeps the name and the signature for good, and a tree that does not call the name cannot be finished.
     #[tactic(auto, using(crate::proofs::Tree::NamedParts::of_named_parts))]
@@ -315,46 +279,6 @@ impl SyntaxBuilder {
             signature,
             arguments,
         })
-    }
-
-    /// A literal as an argument (RFC 9535, section 2.4).
-    pub fn literal_argument(&mut self, literal: Literal) -> Result<Part, AllocError>
-        ensures made { IfOk result (λ part.
-            IsPart self.new part (an_argument (tree.literal_argument (literal_view literal)))) }
-        ensures keeps { KeepsParts self.old self.new }
-    {
-        self.push(Node::Argument(Argument::Literal(literal.held())))
-    }
-
-    /// A query as an argument (RFC 9535, section 2.4).
-    pub fn query_argument(&mut self, query: Part) -> Result<Part, AllocError>
-        requires { (q : tree.Query) × IsPart self.old query (a_query q) }
-        ensures made { IfOk result (λ part. (q : tree.Query) → IsPart self.old query (a_query q)
-            → IsPart self.new part (an_argument (tree.query_argument q))) }
-        ensures keeps { KeepsParts self.old self.new }
-    {
-        self.push(Node::Argument(Argument::Query(query)))
-    }
-
-    /// A call as an argument (RFC 9535, section 2.4).
-    pub fn call_argument(&mut self, call: Part) -> Result<Part, AllocError>
-        requires { (c : tree.Call) × IsPart self.old call (a_call c) }
-        ensures made { IfOk result (λ part. (c : tree.Call) → IsPart self.old call (a_call c)
-            → IsPart self.new part (an_argument (tree.call_argument c))) }
-        ensures keeps { KeepsParts self.old self.new }
-    {
-        self.push(Node::Argument(Argument::Call(call)))
-    }
-
-    /// A logical expression as an argument (RFC 9535, section 2.4).
-    pub fn logical_argument(&mut self, expression: Part) -> Result<Part, AllocError>
-        requires { (e : tree.LogicalOr) × IsPart self.old expression (an_or e) }
-        ensures made { IfOk result (λ part.
-            (e : tree.LogicalOr) → IsPart self.old expression (an_or e)
-            → IsPart self.new part (an_argument (tree.logical_argument e))) }
-        ensures keeps { KeepsParts self.old self.new }
-    {
-        self.push(Node::Argument(Argument::Logical(expression)))
     }
 
     /// A query of these segments, in order.

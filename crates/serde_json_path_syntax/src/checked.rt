@@ -380,8 +380,7 @@ fn declares<F: Functions>(functions: &F, node: &Node) -> bool
         | Node::LogicalOr(_)
         | Node::LogicalAnd(_)
         | Node::Basic(_)
-        | Node::Comparable(_)
-        | Node::Argument(_) => true,
+        | Node::Operand(_) => true,
     }
 }
 

@@ -1,12 +1,12 @@
 //! Equality of finished queries.
 
 ghost use Rattle.std.specs.Prelude.{◌≡◌, ◌<◌, ◌≤◌, ◌↔◌, IsTrue, true, length};
-ghost use Rattle.serde_json_path_syntax.specs.Words.{pointwise, argument_of, argument_parts, basic_of, basic_parts, comparable_of, comparable_parts, held_view, branch_at, branches, branches_named, segment_of, segment_parts, selector_of, selector_parts, argument_fits, basic_fits, comparable_fits, literal_fits, segment_fits, selector_fits, parts_bound, nodes_in, number_of, tree_of, slice_view};
+ghost use Rattle.serde_json_path_syntax.specs.Words.{pointwise, basic_of, basic_parts, operand_of, operand_parts, held_view, branch_at, branches, branches_named, segment_of, segment_parts, selector_of, selector_parts, basic_fits, operand_fits, literal_fits, segment_fits, selector_fits, parts_bound, nodes_in, number_of, tree_of, slice_view};
 ghost use Rattle.serde_json_path_syntax.specs.SameTree as trees;
 
 use crate::checked::Checked;
 use crate::literal::LiteralValue;
-use crate::node::{Argument, Basic, Comparable, Node, Part, Segment, Selector};
+use crate::node::{Basic, Node, Operand, Part, Segment, Selector};
 use crate::slice::Slice;
 use serde_json::Value;
 
@@ -88,9 +88,7 @@ fn same_part(mine: &Checked, left: Part, theirs: &Checked, right: Part) -> bool
             same_parts(mine, lefts.as_slice(), theirs, rights.as_slice())
         }
         (Node::Basic(left), Node::Basic(right)) => same_basic(mine, left, theirs, right),
-        (Node::Comparable(left), Node::Comparable(right)) => {
-            same_comparable(mine, left, theirs, right)
-        }
+        (Node::Operand(left), Node::Operand(right)) => same_operand(mine, left, theirs, right),
         (
             Node::Call {
                 name,
@@ -103,7 +101,6 @@ fn same_part(mine: &Checked, left: Part, theirs: &Checked, right: Part) -> bool
                 ..
             },
         ) => name == other && same_parts(mine, arguments.as_slice(), theirs, others.as_slice()),
-        (Node::Argument(left), Node::Argument(right)) => same_argument(mine, left, theirs, right),
         _ => false,
     }
 }
@@ -178,56 +175,39 @@ fn same_basic(mine: &Checked, left: &Basic, theirs: &Checked, right: &Basic) -> 
                 && same_part(mine, *left, theirs, *other_left)
                 && same_part(mine, *right, theirs, *other_right)
         }
-        (Basic::Paren(left), Basic::Paren(right))
-        | (Basic::NotParen(left), Basic::NotParen(right))
-        | (Basic::Exist(left), Basic::Exist(right))
-        | (Basic::NotExist(left), Basic::NotExist(right))
-        | (Basic::Test(left), Basic::Test(right))
-        | (Basic::NotTest(left), Basic::NotTest(right)) => same_part(mine, *left, theirs, *right),
+        (
+            Basic::Paren { negated, inner },
+            Basic::Paren {
+                negated: other,
+                inner: others,
+            },
+        ) => negated == other && same_part(mine, *inner, theirs, *others),
+        (
+            Basic::Test { negated, operand },
+            Basic::Test {
+                negated: other,
+                operand: others,
+            },
+        ) => negated == other && same_part(mine, *operand, theirs, *others),
         _ => false,
     }
 }
 
-/// Whether two sides of comparisons are the same.
+/// Whether two operands are the same.
 #[cycle(comparing)]
 #[tactic(auto, using(crate::proofs::Equality::of_kinds))]
-fn same_comparable(mine: &Checked, left: &Comparable, theirs: &Checked, right: &Comparable) -> bool
-    requires left_within { parts_bound (comparable_parts left.now) ≤ length (nodes_in mine.now) }
-    requires left_fits { comparable_fits (branches (nodes_in mine.now)) left.now ≡ true }
-    requires right_within { parts_bound (comparable_parts right.now)
-        ≤ length (nodes_in theirs.now) }
-    requires right_fits { comparable_fits (branches (nodes_in theirs.now)) right.now ≡ true }
-    ensures { result ≡ trees.same_comparable (comparable_of (branches (nodes_in mine.now)) left.now)
-        (comparable_of (branches (nodes_in theirs.now)) right.now) }
+fn same_operand(mine: &Checked, left: &Operand, theirs: &Checked, right: &Operand) -> bool
+    requires left_within { parts_bound (operand_parts left.now) ≤ length (nodes_in mine.now) }
+    requires left_fits { operand_fits (branches (nodes_in mine.now)) left.now ≡ true }
+    requires right_within { parts_bound (operand_parts right.now) ≤ length (nodes_in theirs.now) }
+    requires right_fits { operand_fits (branches (nodes_in theirs.now)) right.now ≡ true }
+    ensures { result ≡ trees.same_operand (operand_of (branches (nodes_in mine.now)) left.now)
+        (operand_of (branches (nodes_in theirs.now)) right.now) }
 {
     match (left, right) {
-        (Comparable::Literal(literal), Comparable::Literal(other)) => same_literal(literal, other),
-        (Comparable::Singular(left), Comparable::Singular(right))
-        | (Comparable::Called(left), Comparable::Called(right)) => {
-            same_part(mine, *left, theirs, *right)
-        }
-        _ => false,
-    }
-}
-
-/// Whether two arguments are the same.
-#[cycle(comparing)]
-#[tactic(auto, using(crate::proofs::Equality::of_kinds))]
-fn same_argument(mine: &Checked, left: &Argument, theirs: &Checked, right: &Argument) -> bool
-    requires left_within { parts_bound (argument_parts left.now) ≤ length (nodes_in mine.now) }
-    requires left_fits { argument_fits (branches (nodes_in mine.now)) left.now ≡ true }
-    requires right_within { parts_bound (argument_parts right.now) ≤ length (nodes_in theirs.now) }
-    requires right_fits { argument_fits (branches (nodes_in theirs.now)) right.now ≡ true }
-    ensures { result ≡ trees.same_argument (argument_of (branches (nodes_in mine.now)) left.now)
-        (argument_of (branches (nodes_in theirs.now)) right.now) }
-{
-    match (left, right) {
-        (Argument::Literal(literal), Argument::Literal(other)) => same_literal(literal, other),
-        (Argument::Query(left), Argument::Query(right))
-        | (Argument::Call(left), Argument::Call(right))
-        | (Argument::Logical(left), Argument::Logical(right)) => {
-            same_part(mine, *left, theirs, *right)
-        }
+        (Operand::Literal(literal), Operand::Literal(other)) => same_literal(literal, other),
+        (Operand::Query(left), Operand::Query(right))
+        | (Operand::Call(left), Operand::Call(right)) => same_part(mine, *left, theirs, *right),
         _ => false,
     }
 }

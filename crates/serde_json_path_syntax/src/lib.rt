@@ -32,9 +32,7 @@ mod slice;
 pub use builder::SyntaxBuilder;
 pub use checked::Checked;
 pub use literal::{Literal, LiteralValue, NumberLiteral};
-pub use node::{
-    Argument, Basic, Comparable, Node, Part, QueryKind, Segment, SegmentKind, Selector,
-};
+pub use node::{Basic, Node, Operand, Part, QueryKind, Segment, SegmentKind, Selector};
 pub use operator::ComparisonOperator;
 pub use parts::Parts;
 pub use selector_ref::SelectorRef;

@@ -56,51 +56,36 @@ pub enum Selector {
     Filter(Part),
 }
 
-/// An operand of `&&`; the negated forms have `!` before them.
+/// An operand of `&&`.
 #[derive(Clone, Copy)]
 pub enum Basic {
-    /// A logical expression in parentheses.
-    Paren(Part),
-    /// The same with `!` before it.
-    NotParen(Part),
-    /// A comparison of two comparables.
+    /// A logical expression in parentheses, with `!` before them where it is negated.
+    Paren {
+        negated: bool,
+        inner: Part,
+    },
+    /// A comparison of two operands.
     Relation {
         left: Part,
         operator: ComparisonOperator,
         right: Part,
     },
-    /// A test whether a query selects a node.
-    Exist(Part),
-    /// The same with `!` before it.
-    NotExist(Part),
-    /// A test of a call's answer.
-    Test(Part),
-    /// The same with `!` before it.
-    NotTest(Part),
+    /// A test of an operand, with `!` before it where it is negated.
+    Test {
+        negated: bool,
+        operand: Part,
+    },
 }
 
-/// A side of a comparison.
+/// What is compared, tested or an argument.
 #[derive(Clone, Drop)]
-pub enum Comparable {
-    /// A literal.
-    Literal(LiteralValue),
-    /// A singular query.
-    Singular(Part),
-    /// A call.
-    Called(Part),
-}
-
-/// An argument of a call.
-#[derive(Clone, Drop)]
-pub enum Argument {
+pub enum Operand {
     /// A literal.
     Literal(LiteralValue),
     /// A query.
     Query(Part),
     /// A call.
     Call(Part),
-    /// A logical expression.
-    Logical(Part),
 }
 
 /// A node of a syntax tree. It refers only to nodes that were made before it.
@@ -124,14 +109,13 @@ pub enum Node {
     LogicalAnd(Parts),
     /// An operand of `&&`.
     Basic(Basic),
-    /// A side of a comparison.
-    Comparable(Comparable),
-    /// A call of a function, with the signature that the name had when the call was made.
+    /// What is compared, tested or an argument.
+    Operand(Operand),
+    /// A call of a function, with the signature that the name had when the call was made. Each argument is an operand or a
+    /// logical expression.
     Call {
         name: String,
         signature: Signature,
         arguments: Vec<Part>,
     },
-    /// An argument of a call.
-    Argument(Argument),
 }

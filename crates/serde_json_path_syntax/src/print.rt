@@ -1,16 +1,16 @@
 //! Printed paths: a query as the text that is read back as it.
 
 ghost use Rattle.std.specs.Prelude.{◌≡◌, ◌<◌, ◌≤◌, ◌++◌, Some, codes, length, map, option_map, true};
-ghost use Rattle.serde_json_path_syntax.specs.Words.{WritesOnOk, AreOfKind, IsOfKind, argument_of, argument_parts, basic_of, basic_parts, comparable_of, comparable_parts, branch_at, branches, branches_named, segments_at, argument_fits, basic_fits, comparable_fits, is_segment, is_selector, parts_bound, nodes_in, number_of, tree_of, argument_text, basic_text, comparable_text, joined, branch_text, query_kind_text, query_text, segments_text, sign_text, opening_text};
+ghost use Rattle.serde_json_path_syntax.specs.Words.{WritesOnOk, AreOfKind, IsOfKind, basic_of, basic_parts, operand_of, operand_parts, branch_at, branches, branches_named, segments_at, basic_fits, operand_fits, is_segment, is_selector, parts_bound, nodes_in, number_of, tree_of, basic_text, operand_text, joined, branch_text, query_kind_text, query_text, segments_text, sign_text, opening_text};
 ghost use Rattle.serde_json_path_syntax.specs.Flat.{query_kind_view};
 
 mod literals;
 mod openings;
 
 use crate::checked::Checked;
-use crate::node::{Argument, Basic, Comparable, Node, Part, QueryKind, Segment, Selector};
+use crate::node::{Basic, Node, Operand, Part, QueryKind, Segment, Selector};
 use literals::write_literal;
-use openings::{Opening, dots, sign};
+use openings::{Opening, dots, negation, sign};
 use serde_json_path_nodes::Quoted;
 use std::fmt;
 use std::fmt::{Formatter, Write};
@@ -171,7 +171,7 @@ fn write_part<W: Write>(f: &mut Formatter<W>, tree: &Checked, part: Part) -> fmt
         Node::LogicalOr(parts) => write_joined(f, tree, parts.as_slice(), " || "),
         Node::LogicalAnd(parts) => write_joined(f, tree, parts.as_slice(), " && "),
         Node::Basic(basic) => write_basic(f, tree, basic),
-        Node::Comparable(comparable) => write_comparable(f, tree, comparable),
+        Node::Operand(operand) => write_operand(f, tree, operand),
         Node::Call {
             name,
             arguments,
@@ -182,7 +182,6 @@ fn write_part<W: Write>(f: &mut Formatter<W>, tree: &Checked, part: Part) -> fmt
             write_joined(f, tree, arguments.as_slice(), ", ")?;
             f.write_str(")")
         }
-        Node::Argument(argument) => write_argument(f, tree, argument),
     }
 }
 
@@ -223,13 +222,9 @@ fn write_basic<W: Write>(f: &mut Formatter<W>, tree: &Checked, basic: &Basic) ->
         (basic_text (basic_of (branches (nodes_in tree.now)) basic.now)) f.new }
 {
     match basic {
-        Basic::Paren(inner) => {
+        Basic::Paren { negated, inner } => {
+            f.write_str(negation(*negated))?;
             f.write_str("(")?;
-            write_part(f, tree, *inner)?;
-            f.write_str(")")
-        }
-        Basic::NotParen(inner) => {
-            f.write_str("!(")?;
             write_part(f, tree, *inner)?;
             f.write_str(")")
         }
@@ -242,58 +237,26 @@ fn write_basic<W: Write>(f: &mut Formatter<W>, tree: &Checked, basic: &Basic) ->
             f.write_str(operator.sign_in_blanks())?;
             write_part(f, tree, *right)
         }
-        Basic::Exist(query) => write_part(f, tree, *query),
-        Basic::NotExist(query) => {
-            f.write_str("!")?;
-            write_part(f, tree, *query)
-        }
-        Basic::Test(call) => write_part(f, tree, *call),
-        Basic::NotTest(call) => {
-            f.write_str("!")?;
-            write_part(f, tree, *call)
+        Basic::Test { negated, operand } => {
+            f.write_str(negation(*negated))?;
+            write_part(f, tree, *operand)
         }
     }
 }
 
-/// Writes a side of a comparison.
+/// Writes an operand.
 #[cycle(printing)]
 #[tactic(auto, using(crate::proofs::Printing::of_kinds))]
 #[inline(always)]
-fn write_comparable<W: Write>(
-    f: &mut Formatter<W>,
-    tree: &Checked,
-    comparable: &Comparable,
-) -> fmt::Result
-    requires within { parts_bound (comparable_parts comparable.now) ≤ length (nodes_in tree.now) }
-    requires fits { comparable_fits (branches (nodes_in tree.now)) comparable.now ≡ true }
+fn write_operand<W: Write>(f: &mut Formatter<W>, tree: &Checked, operand: &Operand) -> fmt::Result
+    requires within { parts_bound (operand_parts operand.now) ≤ length (nodes_in tree.now) }
+    requires fits { operand_fits (branches (nodes_in tree.now)) operand.now ≡ true }
     ensures { WritesOnOk W.write_str_gives f.old result
-        (comparable_text (comparable_of (branches (nodes_in tree.now)) comparable.now)) f.new }
+        (operand_text (operand_of (branches (nodes_in tree.now)) operand.now)) f.new }
 {
-    match comparable {
-        Comparable::Literal(literal) => write_literal(f, literal),
-        Comparable::Singular(query) => write_part(f, tree, *query),
-        Comparable::Called(call) => write_part(f, tree, *call),
-    }
-}
-
-/// Writes an argument.
-#[cycle(printing)]
-#[tactic(auto, using(crate::proofs::Printing::of_kinds))]
-#[inline(always)]
-fn write_argument<W: Write>(
-    f: &mut Formatter<W>,
-    tree: &Checked,
-    argument: &Argument,
-) -> fmt::Result
-    requires within { parts_bound (argument_parts argument.now) ≤ length (nodes_in tree.now) }
-    requires fits { argument_fits (branches (nodes_in tree.now)) argument.now ≡ true }
-    ensures { WritesOnOk W.write_str_gives f.old result
-        (argument_text (argument_of (branches (nodes_in tree.now)) argument.now)) f.new }
-{
-    match argument {
-        Argument::Literal(literal) => write_literal(f, literal),
-        Argument::Query(query) => write_part(f, tree, *query),
-        Argument::Call(call) => write_part(f, tree, *call),
-        Argument::Logical(expression) => write_part(f, tree, *expression),
+    match operand {
+        Operand::Literal(literal) => write_literal(f, literal),
+        Operand::Query(query) => write_part(f, tree, *query),
+        Operand::Call(call) => write_part(f, tree, *call),
     }
 }

@@ -31,6 +31,9 @@ decreases-filter::logic::compares_with g l = 8 * form_bound l.right
 abbrev pub decreases-filter::logic::compares_with_answer : goal.decreases-filter::logic::compares_with_answer
 decreases-filter::logic::compares_with_answer g l = 8 * l.call.number + 7
 
+abbrev pub decreases-filter::logic::test_holds : goal.decreases-filter::logic::test_holds
+decreases-filter::logic::test_holds g l = 8 * l.operand.number + 5
+
 abbrev pub decreases-filter::logic::exists : goal.decreases-filter::logic::exists
 decreases-filter::logic::exists g l = 8 * l.query.number + 7
 
@@ -53,7 +56,7 @@ abbrev pub decreases-filter::call::answer : goal.decreases-filter::call::answer
 decreases-filter::call::answer g l = 8 * l.call.number + 5
 
 abbrev pub decreases-filter::call::argument_as : goal.decreases-filter::call::argument_as
-decreases-filter::call::argument_as g l = 8 * l.argument.number + 5
+decreases-filter::call::argument_as g l = 8 * l.argument.number + 6
 
 abbrev pub decreases-filter::call::result_as : goal.decreases-filter::call::result_as
 decreases-filter::call::result_as g l = 8 * l.query.number + 7

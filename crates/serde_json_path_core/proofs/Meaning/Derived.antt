@@ -1,5 +1,5 @@
 -- The computed ends are those of the derivations, and the computed tests hold where the defined ones do.
-use Rattle.serde_json_path_core.proofs.Words.{◌≡◌, ℕ, zero, suc, List, [], ◌∷◌, ◌++◌, map, ◌↔◌, inl, inr, Bool, true, false, ◌&&◌, Option, Some, None, option_and_then, option_to_list, refl, sym, ap, subst, ◌∙◌, true≢false, append_assoc, Numbers, value, always, never, Decides, AllZip, Decides-and, Decides-or, Decides-not, same_from_decides, same_Some, none-some, Data, Step, by_name, child_at, at, Located, QueryKind, Query, query, SegmentKind, child, descendant, Segments, no_segments, segment, Segment, dot_name, dot_wildcard, long_hand, Selectors, no_selectors, selector, Selector, name, wildcard, index, slice, filter, LogicalOr, no_or, or, LogicalAnd, no_and, and, Basic, paren, not_paren, relation, exist, not_exist, test, not_test, Operator, Comparable, literal, singular, called, Call, call, Arguments, no_arguments, argument, Argument, literal_argument, query_argument, call_argument, logical_argument, Kind, of_value, of_nodes, of_logical, Term, nodes, logical, FunctionSet, Compared, Compares, literal_compared, value_compared, Triple, location_of, start_of, BelongsTo, Before, IsIn, MayDescend, Derives, AdmitsIn, AdmitsBy, Admits, Holds, HoldsAll, HoldsBasic, Exists, IsResult, IsComparedAs, Answers, AreArguments, IsArgument, AnswersYes, IsTruthOf, first_value, params_of, child_by, itself, children, results, selected, is_true, all_true, basic_true, compare_sides, compared, answer, arguments, argument_as, are_taken, is_answered, is_taken, answer_holds, answer_compared, is_nonempty, in_append, in_map, map_in, in_flat_map, in_keep, in_order-map}
+use Rattle.serde_json_path_core.proofs.Words.{◌≡◌, ℕ, zero, suc, List, [], ◌∷◌, ◌++◌, map, ◌↔◌, inl, inr, Bool, true, false, ◌&&◌, Option, Some, None, option_and_then, option_to_list, refl, sym, ap, subst, ◌∙◌, true≢false, append_assoc, Numbers, value, always, never, Decides, AllZip, Decides-and, Decides-or, Decides-not, same_from_decides, same_Some, none-some, Data, Step, by_name, child_at, at, Located, QueryKind, Query, query, SegmentKind, child, descendant, Segments, no_segments, segment, Segment, dot_name, dot_wildcard, long_hand, Selectors, no_selectors, selector, Selector, name, wildcard, index, slice, filter, LogicalOr, no_or, or, LogicalAnd, no_and, and, Basic, paren, relation, test, Operator, Operand, literal, queried, called, Call, call, Arguments, no_arguments, argument, Argument, operand, logical_argument, Kind, of_value, of_nodes, of_logical, Term, nodes, FunctionSet, Compared, Compares, literal_compared, value_compared, Triple, location_of, start_of, BelongsTo, Before, IsIn, MayDescend, Derives, AdmitsIn, AdmitsBy, Admits, Holds, HoldsAll, HoldsBasic, HoldsTest, NotIf, Exists, IsResult, IsComparedAs, Answers, AreArguments, IsArgument, AnswersYes, IsTruthOf, first_value, params_of, child_by, itself, children, results, selected, is_true, all_true, basic_true, test_true, not_if, compare_sides, compared, answer, arguments, argument_as, are_taken, is_answered, is_taken, is_given, operand_as, IsTakenAs, answer_holds, answer_compared, is_nonempty, in_append, in_map, map_in, in_flat_map, in_keep, in_order-map, logical}
 use Rattle.serde_json_path_core.proofs.Meaning.ChildSteps.{in_children, in_child_by, in_item_at}
 use Rattle.serde_json_path_core.proofs.Meaning.Comparisons.{Decides-compare}
 use Rattle.serde_json_path_core.proofs.Meaning.Descents.{in_descents}
@@ -221,6 +221,11 @@ module _ (F : FunctionSet) (top : Data) where
   result_gives q right v A f x =
       (λ h. h.2 ∙ ap f (result_once F top q v h.0 (results F top q v) h.1 (right v)), λ e. (results F top q v, right v, e))
 
+  -- what is negated is decided by the opposite
+  Decides-not_if : {P : Type 0} (negated b : Bool) → Decides b P → Decides (not_if negated b) (NotIf negated P)
+  Decides-not_if true b decides = Decides-not b decides
+  Decides-not_if false b decides = decides
+
   -- ---- the whole language
 
   mutual
@@ -262,18 +267,19 @@ module _ (F : FunctionSet) (top : Data) where
     and_right (and b more) v = Decides-and (basic_true F top b v) (all_true F top more v) (basic_right b v) (and_right more v)
 
     basic_right : (b : Basic) (v : Data) → Decides (basic_true F top b v) (HoldsBasic F top b v)
-    basic_right (paren e) v = or_right e v
-    basic_right (not_paren e) v = Decides-not (is_true F top e v) (or_right e v)
+    basic_right (paren negated e) v = Decides-not_if negated (is_true F top e v) (or_right e v)
     basic_right (relation a op b) v = relation_right F.numbers op _ _ _ _ (compared_right a v) (compared_right b v)
-    basic_right (exist q) v = has_node q v (results F top q v) (computed_result q v)
-    basic_right (not_exist q) v = Decides-not (is_nonempty (results F top q v)) (has_node q v (results F top q v) (computed_result q v))
-    basic_right (test c) v = answer_test _ _ _ (call_right c v)
-    basic_right (not_test c) v = Decides-not (answer_holds (answer F top c v)) (answer_test _ _ _ (call_right c v))
+    basic_right (test negated o) v = Decides-not_if negated (test_true F top o v) (test_right o v)
+
+    test_right : (o : Operand) (v : Data) → Decides (test_true F top o v) (HoldsTest F top o v)
+    test_right (literal l) v = never
+    test_right (queried q) v = has_node q v (results F top q v) (computed_result q v)
+    test_right (called c) v = answer_test _ _ _ (call_right c v)
 
     -- a side of a comparison stands for what is computed, and for nothing else
-    pub compared_right : (a : Comparable) (v : Data) (x : Compared) → IsComparedAs F top a v x ↔ (compared F top a v ≡ Some x)
+    pub compared_right : (a : Operand) (v : Data) (x : Compared) → IsComparedAs F top a v x ↔ (compared F top a v ≡ Some x)
     compared_right (literal l) v x = (λ e. ap Some (sym e), λ e. sym (same_Some (literal_compared l) x e))
-    compared_right (singular q) v x =
+    compared_right (queried q) v x =
         let g = result_gives q (computed_result q) v Compared (λ ns. value_compared (first_value ns)) x in
         (λ h. ap Some (sym (g.0 h)), λ e. g.1 (sym (same_Some (value_compared (first_value (results F top q v))) x e)))
     compared_right (called c) v x = answer_side _ _ _ (call_right c v) x
@@ -298,13 +304,16 @@ module _ (F : FunctionSet) (top : Data) where
         one_more (is_taken F a) (are_taken F more kinds) _ _ _ _ _ _ (argument_right a kind v t) (arguments_right more kinds v ts)
 
     argument_right : (a : Argument) (kind : Kind) (v : Data) (t : Term) → IsArgument F top a kind v t ↔ ((is_taken F a ≡ true) × (t ≡ argument_as F top a kind v))
-    argument_right (literal_argument l) kind v t = plainly (λ e. e, λ e. e)
-    argument_right (query_argument q) of_value v t = plainly (result_gives q (computed_result q) v Term (λ ns. value (first_value ns)) t)
-    argument_right (query_argument q) of_nodes v t = plainly (result_gives q (computed_result q) v Term (λ ns. nodes (map (λ (n : Located). n.value) ns)) t)
-    argument_right (query_argument q) of_logical v t = plainly (truth_of (Exists F top q v) (is_nonempty (results F top q v)) t (has_node q v (results F top q v) (computed_result q v)))
-    argument_right (call_argument c) of_logical v t = answer_logical _ _ _ (call_right c v) t
-    argument_right (call_argument c) _ v t = (call_right c v).1 t
+    argument_right (operand o) kind v t = operand_right o kind v t
     argument_right (logical_argument e) kind v t = plainly (truth_of (Holds F top e v) (is_true F top e v) t (or_right e v))
+
+    operand_right : (o : Operand) (kind : Kind) (v : Data) (t : Term) → IsTakenAs F top o kind v t ↔ ((is_given F o ≡ true) × (t ≡ operand_as F top o kind v))
+    operand_right (literal l) kind v t = plainly (λ e. e, λ e. e)
+    operand_right (queried q) of_value v t = plainly (result_gives q (computed_result q) v Term (λ ns. value (first_value ns)) t)
+    operand_right (queried q) of_nodes v t = plainly (result_gives q (computed_result q) v Term (λ ns. nodes (map (λ (n : Located). n.value) ns)) t)
+    operand_right (queried q) of_logical v t = plainly (truth_of (Exists F top q v) (is_nonempty (results F top q v)) t (has_node q v (results F top q v) (computed_result q v)))
+    operand_right (called c) of_logical v t = answer_logical _ _ _ (call_right c v) t
+    operand_right (called c) _ v t = (call_right c v).1 t
 
   -- and no other list is
   pub computed_only : (q : Query) (v : Data) (ns : List Located) → IsResult F top q v ns → ns ≡ results F top q v

@@ -1,5 +1,5 @@
 -- What the code looks up: names of a map in order, operands, and known cases.
-use Rattle.serde_json_path_core.proofs.Words.{◌≡◌, Option, Some, None, MatchOption, Result, Ok, Err, IfErr, subst, List, ◌∷◌, Bool, true, false, ap, [], String, Global, Less, string_cmp, string_bytes, ◌<◌, ◌≤◌, length, slice_index_or, ◌&&◌, ◌||◌, refl, ◌∙◌, arith, ℕ, get_or, ℤ, option_and_then, option_map, Equal, nat_cmp, is_eq, sym, AllByRecursion, keys_of, members_view, Entry, in_order, Data, FunctionSet, LogicalOr, no_or, or, no_and, and, relation, Comparable, Operator, and_in, ands_in, basic_in, ors_in, branch_in, branches_named, Branch, Part, compare_sides, compared, is_true, slice_cmp, is_at, lookup, is_eq-slice_cmp, bytes_eq-Decides, object, array, view, items_view, Value, view-lookup, get_item_within, get_item_past, items_len-items_view, Step, by_name, by_position, child_by, item_at, position_in}
+use Rattle.serde_json_path_core.proofs.Words.{◌≡◌, Option, Some, None, MatchOption, Result, Ok, Err, IfErr, subst, List, ◌∷◌, Bool, true, false, ap, [], String, Global, Less, string_cmp, string_bytes, ◌<◌, ◌≤◌, length, slice_index_or, ◌&&◌, ◌||◌, refl, ◌∙◌, arith, ℕ, get_or, ℤ, option_and_then, option_map, Equal, nat_cmp, is_eq, sym, AllByRecursion, keys_of, members_view, Entry, in_order, Data, FunctionSet, LogicalOr, no_or, or, no_and, and, relation, Operand, Operator, and_in, ands_in, basic_in, ors_in, branch_in, branches_named, Branch, Part, compare_sides, compared, is_true, slice_cmp, is_at, lookup, is_eq-slice_cmp, bytes_eq-Decides, object, array, view, items_view, Value, view-lookup, get_item_within, get_item_past, items_len-items_view, Step, by_name, by_position, child_by, item_at, position_in}
 use Rattle.std.specs.List.Sorted.{IsStrictlySortedBy}
 use Rattle.serde_json_path_core.proofs.Meaning.ChildSteps.{IsBelow, AreRising, in_order-rising}
 
@@ -37,7 +37,7 @@ single (p ∷ []) d low high = refl
 single _ d low high = absurd (omega arith)
 
 -- an expression of one operand of `||` with one operand of `&&`, which is a comparison
-pub one-comparison : (ps : List Branch) (e : LogicalOr) (ors ands : List Part) (d : Part) (x : Comparable) (op : Operator) (y : Comparable)
+pub one-comparison : (ps : List Branch) (e : LogicalOr) (ors ands : List Part) (d : Part) (x : Operand) (op : Operator) (y : Operand)
     → 1 ≤ length ors → length ors < 2 → 1 ≤ length ands → length ands < 2
     → e ≡ ors_in (branches_named ps ors) → and_in (branch_in ps (slice_index_or ors 0 d).number) ≡ ands_in (branches_named ps ands)
     → basic_in (branch_in ps (slice_index_or ands 0 d).number) ≡ relation x op y → e ≡ or (and (relation x op y) no_and) no_or
@@ -50,7 +50,7 @@ alone true = refl
 alone false = refl
 
 -- it holds where the comparison does
-pub only-comparison : (F : FunctionSet) (top : Data) (e : LogicalOr) (x : Comparable) (op : Operator) (y : Comparable)
+pub only-comparison : (F : FunctionSet) (top : Data) (e : LogicalOr) (x : Operand) (op : Operator) (y : Operand)
     → e ≡ or (and (relation x op y) no_and) no_or → (v : Data) → is_true F top e v ≡ compare_sides F.numbers op (compared F top x v) (compared F top y v)
 only-comparison F top e x op y is v = ap (λ e. is_true F top e v) is ∙ alone (compare_sides F.numbers op (compared F top x v) (compared F top y v))
 

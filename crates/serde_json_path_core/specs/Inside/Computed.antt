@@ -1,6 +1,6 @@
 -- What a query selects, computed.
 use Rattle.std.specs.Prelude.{ℕ, ◌+◌, ◌-◌, nat_lt, ℤ, pos, negsuc, Option, Some, None, option_map, option_and_then, if◌then◌else◌, zero, suc, ◌/◌, ◌+ℤ◌, ◌-ℤ◌, int_lt, nat_abs, List, [], ◌∷◌, ◌++◌, map, flat_map, filter as keep, Bool, true, false, not, ◌&&◌, ◌||◌, option_to_list, bytes_eq}
-use Rattle.serde_json_path_core.specs.Imports.{Num, Data, array, null_data, boolean, number, string, object, Items, no_items, item, Members, no_members, member, put, items_len, Step, by_position, child_at, by_name, Located, eq, lt, document_number, beq, option_map_or, nat_cmp, int_eq, is_lt, insert_entry, slice_cmp, chars, get_item, as_integer, Query, query, Segments, no_segments, segment, SegmentKind, child, descendant, Segment, dot_name, dot_wildcard, long_hand, Selectors, no_selectors, selector, Selector, name, wildcard, index, slice, filter, Slice, LogicalOr, no_or, or, LogicalAnd, no_and, and, Basic, paren, not_paren, relation, exist, not_exist, test, not_test, Operator, equal, not_equal, less, less_or_equal, greater, greater_or_equal, Comparable, literal, singular, called, Call, call, Arguments, no_arguments, argument, Argument, literal_argument, query_argument, call_argument, logical_argument, Kind, of_value, of_nodes, of_logical, Term, nodes, logical, FunctionSet, Numbers, whole_numbers, all_numbers}
+use Rattle.serde_json_path_core.specs.Imports.{Num, Data, array, null_data, boolean, number, string, object, Items, no_items, item, Members, no_members, member, put, items_len, Step, by_position, child_at, by_name, Located, eq, lt, document_number, beq, option_map_or, nat_cmp, int_eq, is_lt, insert_entry, slice_cmp, chars, get_item, as_integer, Query, query, Segments, no_segments, segment, SegmentKind, child, descendant, Segment, dot_name, dot_wildcard, long_hand, Selectors, no_selectors, selector, Selector, name, wildcard, index, slice, filter, Slice, LogicalOr, no_or, or, LogicalAnd, no_and, and, Basic, paren, relation, test, Operator, equal, not_equal, less, less_or_equal, greater, greater_or_equal, Operand, literal, queried, called, Call, call, Arguments, no_arguments, argument, Argument, operand, logical_argument, Kind, of_value, of_nodes, of_logical, Term, nodes, FunctionSet, Numbers, whole_numbers, all_numbers, logical}
 use Rattle.serde_json_path_core.specs.Slices.{step_of, bound_of}
 use Rattle.serde_json_path_functions.specs.Functions as functions
 use Rattle.serde_json_path_core.specs.Compared.{Compared, nothing, value, billionths, amount_of, exact_of, literal_compared, value_compared}
@@ -223,6 +223,11 @@ answer_holds (functions.value v) = false
 answer_holds (nodes ds) = is_nonempty ds
 answer_holds (logical b) = b
 
+-- what was found, or its opposite where it is negated
+abbrev pub not_if : Bool → Bool → Bool
+not_if true b = not b
+not_if false b = b
+
 -- an answer as a side of a comparison: a value or Nothing; an answer of another type stands for nothing that is compared
 abbrev pub answer_compared : Term → Option Compared
 answer_compared (functions.value v) = Some (value_compared v)
@@ -253,8 +258,12 @@ module _ (F : FunctionSet) where
     are_taken (argument a more) (kind ∷ kinds) = is_taken a && are_taken more kinds
 
     pub is_taken : Argument → Bool
-    is_taken (call_argument c) = is_answered c
-    is_taken _ = true
+    is_taken (operand o) = is_given o
+    is_taken (logical_argument e) = true
+
+    pub is_given : Operand → Bool
+    is_given (called c) = is_answered c
+    is_given _ = true
 
 module _ (F : FunctionSet) (top : Data) where
   -- ---- queries (sections 2.1 to 2.5)
@@ -301,18 +310,20 @@ module _ (F : FunctionSet) (top : Data) where
 
     -- whether a parenthesis, a comparison or a test holds (sections 2.3.5.2.1 and 2.3.5.2.2)
     pub basic_true : Basic → Data → Bool
-    basic_true (paren e) v = is_true e v
-    basic_true (not_paren e) v = not (is_true e v)
+    basic_true (paren negated e) v = not_if negated (is_true e v)
     basic_true (relation a op b) v = compare_sides F.numbers op (compared a v) (compared b v)
-    basic_true (exist q) v = is_nonempty (results q v)
-    basic_true (not_exist q) v = not (is_nonempty (results q v))
-    basic_true (test c) v = answer_holds (answer c v)
-    basic_true (not_test c) v = not (answer_holds (answer c v))
+    basic_true (test negated o) v = not_if negated (test_true o v)
+
+    -- whether a query selects a node, or a call's answer holds
+    pub test_true : Operand → Data → Bool
+    test_true (literal l) v = false
+    test_true (queried q) v = is_nonempty (results q v)
+    test_true (called c) v = answer_holds (answer c v)
 
     -- what a side of a comparison stands for (section 2.3.5.2.2), if its answer is a value
-    pub compared : Comparable → Data → Option Compared
+    pub compared : Operand → Data → Option Compared
     compared (literal l) v = Some (literal_compared l)
-    compared (singular q) v = Some (value_compared (first_value (results q v)))
+    compared (queried q) v = Some (value_compared (first_value (results q v)))
     compared (called c) v = answer_compared (answer c v)
 
     -- the answer of a call: the set's meaning of its name and arguments (section 2.4); without one, what holds as no test and is
@@ -329,7 +340,11 @@ module _ (F : FunctionSet) (top : Data) where
 
     -- an argument as a parameter of that type takes it
     pub argument_as : Argument → Kind → Data → Term
-    argument_as (literal_argument l) kind v = functions.value (Some (literal_value l))
-    argument_as (query_argument q) kind v = result_as kind (results q v)
-    argument_as (call_argument c) kind v = answer_as kind (answer c v)
+    argument_as (operand o) kind v = operand_as o kind v
     argument_as (logical_argument e) kind v = logical (is_true e v)
+
+    -- an operand as a parameter of that type takes it
+    pub operand_as : Operand → Kind → Data → Term
+    operand_as (literal l) kind v = functions.value (Some (literal_value l))
+    operand_as (queried q) kind v = result_as kind (results q v)
+    operand_as (called c) kind v = answer_as kind (answer c v)

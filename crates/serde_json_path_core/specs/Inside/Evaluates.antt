@@ -1,6 +1,6 @@
 -- The words of the functions that evaluate: what is asked of a part, and what it computes to where `@` is a value.
 use Rattle.std.specs.Prelude.{◌≡◌, ℕ, ◌<◌, List, length, map, Bool, true, Option, Result, IfOk, IfErr}
-use Rattle.serde_json_path_core.specs.Imports.{Data, QueryError, Pattern, Step, Located, Kind, Signature, Term, Call, calls_of, calls_in_segments, calls_in_segment, calls_in_selector, calls_in_or, calls_in_and, calls_in_basic, calls_in_comparable, calls_from, calls_in_argument, IsTyped, AreTypedSegments, IsTypedSegment, IsTypedSelector, IsTypedOr, IsTypedAnd, IsTypedBasic, IsTypedComparable, IsTypedCall, IsTypedArgument, AreOfKind, IsOfKind, is_query, is_segment, is_or, is_and, is_basic, is_comparable, is_call, is_argument, selector_ref_fits, Part, SelectorRef, or_at, and_at, basic_at, comparable_at, call_at, argument_at, part_query, segment_at, segments_at, ors_in, branches, branches_named, selector_view, stage_at, stages_at}
+use Rattle.serde_json_path_core.specs.Imports.{Data, QueryError, Pattern, Step, Located, Kind, Signature, Term, Call, calls_of, calls_in_segments, calls_in_segment, calls_in_selector, calls_in_or, calls_in_and, calls_in_basic, calls_in_operand, calls_from, calls_in_argument, IsTyped, AreTypedSegments, IsTypedSegment, IsTypedSelector, IsTypedOr, IsTypedAnd, IsTypedBasic, IsTypedComparable, IsTypedCall, IsTypedArgument, IsTypedOperand, of_logical, AreOfKind, IsOfKind, is_query, is_segment, is_or, is_and, is_basic, is_comparable, is_call, is_argument, is_tested, selector_ref_fits, Part, SelectorRef, or_at, and_at, basic_at, operand_at, call_at, argument_at, part_query, segment_at, segments_at, ors_in, branches, branches_named, selector_view, stage_at, stages_at}
 use Rattle.serde_json_path_core.specs.Inside.Rest as advances
 use Rattle.serde_json_path_core.specs.Compared.{Compared}
 use Rattle.serde_json_path_core.specs.PatternCalls.{StandsIn}
@@ -43,7 +43,11 @@ abbrev pub SoundBasic : {F : Type 0} {g : _} → Scope F g → Part → Type 0
 SoundBasic scope part = IsOfKind is_basic (nodes_of scope) part × Sound scope IsTypedBasic calls_in_basic (basic_at (nodes_of scope) part)
 
 abbrev pub SoundComparable : {F : Type 0} {g : _} → Scope F g → Part → Type 0
-SoundComparable scope part = IsOfKind is_comparable (nodes_of scope) part × Sound scope IsTypedComparable calls_in_comparable (comparable_at (nodes_of scope) part)
+SoundComparable scope part = IsOfKind is_comparable (nodes_of scope) part × Sound scope IsTypedComparable calls_in_operand (operand_at (nodes_of scope) part)
+
+-- the same of what is tested
+abbrev pub SoundTest : {F : Type 0} {g : _} → Scope F g → Part → Type 0
+SoundTest scope part = IsOfKind is_tested (nodes_of scope) part × Sound scope (λ signature o. IsTypedOperand signature o of_logical) calls_in_operand (operand_at (nodes_of scope) part)
 
 abbrev pub SoundCall : {F : Type 0} {g : _} → Scope F g → Part → Type 0
 SoundCall scope part = IsOfKind is_call (nodes_of scope) part × Sound scope IsTypedCall calls_from (call_at (nodes_of scope) part)
@@ -85,9 +89,13 @@ and_holds scope part v = computed.all_true (set_of scope) (top_of scope) (and_at
 abbrev pub basic_holds : {F : Type 0} {g : _} → Scope F g → Part → Data → Bool
 basic_holds scope part v = computed.basic_true (set_of scope) (top_of scope) (basic_at (nodes_of scope) part) v
 
+-- whether what is tested does
+abbrev pub test_holds : {F : Type 0} {g : _} → Scope F g → Part → Data → Bool
+test_holds scope part v = computed.test_true (set_of scope) (top_of scope) (operand_at (nodes_of scope) part) v
+
 -- what a side of a comparison stands for
 abbrev pub compared_at : {F : Type 0} {g : _} → Scope F g → Part → Data → Option Compared
-compared_at scope part v = computed.compared (set_of scope) (top_of scope) (comparable_at (nodes_of scope) part) v
+compared_at scope part v = computed.compared (set_of scope) (top_of scope) (operand_at (nodes_of scope) part) v
 
 -- what a call answers
 abbrev pub answer_at : {F : Type 0} {g : _} → Scope F g → Part → Data → Term

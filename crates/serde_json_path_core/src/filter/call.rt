@@ -11,7 +11,7 @@ use serde_json::Value;
 use serde_json_path_functions::{
     FunctionArgType, FunctionValue, Functions, LogicalType, NodesType, QueryError, ValueType,
 };
-use serde_json_path_syntax::{Argument, LiteralValue, Node, Part};
+use serde_json_path_syntax::{LiteralValue, Node, Operand, Part};
 
 /// Whether a function's answer holds as a test (RFC 9535, section 2.4.2).
 pub(crate) fn answer_holds(answer: &FunctionValue<'_>) -> bool
@@ -75,24 +75,24 @@ fn argument_as<'x, 'q: 'x, 'b: 'x, F: Functions>(
         term_view term ≡ given_at scope.now argument (kind_view kind) (view current.now)) }
 {
     match scope.query.node(argument) {
-        Node::Argument(argument) => match argument {
-            Argument::Literal(LiteralValue::Value(literal)) => {
+        Node::Operand(operand) => match operand {
+            Operand::Literal(LiteralValue::Value(literal)) => {
                 let literal: &'x Value = literal;
                 Ok(FunctionValue::Value(ValueType::Node(literal)))
             }
-            Argument::Literal(LiteralValue::Number(number)) => {
+            Operand::Literal(LiteralValue::Number(number)) => {
                 Ok(FunctionValue::Value(ValueType::Value(number.value())))
             }
-            Argument::Query(query) => result_as(scope, *query, kind, current),
-            Argument::Call(call) => {
+            Operand::Query(query) => result_as(scope, *query, kind, current),
+            Operand::Call(call) => {
                 let answer: FunctionValue<'x> = answer(scope, *call, current)?;
                 Ok(answer_as(answer, kind))
             }
-            Argument::Logical(test) => {
-                let holds = or_holds(scope, *test, current)?;
-                Ok(FunctionValue::Logical(LogicalType::from(holds)))
-            }
         },
+        Node::LogicalOr(_) => {
+            let holds = or_holds(scope, argument, current)?;
+            Ok(FunctionValue::Logical(LogicalType::from(holds)))
+        }
         _ => unreachable!(),
     }
 }

@@ -11,7 +11,7 @@ use crate::filter::side::{Side, side_of_literal, side_of_value};
 use serde_json::Value;
 use serde_json_path_functions::Functions;
 use serde_json_path_syntax::{
-    Basic, Comparable, ComparisonOperator, LiteralValue, Node, Part, QueryKind,
+    Basic, ComparisonOperator, LiteralValue, Node, Operand, Part, QueryKind,
 };
 
 /// How a side of a comparison is found for each node.
@@ -120,13 +120,13 @@ pub(crate) fn form_of<'x, 'q: 'x, 'b: 'x, F: Functions>(
     ensures sound { SoundForm scope.now result }
 {
     match scope.query.node(comparable) {
-        Node::Comparable(comparable) => match comparable {
-            Comparable::Literal(literal) => {
+        Node::Operand(operand) => match operand {
+            Operand::Literal(literal) => {
                 let literal: &'x LiteralValue = literal;
                 SideForm::Plain(PlainForm::Fixed(side_of_literal(literal)))
             }
-            Comparable::Singular(query) => SideForm::Plain(query_form(scope, *query)),
-            Comparable::Called(call) => SideForm::Called(*call),
+            Operand::Query(query) => SideForm::Plain(query_form(scope, *query)),
+            Operand::Call(call) => SideForm::Called(*call),
         },
         _ => unreachable!(),
     }

@@ -1,8 +1,8 @@
 //! Logical expressions of filters (RFC 9535, section 2.3.5).
 
-ghost use Rattle.std.specs.Prelude.{◌≤◌, Some, length};
-ghost use Rattle.serde_json_path_core.specs.Inside.Words.{view, MayEvaluate, Tells, SoundForm, compared_by, compared_with, holds_by, relation_holds, is_nonempty, SoundAnd, SoundBasic, SoundCall, SoundComparable, SoundOperands, SoundOr, SoundQuery, and_holds, answer_at, any_holds, basic_holds, or_holds, results_at, side_view, StandsIn, nodes_of, top_of, operator_view, parts_bound};
-ghost use Rattle.serde_json_path_core.specs.Inside.Computed.{answer_holds as holds_as_test};
+ghost use Rattle.std.specs.Prelude.{◌≡◌, ◌≤◌, Some, length};
+ghost use Rattle.serde_json_path_core.specs.Inside.Words.{view, MayEvaluate, Tells, SoundForm, compared_by, compared_with, holds_by, relation_holds, is_nonempty, SoundAnd, SoundBasic, SoundCall, SoundComparable, SoundOperands, SoundOr, SoundQuery, SoundTest, and_holds, answer_at, any_holds, basic_holds, or_holds, results_at, test_holds, side_view, StandsIn, nodes_of, top_of, operator_view, parts_bound};
+ghost use Rattle.serde_json_path_core.specs.Inside.Computed as computed;
 
 use crate::evaluation::scope::Scope;
 use crate::filter::call::{answer, answer_holds};
@@ -12,7 +12,7 @@ use crate::filter::query::first;
 use crate::filter::side::{Side, side_of_answer};
 use serde_json::Value;
 use serde_json_path_functions::{Functions, QueryError};
-use serde_json_path_syntax::{Basic, ComparisonOperator, Node, Part};
+use serde_json_path_syntax::{Basic, ComparisonOperator, Node, Operand, Part};
 
 /// Whether a logical expression holds for `@` at the value.
 #[cycle(evaluation)]
@@ -85,12 +85,41 @@ fn basic_holds<'b, F: Functions>(
                 operator,
                 right,
             } => relation_holds(scope, *left, *operator, *right, current),
-            Basic::Paren(inner) => or_holds(scope, *inner, current),
-            Basic::NotParen(inner) => Ok(!or_holds(scope, *inner, current)?),
-            Basic::Exist(query) => exists(scope, *query, current),
-            Basic::NotExist(query) => Ok(!exists(scope, *query, current)?),
-            Basic::Test(call) => call_holds(scope, *call, current),
-            Basic::NotTest(call) => Ok(!call_holds(scope, *call, current)?),
+            Basic::Paren { negated, inner } => {
+                Ok(not_if(*negated, or_holds(scope, *inner, current)?))
+            }
+            Basic::Test { negated, operand } => {
+                Ok(not_if(*negated, test_holds(scope, *operand, current)?))
+            }
+        },
+        _ => unreachable!(),
+    }
+}
+
+/// What was found, or its opposite where it is negated.
+#[inline(always)]
+fn not_if(negated: bool, holds: bool) -> bool
+    ensures { result ≡ computed.not_if negated holds }
+{
+    if negated { !holds } else { holds }
+}
+
+/// Whether a query selects a node, or a call's answer holds.
+#[cycle(evaluation)]
+#[inline(always)]
+fn test_holds<'b, F: Functions>(
+    scope: &Scope<'_, 'b, F>,
+    operand: Part,
+    current: &'b Value,
+) -> Result<bool, QueryError>
+    requires { MayEvaluate scope.now (SoundTest scope.now) operand (view current.now) }
+    ensures { Tells scope.now result (test_holds scope.now operand (view current.now)) }
+{
+    match scope.query.node(operand) {
+        Node::Operand(operand) => match operand {
+            Operand::Query(query) => exists(scope, *query, current),
+            Operand::Call(call) => call_holds(scope, *call, current),
+            Operand::Literal(_) => unreachable!(),
         },
         _ => unreachable!(),
     }
@@ -119,7 +148,7 @@ fn call_holds<'b, F: Functions>(
     current: &'b Value,
 ) -> Result<bool, QueryError>
     requires { MayEvaluate scope.now (SoundCall scope.now) call (view current.now) }
-    ensures { Tells scope.now result (holds_as_test (answer_at scope.now call (view current.now))) }
+    ensures { Tells scope.now result (computed.answer_holds (answer_at scope.now call (view current.now))) }
 {
     let answer = answer(scope, call, current)?;
     Ok(answer_holds(&answer))

@@ -4,53 +4,37 @@ use crate::condition::Condition::{Any, Ends, Starts};
 use crate::slip::Slip;
 
 /// Where a string has no ending quote.
-pub(crate) const ENDING_QUOTE: &[Slip] = &[
-    (
-        Ends(&["\\']", "\\\"]"]),
-        Any,
-        "`\\\\` for a backslash before the ending quote",
-    ),
-    (Ends(&["']", "\"]"]), Any, "the same quote at both ends"),
-    (Any, Any, "the ending quote"),
-];
+pub(crate) const ENDING_QUOTE: &[Slip] = slips! {
+    Ends(&["\\']", "\\\"]"]), Any => "`\\\\` for a backslash before the ending quote";
+    Ends(&["']", "\"]"]), Any => "the same quote at both ends";
+    Any, Any => "the ending quote";
+};
 
 /// At a bad escape.
-pub(crate) const ESCAPE: &[Slip] = &[
-    (
-        Any,
-        Starts(&["\\x", "\\u{"]),
-        "`\\u0041`, with four hexadecimal digits",
-    ),
-    (
-        Any,
-        Starts(&["\\ud", "\\uD"]),
-        "a pair of surrogates, as in `\\ud83d\\ude00`",
-    ),
-    (
-        Any,
-        Starts(&["\\u"]),
-        "`\\u0041`, with four hexadecimal digits",
-    ),
-    (
-        Any,
-        Starts(&["\\'", "\\\""]),
-        "no `\\` before a quote of the other kind",
-    ),
-    (Any, Any, "`\\\\` for a backslash"),
-];
+pub(crate) const ESCAPE: &[Slip] = slips! {
+    Any, Starts(&["\\x", "\\u{"]) => "`\\u0041`, with four hexadecimal digits";
+    Any, Starts(&["\\ud", "\\uD"]) => "a pair of surrogates, as in `\\ud83d\\ude00`";
+    Any, Starts(&["\\u"]) => "`\\u0041`, with four hexadecimal digits";
+    Any, Starts(&["\\'", "\\\""]) => "no `\\` before a quote of the other kind";
+    Any, Any => "`\\\\` for a backslash";
+};
 
 /// At a control character in a string.
-pub(crate) const CONTROL_CHARACTER: &[Slip] = &[(
-    Any,
-    Any,
-    "an escape, as `\\n`, `\\t` or `\\u0000`",
-)];
+pub(crate) const CONTROL_CHARACTER: &[Slip] = slips! {
+    Any, Any => "an escape, as `\\n`, `\\t` or `\\u0000`";
+};
 
 /// At a number with an exponent, or without digits after the point.
-pub(crate) const EXPONENT: &[Slip] = &[(Any, Any, "`1000` for `1e3`, `1` for `1.`")];
+pub(crate) const EXPONENT: &[Slip] = slips! {
+    Any, Any => "`1000` for `1e3`, `1` for `1.`";
+};
 
 /// At a number with a long fraction.
-pub(crate) const FRACTION: &[Slip] = &[(Any, Any, "at most nine digits after the point")];
+pub(crate) const FRACTION: &[Slip] = slips! {
+    Any, Any => "at most nine digits after the point";
+};
 
 /// At a number that is out of range.
-pub(crate) const NUMBER: &[Slip] = &[(Any, Any, "a number from -2^63 to 2^64 - 1")];
+pub(crate) const NUMBER: &[Slip] = slips! {
+    Any, Any => "a number from -2^63 to 2^64 - 1";
+};

@@ -1,7 +1,7 @@
 -- Arguments and calls, by what holds one level deeper; and the laws of these pieces at every level.
-use Rattle.serde_json_path_parser.proofs.Words.{Call, ◌==◌, ◌||◌, ℤ, pos, negsuc, ◌*ℤ◌, ◌-ℤ◌, ◌/◌, ◌%◌, ◌*◌, eqb-true, eq-eqb, or_parts, ints, cases_Bool, div-add-mod', LogicalOr, LogicalAnd, Basic, exist, test, Argument, literal_argument, query_argument, call_argument, logical_argument, number, Operator, no_or, or, no_and, and, result_kind, TakesResult, IsTypedArgument, argument_depth, Kind, of_value, of_nodes, of_logical, Signature, WrongReturnType, is_at, are_at, begins, begins_both, IsBlank, StandsAlone, ReadsArgument, ◌>>=◌, refusal, past_blanks, byte_count, Operand, a_literal, a_call, is_result, is_test, takes_result, is_whole, suits, alone, ends_argument, Deeper, read_operand, read_test, read_relation, read_basic_from, read_basic, read_next_basic, read_and_from, read_and, read_next_and, read_or_from, read_or, read_argument, mul-mod_left, is_blank, ReadsCall, append-nil, Reads, Parsed, codes, call, Arguments, no_arguments, argument, AreTypedArguments, IsTypedCall, arguments_depth, call_depth, ExpectedClosingParenthesis, WrongArgumentType, UndefinedFunction, WrongNumberOfArguments, IsFunctionName, ReadMoreArguments, ReadArguments, read_end, read_some_arguments, read_arguments, read_call, NestedTooDeep, level, cond, ◌≡◌, ℕ, ◌≤◌, inl, inr, Bool, true, false, List, [], ◌∷◌, ◌++◌, Option, Some, Ok, Err, refl, sym, ap, subst, ◌∙◌, append_assoc, arith, ◌+◌, zero, suc, drop, None, LongHand, a_query, begins_operator, query_singular, IsTypedOr, or_depth}
+use Rattle.serde_json_path_parser.proofs.Words.{Call, ◌==◌, ◌||◌, ℤ, pos, negsuc, ◌*ℤ◌, ◌-ℤ◌, ◌/◌, ◌%◌, ◌*◌, eqb-true, eq-eqb, or_parts, ints, cases_Bool, div-add-mod', LogicalOr, LogicalAnd, Basic, test, Argument, operand, logical_argument, number, Operator, no_or, or, no_and, and, result_kind, TakesResult, IsTypedArgument, argument_depth, Kind, of_value, of_nodes, of_logical, Signature, WrongReturnType, is_at, are_at, begins, begins_both, IsBlank, StandsAlone, ReadsArgument, ◌>>=◌, refusal, past_blanks, byte_count, Operand, literal, called, is_result, is_test, takes_result, is_whole, suits, ends_argument, Deeper, read_operand, read_test, read_relation, read_basic_from, read_basic, read_next_basic, read_and_from, read_and, read_next_and, read_or_from, read_or, read_argument, mul-mod_left, is_blank, ReadsCall, append-nil, Reads, Parsed, codes, call, Arguments, no_arguments, argument, AreTypedArguments, IsTypedCall, arguments_depth, call_depth, ExpectedClosingParenthesis, WrongArgumentType, UndefinedFunction, WrongNumberOfArguments, IsFunctionName, ReadMoreArguments, ReadArguments, read_end, read_some_arguments, read_arguments, read_call, NestedTooDeep, level, cond, ◌≡◌, ℕ, ◌≤◌, inl, inr, Bool, true, false, List, [], ◌∷◌, ◌++◌, Option, Some, Ok, Err, refl, sym, ap, subst, ◌∙◌, append_assoc, arith, ◌+◌, zero, suc, drop, None, LongHand, queried, begins_operator, IsTypedOr, or_depth, ReadsOperand}
 use Rattle.serde_json_path_parser.proofs.Reading.{split_again, blanks_of, spread, begins_where, differs, no_blank, begins_differs, Read, Spaced, bind_ok, ok_is, after_one, many_end, Inner, onward, choose, remade, read_as, Outcome, weaker_spaced, refused, past_text, Past, read_spaced, after_sign, past_spaced, past_through, past_run, front_each, whole, moved, begins_other}
-use Rattle.serde_json_path_parser.proofs.Grammar.LogicalForms.{IsGoodQuery, IsGoodCall, DeeperLaws, singular_query, ends_operand, ends_or, IsOperandText, IsOrText, begins_operand, begins_expression, operand_begins, as_expression, or_begins, no_blank_begins}
+use Rattle.serde_json_path_parser.proofs.Grammar.LogicalForms.{query_singular, IsGoodQuery, IsGoodCall, DeeperLaws, singular_query, ends_operand, ends_or, IsOperandText, IsOrText, begins_operand, begins_expression, operand_begins, as_expression, or_begins, no_blank_begins, IsGoodOperand, typed_good}
 use Rattle.serde_json_path_parser.proofs.Grammar.LogicalExpressions.{or_again, or_outcome, and_from_outcome, or_from_outcome}
 use Rattle.serde_json_path_parser.proofs.Grammar.Comparisons.{operand_again, operand_outcome, no_operator, basic_from_outcome}
 use Rattle.serde_json_path_parser.proofs.Rows.{Follows, at_sign}
@@ -45,11 +45,11 @@ amount_whole (negsuc m) (negsuc w) e =
 amount_whole _ _ e = absurd (omega (arith, ints, e))
 
 pub typed_suits : (signature : List ℕ → Option Signature) (a : Argument) (kind : Kind) → IsTypedArgument signature a kind → suits signature a kind ≡ true
-typed_suits signature (literal_argument (number amount)) of_value h = amount_whole amount h.0 h.1
-typed_suits signature (literal_argument l) of_value h = refl
-typed_suits signature (query_argument q) of_value h = query_singular q h.1
-typed_suits signature (query_argument q) kind h = refl
-typed_suits signature (call_argument c) kind h = taken signature kind (result_kind signature c) h.1
+typed_suits signature (operand (literal (number amount))) of_value h = amount_whole amount h.0 h.1
+typed_suits signature (operand (literal l)) of_value h = refl
+typed_suits signature (operand (queried q)) of_value h = query_singular q h.1
+typed_suits signature (operand (queried q)) kind h = refl
+typed_suits signature (operand (called c)) kind h = taken signature kind (result_kind signature c) h.1
 typed_suits signature (logical_argument e) of_logical h = refl
 typed_suits signature _ _ h = absurd h
 
@@ -74,9 +74,7 @@ single t a b c d whole none first last = whole ∙ ap (λ (l : List ℕ). a ++ l
 module _ (signature : List ℕ → Option Signature) (n : ℕ) where
   -- an argument whose parts are good, before its type is judged
   abbrev IsGoodArgument : Argument → Type 0
-  IsGoodArgument (literal_argument l) = Unit {0}
-  IsGoodArgument (query_argument q) = IsGoodQuery signature n q
-  IsGoodArgument (call_argument c) = IsGoodCall signature n c
+  IsGoodArgument (operand o) = IsGoodOperand signature n o
   IsGoodArgument (logical_argument e) = IsTypedOr signature e × (or_depth e ≤ n)
 
   abbrev pub IsArgument : List ℕ → Argument → Type 0
@@ -89,30 +87,23 @@ module _ (signature : List ℕ → Option Signature) (n : ℕ) where
 
   -- a good argument that suits the parameter is well-typed
   pub suits_typed : (a : Argument) (kind : Kind) → IsGoodArgument a → suits signature a kind ≡ true → IsTypedArgument signature a kind
-  suits_typed (literal_argument (number amount)) of_value h e = whole_amount amount e
-  suits_typed (literal_argument l) of_value h e = tt
-  suits_typed (query_argument q) of_value h e = (h.0, singular_query q e)
-  suits_typed (query_argument q) kind h e = h.0
-  suits_typed (call_argument c) kind h e = (h.0, takes signature kind (result_kind signature c) e)
+  suits_typed (operand (literal (number amount))) of_value h e = whole_amount amount e
+  suits_typed (operand (literal l)) of_value h e = tt
+  suits_typed (operand (queried q)) of_value h e = (h.0, singular_query q e)
+  suits_typed (operand (queried q)) kind h e = h.0
+  suits_typed (operand (called c)) kind h e = (h.0, takes signature kind (result_kind signature c) e)
   suits_typed (logical_argument f) of_logical h e = h.0
   suits_typed _ _ h e = absurd cc
 
   pub good_depth : (a : Argument) → IsGoodArgument a → argument_depth a ≤ n
-  good_depth (literal_argument l) h = omega arith
+  good_depth (operand (literal l)) h = omega arith
   good_depth _ h = h.1
 
   -- a well-typed argument is good
-  pub typed_good : (a : Argument) (kind : Kind) → IsTypedArgument signature a kind → argument_depth a ≤ n → IsGoodArgument a
-  typed_good (literal_argument l) kind h d = tt
-  typed_good (query_argument q) of_value h d = (h.0, d)
-  typed_good (query_argument q) kind h d = (h, d)
-  typed_good (call_argument c) kind h d = (h.0, d)
-  typed_good (logical_argument e) of_logical h d = (h, d)
-  typed_good (logical_argument e) kind h d = absurd h
-
-  alone_is : (o : Operand) (t : List ℕ) → IsOperandText signature n t o → IsLooseArgument t (alone o)
-  alone_is (a_literal l) t h = h
-  alone_is _ t h = h
+  pub argument_good : (a : Argument) (kind : Kind) → IsTypedArgument signature a kind → argument_depth a ≤ n → IsGoodArgument a
+  argument_good (operand o) kind h d = typed_good signature n o kind h d
+  argument_good (logical_argument e) of_logical h d = (h, d)
+  argument_good (logical_argument e) kind h d = absurd h
 
 module _ (signature : List ℕ → Option Signature) (n : ℕ) (deeper : Deeper) (laws : DeeperLaws signature n deeper) where
   -- ---- what a reading gives
@@ -122,24 +113,22 @@ module _ (signature : List ℕ → Option Signature) (n : ℕ) (deeper : Deeper)
   argument_outcome cs =
       choose {b = begins (λ c. c == 40 || c == 33) cs} (λ e. remade (λ e. logical_argument e) (λ t e h. h) (or_outcome signature n deeper laws cs)) (λ _.
       onward (operand_outcome signature n deeper laws cs) (λ o e s.
-      choose (λ e. read_as (alone o.0) s (λ t h. alone_is signature n o.0 t h)) (λ _.
+      choose (λ e. read_as (operand o.0) s (λ t h. h)) (λ _.
       onward (basic_from_outcome signature n deeper laws cs o s) (λ b e s.
       onward (and_from_outcome signature n deeper laws cs b s) (λ a e s. remade (λ e. logical_argument e) (λ t e h. h) (or_from_outcome signature n deeper laws cs a s))))))
 
   -- ---- an operand alone is read as that
 
-  operand_argument : (t : List ℕ) (o : Operand) (rest : List ℕ) → IsOperandText signature n t o → Follows ends_argument rest → read_argument signature deeper (t ++ rest) ≡ Ok (alone o, past_blanks rest)
+  operand_argument : (t : List ℕ) (o : Operand) (rest : List ℕ) → IsOperandText signature n t o → Follows ends_argument rest → read_argument signature deeper (t ++ rest) ≡ Ok (operand o, past_blanks rest)
   unfolding read_argument
   operand_argument t o rest h ends =
       let plain : begins (λ c. c == 40 || c == 33) (t ++ rest) ≡ false = begins_where begins_operand (λ c. c == 40 || c == 33) false (t ++ rest) (λ c e. grind (arith, e)) (operand_begins o t rest h.1) in
       let read = operand_again signature n deeper laws t o rest h (begins_where ends_argument ends_operand true (past_blanks rest) (λ c e. grind (arith, e)) ends) in
       rw (plain, read, ends) refl
 
-  alone_text : (e : LogicalOr) (t : List ℕ) → IsOrText signature n t e → StandsAlone e → (o : Operand) × IsOperandText signature n t o × (alone o ≡ logical_argument e → ⊥)
-  alone_text (or (and (exist q) no_and) no_or) t (good, (a, b, (c, d, is, last, first), none, whole)) stands =
-      (a_query q, ((good.0.0.0, omega (arith, good.1)), subst (Reads q) (sym (single t a b c d whole none first last)) is), (λ same. absurd cc))
-  alone_text (or (and (test f) no_and) no_or) t (good, (a, b, (c, d, is, last, first), none, whole)) stands =
-      (a_call f, ((good.0.0.0.0, omega (arith, good.1)), subst (ReadsCall f) (sym (single t a b c d whole none first last)) is), (λ same. absurd cc))
+  alone_text : (e : LogicalOr) (t : List ℕ) → IsOrText signature n t e → StandsAlone e → (o : Operand) × IsOperandText signature n t o × (operand o ≡ logical_argument e → ⊥)
+  alone_text (or (and (test false o) no_and) no_or) t (good, (a, b, (c, d, is, last, first), none, whole)) stands =
+      (o, (typed_good signature n o of_logical good.0.0.0 (omega (arith, good.1)), subst (ReadsOperand o) (sym (single t a b c d whole none first last)) is), (λ same. absurd cc))
   alone_text _ t h stands = absurd stands
 
   -- so no expression that is read before an argument's end is one
@@ -148,7 +137,7 @@ module _ (signature : List ℕ → Option Signature) (n : ℕ) (deeper : Deeper)
       let o = alone_text e t h stands in
       let past : past_blanks (k ++ rest) ≡ rest = past_run is_blank k rest blank (begins_where ends_argument is_blank false rest (λ c e. no_blank ends_argument c refl refl refl refl e) ends) in
       let again = operand_argument t o.0 (k ++ rest) o.1 (ap (begins ends_argument) past ∙ ends) in
-      o.2 (ap (λ y. y.0) (ok_is (alone o.0, past_blanks (k ++ rest)) (logical_argument e, rest) (sym again ∙ read)))
+      o.2 (ap (λ y. y.0) (ok_is (operand o.0, past_blanks (k ++ rest)) (logical_argument e, rest) (sym again ∙ read)))
 
   pub argument_is : (cs : List ℕ) (x : Argument × List ℕ) (s : Read (Spaced (IsLooseArgument signature n)) cs x) → read_argument signature deeper cs ≡ Ok x → begins ends_argument x.1 ≡ true → IsArgument signature n s.is_so.0 x.0
   argument_is cs (logical_argument f, rest) s e ends =
@@ -175,14 +164,14 @@ module _ (signature : List ℕ → Option Signature) (n : ℕ) (deeper : Deeper)
   operand_alone start o cs x ends e =
       by_operand o (ap (λ (op : Option (Operator × List ℕ)). read_relation signature deeper (byte_count start) o op cs >>= more_of) (sym (no_operator cs (begins_where ends_argument begins_operator false cs (λ c e. grind (arith, e)) ends))) ∙ e)
     where
-      by_result : (c : Call) (value : Bool) → (cond value (Err (refusal WrongReturnType LongHand start)) (Ok (test c, cs)) >>= more_of) ≡ Ok x → StandsAlone x.0
+      by_result : (c : Call) (value : Bool) → (cond value (Err (refusal WrongReturnType LongHand start)) (Ok (test false (called c), cs)) >>= more_of) ≡ Ok x → StandsAlone x.0
       by_result c true e = absurd cc
-      by_result c false e = subst StandsAlone (none_joined (test c) cs x ends e) tt
+      by_result c false e = subst StandsAlone (none_joined (test false (called c)) cs x ends e) tt
 
-      by_operand : (o : Operand) → (read_test signature deeper (byte_count start) o cs >>= more_of) ≡ Ok x → StandsAlone x.0
-      by_operand (a_literal l) e = absurd cc
-      by_operand (a_query q) e = subst StandsAlone (none_joined (exist q) cs x ends e) tt
-      by_operand (a_call c) e = by_result c (is_result of_value (result_kind signature c)) e
+      by_operand : (o : Operand) → (read_test signature deeper false (byte_count start) o cs >>= more_of) ≡ Ok x → StandsAlone x.0
+      by_operand (literal l) e = absurd cc
+      by_operand (queried q) e = subst StandsAlone (none_joined (test false (queried q)) cs x ends e) tt
+      by_operand (called c) e = by_result c (is_result of_value (result_kind signature c)) e
 
   -- an operand and what is joined to it
   joined_again : (cs : List ℕ) (x : LogicalOr × List ℕ) (o : Operand × List ℕ) (b : Basic × List ℕ) (a : LogicalAnd × List ℕ) → begins (λ c. c == 40 || c == 33) cs ≡ false → (StandsAlone x.0 → ⊥)
@@ -209,16 +198,12 @@ module _ (signature : List ℕ → Option Signature) (n : ℕ) (deeper : Deeper)
   -- ---- each argument
 
   pub argument_again : (t : List ℕ) (a : Argument) (rest : List ℕ) → IsArgument signature n t a → Follows ends_argument rest → read_argument signature deeper (t ++ rest) ≡ Ok (a, past_blanks rest)
-  argument_again t (literal_argument l) rest h ends = operand_argument t (a_literal l) rest h ends
-  argument_again t (query_argument q) rest h ends = operand_argument t (a_query q) rest h ends
-  argument_again t (call_argument c) rest h ends = operand_argument t (a_call c) rest h ends
+  argument_again t (operand o) rest h ends = operand_argument t o rest h ends
   argument_again t (logical_argument e) rest h ends =
       logical_again (t ++ rest) (e, past_blanks rest) h.1.0 (or_again signature n deeper laws t e rest (h.0, h.1.1) (begins_where ends_argument ends_or true (past_blanks rest) (λ c e. grind (arith, e)) ends))
 
   pub argument_begins : (t : List ℕ) (a : Argument) (rest : List ℕ) → ReadsArgument a t → begins begins_expression (t ++ rest) ≡ true
-  argument_begins t (literal_argument l) rest h = as_expression (t ++ rest) (operand_begins (a_literal l) t rest h)
-  argument_begins t (query_argument q) rest h = as_expression (t ++ rest) (operand_begins (a_query q) t rest h)
-  argument_begins t (call_argument c) rest h = as_expression (t ++ rest) (operand_begins (a_call c) t rest h)
+  argument_begins t (operand o) rest h = as_expression (t ++ rest) (operand_begins o t rest h)
   argument_begins t (logical_argument e) rest h = or_begins e t rest h.1
 
 -- ---- arguments in a row and calls: what is read is a good one, or where the refusal stands; and each good one is read
@@ -331,12 +316,12 @@ module _ (signature : List ℕ → Option Signature) (n : ℕ) (deeper : Deeper)
     arguments_again start [] a more t others typed shallow is are = absurd typed
     arguments_again start (kind ∷ kinds) a no_arguments t others typed shallow is are =
         let read : read_argument signature deeper (t ++ (others ++ closing)) ≡ Ok (a, 41 ∷ rest) =
-        argument_again signature n deeper laws t a (others ++ closing) (typed_good signature n a kind typed.0 (omega (arith, shallow)), is) (follows no_arguments others are)
+        argument_again signature n deeper laws t a (others ++ closing) (argument_good signature n a kind typed.0 (omega (arith, shallow)), is) (follows no_arguments others are)
         ∙ ap (λ (l : List ℕ). Ok (a, l)) (ap (λ (l : List ℕ). past_blanks (l ++ closing)) are ∙ at_closing) in
         rw (read, typed_suits signature a kind typed.0, typed.1) refl
     arguments_again start (kind ∷ kinds) a (argument b more) t others typed shallow is (s, c, d, (j, i, blanks, after, sign), next, are, e) =
         let read : read_argument signature deeper (t ++ (others ++ closing)) ≡ Ok (a, 44 ∷ (i ++ (c ++ (d ++ closing)))) =
-        argument_again signature n deeper laws t a (others ++ closing) (typed_good signature n a kind typed.0 (omega (arith, shallow)), is) (follows (argument b more) others (s, c, d, (j, i, blanks, after, sign), next, are, e))
+        argument_again signature n deeper laws t a (others ++ closing) (argument_good signature n a kind typed.0 (omega (arith, shallow)), is) (follows (argument b more) others (s, c, d, (j, i, blanks, after, sign), next, are, e))
         ∙ ap (λ (l : List ℕ). Ok (a, l)) (at_sign (codes ",") others s j i c d closing (λ cs. refl) blanks sign e) in
         let onward : past_blanks (i ++ (c ++ (d ++ closing))) ≡ c ++ (d ++ closing) = past_run is_blank i (c ++ (d ++ closing)) after (no_blank_begins (c ++ (d ++ closing)) (argument_begins signature n deeper laws c b (d ++ closing) next)) in
         rw (read, typed_suits signature a kind typed.0, onward, arguments_again start kinds b more c d typed.1 (omega (arith, shallow)) next are) refl

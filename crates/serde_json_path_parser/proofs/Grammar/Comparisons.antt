@@ -1,6 +1,6 @@
 -- Operands, comparisons and tests, by what holds one level deeper.
-use Rattle.serde_json_path_parser.proofs.Words.{◌==◌, codes, bytes_eq, ℤ, and_parts, ReadSegments, is_digit, is_exponent, nat_le, ◌&&◌, bytes_eq-Decides, QueryKind, root, current, query, Call, Literal, text, number, truth, null, Segments, call, Signature, ExpectedExpression, is_at, begins, is_small_letter, is_function_char, IsFunctionName, IsQuote, AllPass, is_blank, is_name_char, IsNumber, opens, IsLiteral, Reads, ReadsCall, query_sign, Parsed, past_blanks, byte_count, read_string, segment_list, begins_int, Operand, a_literal, a_call, Deeper, word, past_word, begins_call, read_literal_word, read_query, read_named_call, read_text, read_operand, ◌>>=◌, Basic, relation, exist, test, Comparable, literal, singular, called, Operator, equal, less, greater, result_kind, IsTestKind, Kind, of_value, of_nodes, of_logical, NonSingularQuery, WrongReturnType, ExpectedComparisonOperator, IsBlank, operator_sign, is_result, read_operator, read_comparable, read_test, read_right_side, read_relation, read_basic_from, ℕ, ◌<◌, ◌≡◌, inl, inr, true, false, List, [], ◌∷◌, ◌++◌, drop, Option, Ok, refl, sym, ap, ◌∙◌, append_assoc, Bool, arith, cond, Some, None, subst, LongHand, a_query, read_named, or_parts, begins_operator, query_singular}
-use Rattle.serde_json_path_parser.proofs.Grammar.LogicalForms.{IsGoodQuery, IsGoodCall, DeeperLaws, ends_operand, IsCallText, IsOperandText, singular_query, ends_basic, IsBasicText, IsComparableText, begins_operand, operand_begins, as_expression, no_blank_begins}
+use Rattle.serde_json_path_parser.proofs.Words.{◌==◌, codes, bytes_eq, ℤ, and_parts, ReadSegments, is_digit, is_exponent, nat_le, ◌&&◌, bytes_eq-Decides, QueryKind, root, current, query, Call, Literal, text, number, truth, null, Segments, call, Signature, ExpectedExpression, is_at, begins, is_small_letter, is_function_char, IsFunctionName, IsQuote, AllPass, is_blank, is_name_char, IsNumber, opens, IsLiteral, Reads, ReadsCall, query_sign, Parsed, past_blanks, byte_count, read_string, segment_list, begins_int, Operand, literal, called, Deeper, word, past_word, begins_call, read_literal_word, read_query, read_named_call, read_text, read_operand, ◌>>=◌, Basic, relation, test, queried, Operator, equal, less, greater, result_kind, IsTestKind, Kind, of_value, of_nodes, of_logical, NonSingularQuery, WrongReturnType, ExpectedComparisonOperator, IsBlank, operator_sign, is_result, read_operator, read_comparable, read_test, read_right_side, read_relation, read_basic_from, ℕ, ◌<◌, ◌≡◌, inl, inr, true, false, List, [], ◌∷◌, ◌++◌, drop, Option, Ok, refl, sym, ap, ◌∙◌, append_assoc, Bool, arith, cond, Some, None, subst, LongHand, read_named, or_parts, begins_operator, IsTypedOperand, operand_depth, ReadsOperand, ◌≤◌}
+use Rattle.serde_json_path_parser.proofs.Grammar.LogicalForms.{query_singular, IsGoodQuery, IsGoodCall, DeeperLaws, ends_operand, IsCallText, IsOperandText, singular_query, ends_basic, IsBasicText, IsComparableText, begins_operand, operand_begins, as_expression, no_blank_begins}
 use Rattle.serde_json_path_parser.proofs.Grammar.Numbers.{number_outcome, goes_on, number_first, number_again}
 use Rattle.serde_json_path_parser.proofs.Reading.{whole, front_each, front_begins, some_begun, begins_front, begins_where, differs, begins_differs, front_all, past_run, no_blank, blanks_of, begins_not, Spaced, after_one, Read, after_two, made_spaced, read_spaced, guarded, along, choose, inner, past_spaced, remade, Outcome, past_text, read_as, refused, onward, gives, Inner}
 use Rattle.serde_json_path_parser.proofs.Grammar.Segments.{segments_outcome, same_segments, segments_again}
@@ -20,8 +20,8 @@ module _ (signature : List ℕ → Option Signature) (n : ℕ) (deeper : Deeper)
   OperandOutcome cs answer = Outcome (Spaced (IsOperandText signature n)) (Inner signature) cs answer
 
   -- a literal word and the blanks after it
-  word_outcome : (cs bytes : List ℕ) (l : Literal) → ((t : List ℕ) → t ≡ bytes → IsLiteral l t) → bytes_eq (word cs) bytes ≡ true → OperandOutcome cs (Ok (a_literal l, past_blanks (past_word cs)))
-  word_outcome cs bytes l is e = read_spaced (a_literal l, past_word cs) (record { text = word cs; is_so = (tt, is (word cs) ((bytes_eq-Decides (word cs) bytes).0 e)); split = whole is_function_char cs })
+  word_outcome : (cs bytes : List ℕ) (l : Literal) → ((t : List ℕ) → t ≡ bytes → IsLiteral l t) → bytes_eq (word cs) bytes ≡ true → OperandOutcome cs (Ok (literal l, past_blanks (past_word cs)))
+  word_outcome cs bytes l is e = read_spaced (literal l, past_word cs) (record { text = word cs; is_so = (tt, is (word cs) ((bytes_eq-Decides (word cs) bytes).0 e)); split = whole is_function_char cs })
 
   literal_word_outcome : (cs : List ℕ) → OperandOutcome cs (read_literal_word cs)
   literal_word_outcome cs =
@@ -31,7 +31,7 @@ module _ (signature : List ℕ → Option Signature) (n : ℕ) (deeper : Deeper)
 
   quoted_outcome : (quote : ℕ) (cs : List ℕ) → IsQuote quote → begins (λ c. c == quote) cs ≡ true → OperandOutcome cs (read_text quote cs)
   unfolding read_text
-  quoted_outcome quote cs is e = inner (along (after_one quote cs e) (made_spaced (λ bytes. a_literal (text bytes)) (λ t bytes h. (tt, h)) (string_outcome quote is (drop 1 cs))))
+  quoted_outcome quote cs is e = inner (along (after_one quote cs e) (made_spaced (λ bytes. literal (text bytes)) (λ t bytes h. (tt, h)) (string_outcome quote is (drop 1 cs))))
 
   pub query_outcome : (kind : QueryKind) (sign : ℕ) (cs : List ℕ) → query_sign kind ≡ sign ∷ [] → begins (λ c. c == sign) cs ≡ true
       → Outcome (Spaced (λ t q. IsGoodQuery signature n q × Reads q t)) (Inner signature) cs (read_query signature deeper kind cs)
@@ -49,10 +49,10 @@ module _ (signature : List ℕ → Option Signature) (n : ℕ) (deeper : Deeper)
   operand_outcome cs =
       choose (quoted_outcome 39 cs (inl refl)) (λ _.
       choose (quoted_outcome 34 cs (inr refl)) (λ _.
-      choose (λ e. remade (λ q. a_query q) (λ t q h. h) (query_outcome current 64 cs refl e)) (λ _.
-      choose (λ e. remade (λ q. a_query q) (λ t q h. h) (query_outcome root 36 cs refl e)) (λ _.
-      choose (λ e. remade (λ c. a_call c) (λ t c h. h) (named_call_outcome cs e)) (λ _.
-      choose (λ e. literal_word_outcome cs) (λ _. inner (made_spaced (λ amount. a_literal (number amount)) (λ t amount h. (tt, h)) (number_outcome cs))))))))
+      choose (λ e. remade (λ q. queried q) (λ t q h. h) (query_outcome current 64 cs refl e)) (λ _.
+      choose (λ e. remade (λ q. queried q) (λ t q h. h) (query_outcome root 36 cs refl e)) (λ _.
+      choose (λ e. remade (λ c. called c) (λ t c h. h) (named_call_outcome cs e)) (λ _.
+      choose (λ e. literal_word_outcome cs) (λ _. inner (made_spaced (λ amount. literal (number amount)) (λ t amount h. (tt, h)) (number_outcome cs))))))))
 
 -- ---- what stands after an operand
 
@@ -114,16 +114,16 @@ module _ (signature : List ℕ → Option Signature) (n : ℕ) (deeper : Deeper)
       rw (other 39 refl, other 34 refl, other 64 refl, other 36 refl, letter) refl
 
   word_again : (w rest : List ℕ) (l : Literal) → AllPass is_function_char w → begins is_small_letter (w ++ rest) ≡ true
-      → ((cs : List ℕ) → word cs ≡ w → read_literal_word cs ≡ Ok (a_literal l, past_blanks (past_word cs))) → Follows ends_operand rest → read (w ++ rest) ≡ Ok (a_literal l, past_blanks rest)
+      → ((cs : List ℕ) → word cs ≡ w → read_literal_word cs ≡ Ok (literal l, past_blanks (past_word cs))) → Follows ends_operand rest → read (w ++ rest) ≡ Ok (literal l, past_blanks rest)
   word_again w rest l each letter at follows =
       let h = word_alone w rest each follows in
-      at_letter (w ++ rest) letter ∙ rw (letter, h.2) (at (w ++ rest) h.0) ∙ ap (λ (after : List ℕ). Ok (a_literal l, past_blanks after)) h.1
+      at_letter (w ++ rest) letter ∙ rw (letter, h.2) (at (w ++ rest) h.0) ∙ ap (λ (after : List ℕ). Ok (literal l, past_blanks after)) h.1
 
-  quoted_again : (quote : ℕ) (cs bytes rest : List ℕ) → IsQuote quote → read_string quote cs ≡ Ok (bytes, rest) → read (quote ∷ cs) ≡ Ok (a_literal (text bytes), past_blanks rest)
+  quoted_again : (quote : ℕ) (cs bytes rest : List ℕ) → IsQuote quote → read_string quote cs ≡ Ok (bytes, rest) → read (quote ∷ cs) ≡ Ok (literal (text bytes), past_blanks rest)
   unfolding read_text
-  quoted_again quote cs bytes rest is e = of_quote (λ q. read_string q cs ≡ Ok (bytes, rest) → read (q ∷ cs) ≡ Ok (a_literal (text bytes), past_blanks rest)) (λ e. rw e refl) (λ e. rw e refl) quote is e
+  quoted_again quote cs bytes rest is e = of_quote (λ q. read_string q cs ≡ Ok (bytes, rest) → read (q ∷ cs) ≡ Ok (literal (text bytes), past_blanks rest)) (λ e. rw e refl) (λ e. rw e refl) quote is e
 
-  number_read : (t : List ℕ) (amount : ℤ) (rest : List ℕ) → IsNumber t amount → Follows ends_operand rest → read (t ++ rest) ≡ Ok (a_literal (number amount), past_blanks rest)
+  number_read : (t : List ℕ) (amount : ℤ) (rest : List ℕ) → IsNumber t amount → Follows ends_operand rest → read (t ++ rest) ≡ Ok (literal (number amount), past_blanks rest)
   number_read t amount rest is follows =
       let other : (k : ℕ) → begins_int k ≡ false → begins (λ c. c == k) (t ++ rest) ≡ false = λ k none. number_first (λ c. c == k) false t amount rest (λ c e. differs begins_int k c none e) is in
       let no_word : begins is_small_letter (t ++ rest) ≡ false = number_first is_small_letter false t amount rest (λ c e. grind (arith, e)) is in
@@ -132,16 +132,16 @@ module _ (signature : List ℕ → Option Signature) (n : ℕ) (deeper : Deeper)
   -- ---- operands
 
   pub operand_again : (t : List ℕ) (o : Operand) (rest : List ℕ) → IsOperandText signature n t o → Follows ends_operand rest → read_operand signature deeper (t ++ rest) ≡ Ok (o, past_blanks rest)
-  operand_again t (a_literal (text bytes)) rest h follows =
+  operand_again t (literal (text bytes)) rest h follows =
       let s = string_again t bytes rest h.1 in
       ap (λ (l : List ℕ). read (l ++ rest)) s.3 ∙ quoted_again s.0 (s.1 ++ rest) bytes rest s.2 s.4
-  operand_again t (a_literal (number amount)) rest h follows = number_read t amount rest h.1 follows
-  operand_again t (a_literal (truth true)) rest h follows = ap (λ (l : List ℕ). read (l ++ rest)) h.1 ∙ word_again (codes "true") rest (truth true) (refl, (refl, (refl, (refl, tt)))) refl (λ cs is. rw is refl) follows
-  operand_again t (a_literal (truth false)) rest h follows = ap (λ (l : List ℕ). read (l ++ rest)) h.1 ∙ word_again (codes "false") rest (truth false) (refl, (refl, (refl, (refl, (refl, tt))))) refl (λ cs is. rw is refl) follows
-  operand_again t (a_literal null) rest h follows = ap (λ (l : List ℕ). read (l ++ rest)) h.1 ∙ word_again (codes "null") rest null (refl, (refl, (refl, (refl, tt)))) refl (λ cs is. rw is refl) follows
-  operand_again t (a_query (query root segs)) rest (good, (a, reads, e)) follows = rw (e, query_again root 36 a segs rest good reads follows) refl
-  operand_again t (a_query (query current segs)) rest (good, (a, reads, e)) follows = rw (e, query_again current 64 a segs rest good reads follows) refl
-  operand_again t (a_call c) rest h follows =
+  operand_again t (literal (number amount)) rest h follows = number_read t amount rest h.1 follows
+  operand_again t (literal (truth true)) rest h follows = ap (λ (l : List ℕ). read (l ++ rest)) h.1 ∙ word_again (codes "true") rest (truth true) (refl, (refl, (refl, (refl, tt)))) refl (λ cs is. rw is refl) follows
+  operand_again t (literal (truth false)) rest h follows = ap (λ (l : List ℕ). read (l ++ rest)) h.1 ∙ word_again (codes "false") rest (truth false) (refl, (refl, (refl, (refl, (refl, tt))))) refl (λ cs is. rw is refl) follows
+  operand_again t (literal null) rest h follows = ap (λ (l : List ℕ). read (l ++ rest)) h.1 ∙ word_again (codes "null") rest null (refl, (refl, (refl, (refl, tt)))) refl (λ cs is. rw is refl) follows
+  operand_again t (queried (query root segs)) rest (good, (a, reads, e)) follows = rw (e, query_again root 36 a segs rest good reads follows) refl
+  operand_again t (queried (query current segs)) rest (good, (a, reads, e)) follows = rw (e, query_again current 64 a segs rest good reads follows) refl
+  operand_again t (called c) rest h follows =
       let named = named_call_again t c rest h.0 h.1 in
       let letter : begins is_small_letter (t ++ rest) ≡ true = (and_parts (begins is_small_letter (t ++ rest)) (begins (λ d. d == 40) (past_word (t ++ rest))) named.0).0 in
       at_letter (t ++ rest) letter ∙ rw (named.0, named.1) refl
@@ -195,11 +195,6 @@ pub test_no_value : (kind : Option Kind) → IsTestKind kind → is_result of_va
 test_no_value kind (inl e) = ap (is_result of_value) e
 test_no_value kind (inr e) = ap (is_result of_value) e
 
-abbrev operand_of : Comparable → Operand
-operand_of (literal l) = a_literal l
-operand_of (singular q) = a_query q
-operand_of (called c) = a_call c
-
 -- ---- results of calls
 
 pub value_result : (kind : Option Kind) → is_result of_value kind ≡ true → kind ≡ Some of_value
@@ -223,18 +218,22 @@ module _ (signature : List ℕ → Option Signature) (n : ℕ) (deeper : Deeper)
   -- ---- what a reading gives
 
   -- an operand of this text, which stands before
-  comparable_outcome : (is : List ℕ → Comparable → Type 0) (start before t : List ℕ) (o : Operand) (cs : List ℕ) → IsOperandText signature n t o → start ≡ before ++ cs → ((a : Comparable) → IsComparableText signature n t a → is before a)
+  comparable_outcome : (is : List ℕ → Operand → Type 0) (start before t : List ℕ) (o : Operand) (cs : List ℕ) → IsOperandText signature n t o → start ≡ before ++ cs → ((a : Operand) → IsComparableText signature n t a → is before a)
       → Outcome is (Inner signature) start (read_comparable signature deeper (byte_count start) o cs)
-  comparable_outcome is start before t (a_literal l) cs h split good = gives (literal l, cs) (record { text = before; is_so = good (literal l) ((tt, omega arith), h.1); split = split })
-  comparable_outcome is start before t (a_query q) cs h split good = guarded NonSingularQuery LongHand (inl refl) (λ e.
-      gives (singular q, cs) (record { text = before; is_so = good (singular q) (h.0, (singular_query q e, h.1)); split = split }))
-  comparable_outcome is start before t (a_call c) cs h split good = guarded WrongReturnType LongHand (inl refl) (λ e.
+  comparable_outcome is start before t (literal l) cs h split good = gives (literal l, cs) (record { text = before; is_so = good (literal l) ((tt, omega arith), h.1); split = split })
+  comparable_outcome is start before t (queried q) cs h split good = guarded NonSingularQuery LongHand (inl refl) (λ e.
+      gives (queried q, cs) (record { text = before; is_so = good (queried q) (((h.0.0, singular_query q e), h.0.1), h.1); split = split }))
+  comparable_outcome is start before t (called c) cs h split good = guarded WrongReturnType LongHand (inl refl) (λ e.
       gives (called c, cs) (record { text = before; is_so = good (called c) (((h.0.0, value_result (result_kind signature c) e), h.0.1), h.1); split = split }))
 
-  test_outcome : (start : List ℕ) (o : Operand × List ℕ) → Read (Spaced (IsOperandText signature n)) start o → Outcome (Spaced (IsBasicText signature n)) (Inner signature) start (read_test signature deeper (byte_count start) o.0 o.1)
-  test_outcome start (a_literal l, cs) s = past_text s.text s.split (refused ExpectedComparisonOperator LongHand (inl refl))
-  test_outcome start (a_query q, cs) s = read_as (exist q) s (λ t h. h)
-  test_outcome start (a_call c, cs) s = choose (λ e. refused WrongReturnType LongHand (inl refl)) (λ e. read_as (test c) s (λ t h. (((h.0.0, may_test signature n c h.0 e), h.0.1), h.1)))
+  -- what is read as a test of an operand is one of the text that good says
+  pub test_outcome : (is : List ℕ → Basic → Type 0) (negated : Bool) (start : List ℕ) (o : Operand × List ℕ) → Read (Spaced (IsOperandText signature n)) start o
+      → ((o : Operand) (t : List ℕ) → (IsTypedOperand signature o of_logical × (operand_depth o ≤ n)) × ReadsOperand o t → is t (test negated o))
+      → Outcome (Spaced is) (Inner signature) start (read_test signature deeper negated (byte_count start) o.0 o.1)
+  test_outcome is negated start (literal l, cs) s good = past_text s.text s.split (refused ExpectedComparisonOperator LongHand (inl refl))
+  test_outcome is negated start (queried q, cs) s good = read_as (test negated (queried q)) s (good (queried q))
+  test_outcome is negated start (called c, cs) s good =
+      choose (λ e. refused WrongReturnType LongHand (inl refl)) (λ e. read_as (test negated (called c)) s (λ t h. good (called c) t (((h.0.0, may_test signature n c h.0 e), h.0.1), h.1)))
 
   right_side_outcome : (cs : List ℕ) → Outcome (Spaced (IsComparableText signature n)) (Inner signature) cs (read_right_side signature deeper cs)
   right_side_outcome cs = onward (operand_outcome signature n deeper laws cs) (λ o e s.
@@ -244,7 +243,7 @@ module _ (signature : List ℕ → Option Signature) (n : ℕ) (deeper : Deeper)
   basic_from_outcome start o s = by_operator (read_operator o.1) (operator_found o.1)
     where
       by_operator : (op : Option (Operator × List ℕ)) → Found o.1 op → Outcome (Spaced (IsBasicText signature n)) (Inner signature) start (read_relation signature deeper (byte_count start) o.0 op o.1)
-      by_operator None found = test_outcome start o s
+      by_operator None found = test_outcome (IsBasicText signature n) false start o s (λ o t h. h)
       by_operator (Some op) found =
           let t = s.is_so.0 in
           let k = s.is_so.1 in
@@ -264,21 +263,26 @@ module _ (signature : List ℕ → Option Signature) (n : ℕ) (deeper : Deeper)
 
   -- ---- what is good is read
 
-  as_operand : (a : Comparable) (t : List ℕ) → IsComparableText signature n t a → IsOperandText signature n t (operand_of a)
+  as_operand : (a : Operand) (t : List ℕ) → IsComparableText signature n t a → IsOperandText signature n t a
   as_operand (literal l) t h = (tt, h.1)
-  as_operand (singular q) t h = (h.0, h.1.1)
+  as_operand (queried q) t h = ((h.0.0.0, h.0.1), h.1)
   as_operand (called c) t h = ((h.0.0.0, h.0.1), h.1)
 
-  comparable_again : (start : List ℕ) (a : Comparable) (t cs : List ℕ) → IsComparableText signature n t a → read_comparable signature deeper (byte_count start) (operand_of a) cs ≡ Ok (a, cs)
+  comparable_again : (start : List ℕ) (a : Operand) (t cs : List ℕ) → IsComparableText signature n t a → read_comparable signature deeper (byte_count start) a cs ≡ Ok (a, cs)
   comparable_again start (literal l) t cs h = refl
-  comparable_again start (singular q) t cs h = rw (query_singular q h.1.0) refl
+  comparable_again start (queried q) t cs h = rw (query_singular q h.0.0.1) refl
   comparable_again start (called c) t cs h = rw h.0.0.1 refl
+
+  pub test_again : (negated : Bool) (start : List ℕ) (o : Operand) (cs : List ℕ) → IsTypedOperand signature o of_logical → read_test signature deeper negated (byte_count start) o cs ≡ Ok (test negated o, cs)
+  test_again negated start (literal l) cs h = absurd h
+  test_again negated start (queried q) cs h = refl
+  test_again negated start (called c) cs h = rw (test_no_value (result_kind signature c) h.1) refl
 
   -- an operand, and what it is made after it
   abbrev pub compared : List ℕ → Parsed Basic
   compared cs = read_operand signature deeper cs >>= λ o. read_basic_from signature deeper (byte_count cs) o.0 o.1
 
-  pub relation_again : (t : List ℕ) (left : Comparable) (op : Operator) (right : Comparable) (rest : List ℕ) → IsBasicText signature n t (relation left op right) → Follows ends_basic rest
+  pub relation_again : (t : List ℕ) (left : Operand) (op : Operator) (right : Operand) (rest : List ℕ) → IsBasicText signature n t (relation left op right) → Follows ends_basic rest
       → compared (t ++ rest) ≡ Ok (relation left op right, past_blanks rest)
   relation_again t left op right rest (good, (a, s, b, is_left, (j, k, before, after, sign), is_right, same)) follows =
       let here = operator_sign op ++ (k ++ (b ++ rest)) in
@@ -287,13 +291,13 @@ module _ (signature : List ℕ → Option Signature) (n : ℕ) (deeper : Deeper)
       let left_good : IsComparableText signature n a left = ((good.0.0, omega (arith, good.1)), is_left) in
       let right_good : IsComparableText signature n b right = ((good.0.1, omega (arith, good.1)), is_right) in
       let o = as_operand right b right_good in
-      let first = operand_begins (operand_of right) b rest o.1 in
+      let first = operand_begins right b rest o.1 in
       let sign_ends = operator_ends op (k ++ (b ++ rest)) in
       let past : past_blanks (j ++ here) ≡ here = past_run is_blank j here before (begins_where ends_operand is_blank false here (λ c e. no_blank ends_operand c refl refl refl refl e) sign_ends) in
-      let left_read : read_operand signature deeper start ≡ Ok (operand_of left, here) =
-      operand_again signature n deeper laws a (operand_of left) (j ++ here) (as_operand left a left_good) (ap (begins ends_operand) past ∙ sign_ends)
-      ∙ ap (λ (l : List ℕ). Ok (operand_of left, l)) past in
-      let right_read = operand_again signature n deeper laws b (operand_of right) rest o (basic_ends_operand rest follows) in
+      let left_read : read_operand signature deeper start ≡ Ok (left, here) =
+      operand_again signature n deeper laws a left (j ++ here) (as_operand left a left_good) (ap (begins ends_operand) past ∙ sign_ends)
+      ∙ ap (λ (l : List ℕ). Ok (left, l)) past in
+      let right_read = operand_again signature n deeper laws b right rest o (basic_ends_operand rest follows) in
       let found = operator_again op (k ++ (b ++ rest)) (no_equals k (b ++ rest) after first) in
       ap compared whole ∙ rw (left_read, found)
       (rw (past_run is_blank k (b ++ rest) after (no_blank_begins (b ++ rest) (as_expression (b ++ rest) first)), comparable_again start left a (b ++ rest) left_good, right_read, comparable_again (b ++ rest) right b (past_blanks rest) right_good) refl)
@@ -301,7 +305,7 @@ module _ (signature : List ℕ → Option Signature) (n : ℕ) (deeper : Deeper)
       regrouped : (a j o k b d : List ℕ) → (a ++ ((j ++ (o ++ k)) ++ b)) ++ d ≡ a ++ (j ++ (o ++ (k ++ (b ++ d))))
       regrouped a j o k b d = simp append_assoc refl
 
-  pub tested : (t : List ℕ) (o : Operand) (rest : List ℕ) → IsOperandText signature n t o → Follows ends_basic rest → compared (t ++ rest) ≡ read_test signature deeper (byte_count (t ++ rest)) o (past_blanks rest)
+  pub tested : (t : List ℕ) (o : Operand) (rest : List ℕ) → IsOperandText signature n t o → Follows ends_basic rest → compared (t ++ rest) ≡ read_test signature deeper false (byte_count (t ++ rest)) o (past_blanks rest)
   tested t o rest h follows =
       rw (operand_again signature n deeper laws t o rest h (basic_ends_operand rest follows))
       (ap (λ op. read_relation signature deeper (byte_count (t ++ rest)) o op (past_blanks rest)) (no_operator (past_blanks rest) (begins_where ends_basic begins_operator false (past_blanks rest) (λ c e. grind (arith, e)) follows)))

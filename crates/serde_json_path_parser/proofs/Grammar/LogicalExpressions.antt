@@ -1,8 +1,8 @@
 -- Logical expressions: what is read is a good one, or where the refusal stands; and each good one is read.
-use Rattle.serde_json_path_parser.proofs.Words.{◌==◌, codes, and_parts, root, current, LogicalOr, LogicalAnd, Basic, paren, not_paren, relation, exist, not_exist, test, not_test, query, no_or, or, no_and, and, result_kind, IsTypedOr, IsTypedAnd, or_depth, and_depth, Signature, WrongReturnType, ExpectedClosingParenthesis, ExpectedExpression, is_at, are_at, begins, IsBlank, is_small_letter, InParentheses, ReadsOr, ReadMoreOrs, ReadMoreAnds, past_blanks, a_call, begins_call, and_list, or_list, Deeper, read_paren, read_negated_call, read_negated, read_basic, read_next_basic, read_and_from, read_and, read_next_and, read_or_from, read_or, past_word, ◌≡◌, ℕ, ◌≤◌, inl, true, false, List, [], ◌∷◌, ◌++◌, drop, Option, Ok, refl, ap, ◌∙◌, append_assoc, arith, LongHand, a_query, is_blank}
+use Rattle.serde_json_path_parser.proofs.Words.{◌==◌, codes, and_parts, root, current, LogicalOr, LogicalAnd, Basic, paren, relation, test, query, no_or, or, no_and, and, result_kind, IsTypedOr, IsTypedAnd, or_depth, and_depth, Signature, WrongReturnType, ExpectedClosingParenthesis, ExpectedExpression, is_at, are_at, begins, IsBlank, is_small_letter, InParentheses, ReadsOr, ReadMoreOrs, ReadMoreAnds, past_blanks, called, begins_call, and_list, or_list, Deeper, read_paren, read_negated, read_basic, read_next_basic, read_and_from, read_and, read_next_and, read_or_from, read_or, past_word, ◌≡◌, ℕ, ◌≤◌, inl, true, false, List, [], ◌∷◌, ◌++◌, drop, Option, Ok, refl, ap, ◌∙◌, append_assoc, arith, LongHand, queried, is_blank, IsTypedOperand, operand_depth, ReadsOperand, Operand, literal, begins_test, of_logical, byte_count, read_negated_test}
 use Rattle.serde_json_path_parser.proofs.Reading.{blanks_of, spread, begins_differs, Read, Spaced, after_one, Inner, guarded, onward, remade, refused, choose, Outcome, after_sign, past_spaced, read_spaced, read_as, Consumes, past_run, front_each}
-use Rattle.serde_json_path_parser.proofs.Grammar.LogicalForms.{IsGoodInside, DeeperLaws, ends_or, ends_and, ends_basic, IsOrText, IsAndText, IsBasicText, begins_operand, begins_expression, operand_begins, basic_begins, and_begins, or_begins, no_blank_begins, comparable_begins}
-use Rattle.serde_json_path_parser.proofs.Grammar.Comparisons.{query_again, named_call_again, query_outcome, named_call_outcome, operand_outcome, basic_ends_operand, relation_again, test_no_value, may_test, compared, basic_from_outcome, tested}
+use Rattle.serde_json_path_parser.proofs.Grammar.LogicalForms.{IsGoodInside, DeeperLaws, ends_or, ends_and, ends_basic, IsOrText, IsAndText, IsBasicText, begins_operand, begins_expression, operand_begins, basic_begins, and_begins, or_begins, no_blank_begins, IsOperandText, typed_good, test_begins}
+use Rattle.serde_json_path_parser.proofs.Grammar.Comparisons.{query_again, named_call_again, query_outcome, named_call_outcome, operand_outcome, basic_ends_operand, relation_again, test_no_value, may_test, compared, basic_from_outcome, tested, test_again, test_outcome, operand_again}
 use Rattle.serde_json_path_parser.proofs.Rows.{Follows, AreRows, RowLaw, next_consumes, row_outcome, row_again}
 
 module _ (signature : List ℕ → Option Signature) (n : ℕ) (deeper : Deeper) (laws : DeeperLaws signature n deeper) where
@@ -28,16 +28,15 @@ module _ (signature : List ℕ → Option Signature) (n : ℕ) (deeper : Deeper)
     abbrev IsNegated : List ℕ → Basic → Type 0
     IsNegated t b = IsBasicText signature n (33 ∷ (k ++ t)) b
 
-    negated_call_outcome : (cs : List ℕ) → begins_call cs ≡ true → Outcome (Spaced IsNegated) (Inner signature) cs (read_negated_call signature deeper cs)
-    negated_call_outcome cs begun = onward (named_call_outcome signature n deeper laws cs begun) (λ c f s.
-        choose (λ e. refused WrongReturnType LongHand (inl refl)) (λ e. read_as (not_test c.0) s (λ t h. (((h.0.0, may_test signature n c.0 h.0 e), h.0.1), (k, t, blank, h.1, refl)))))
+    negated_test_outcome : (cs : List ℕ) (o : Operand × List ℕ) → Read (Spaced (IsOperandText signature n)) cs o → Outcome (Spaced IsNegated) (Inner signature) cs (read_negated_test signature deeper (byte_count cs) o.0 o.1)
+    negated_test_outcome cs (literal l, rest) s = refused ExpectedExpression LongHand (inl refl)
+    negated_test_outcome cs (queried q, rest) s = test_outcome signature n deeper laws IsNegated true cs (queried q, rest) s (λ o t h. (h.0, (k, t, blank, h.1, refl)))
+    negated_test_outcome cs (called c, rest) s = test_outcome signature n deeper laws IsNegated true cs (called c, rest) s (λ o t h. (h.0, (k, t, blank, h.1, refl)))
 
     negated_outcome : (cs : List ℕ) → Outcome (Spaced IsNegated) (Inner signature) cs (read_negated signature deeper cs)
     negated_outcome cs =
-        choose (λ e. remade (λ e. not_paren e) (λ t e h. (h.0, (k, t, blank, h.1, refl))) (paren_outcome cs e)) (λ _.
-        choose (λ e. remade (λ q. not_exist q) (λ t q h. (h.0, (k, t, blank, h.1, refl))) (query_outcome signature n deeper laws current 64 cs refl e)) (λ _.
-        choose (λ e. remade (λ q. not_exist q) (λ t q h. (h.0, (k, t, blank, h.1, refl))) (query_outcome signature n deeper laws root 36 cs refl e)) (λ _.
-        guarded ExpectedExpression LongHand (inl refl) (negated_call_outcome cs))))
+        choose (λ e. remade (λ e. paren true e) (λ t e h. (h.0, (k, t, blank, h.1, refl))) (paren_outcome cs e)) (λ _.
+        guarded ExpectedExpression LongHand (inl refl) (λ _. onward (operand_outcome signature n deeper laws cs) (λ o e s. negated_test_outcome cs o s)))
 
   -- ---- parentheses and `!`: what is good is read
 
@@ -56,11 +55,24 @@ module _ (signature : List ℕ → Option Signature) (n : ℕ) (deeper : Deeper)
   negated_again t k a rest b blank same first e =
       ap (λ (l : List ℕ). read_basic signature deeper (l ++ rest)) same ∙ ap (read_negated signature deeper) (ap past_blanks (append_assoc k a rest) ∙ past_run is_blank k (a ++ rest) blank (no_blank_begins (a ++ rest) first)) ∙ e
 
+  -- a test that is negated
+  negated_test_again : (a : List ℕ) (o : Operand) (rest : List ℕ) → IsTypedOperand signature o of_logical × (operand_depth o ≤ n) → ReadsOperand o a → Follows ends_basic rest
+      → read_negated signature deeper (a ++ rest) ≡ Ok (test true o, past_blanks rest)
+  negated_test_again a o rest good is follows =
+      let begun = test_begins signature o a rest good.0 is in
+      let read = operand_again signature n deeper laws a o rest (typed_good signature n o of_logical good.0 good.1, is) (basic_ends_operand rest follows) in
+      rw (begins_differs begins_test 40 (a ++ rest) refl begun, begun, read) (of_test o good.0)
+    where
+      of_test : (o : Operand) → IsTypedOperand signature o of_logical → read_negated_test signature deeper (byte_count (a ++ rest)) o (past_blanks rest) ≡ Ok (test true o, past_blanks rest)
+      of_test (literal l) typed = absurd typed
+      of_test (queried q) typed = test_again signature n deeper laws true (a ++ rest) (queried q) (past_blanks rest) typed
+      of_test (called c) typed = test_again signature n deeper laws true (a ++ rest) (called c) (past_blanks rest) typed
+
   -- ---- basic expressions
 
   basic_outcome : (cs : List ℕ) → Outcome (Spaced (IsBasicText signature n)) (Inner signature) cs (read_basic signature deeper cs)
   basic_outcome cs =
-      choose (λ e. remade (λ e. paren e) (λ t e h. h) (paren_outcome cs e)) (λ _.
+      choose (λ e. remade (λ e. paren false e) (λ t e h. h) (paren_outcome cs e)) (λ _.
       choose (λ e. let k = blanks_of (drop 1 cs) in past_spaced (33 ∷ k) (after_sign 33 cs e) (negated_outcome k (front_each is_blank (drop 1 cs)) (past_blanks (drop 1 cs)))) (λ _.
       onward (operand_outcome signature n deeper laws cs) (λ o e s. basic_from_outcome signature n deeper laws cs o s)))
 
@@ -68,27 +80,17 @@ module _ (signature : List ℕ → Option Signature) (n : ℕ) (deeper : Deeper)
   of_operand cs first = rw (begins_differs begins_operand 40 cs refl first, begins_differs begins_operand 33 cs refl first) refl
 
   basic_again : (t : List ℕ) (b : Basic) (rest : List ℕ) → IsBasicText signature n t b → Follows ends_basic rest → read_basic signature deeper (t ++ rest) ≡ Ok (b, past_blanks rest)
-  basic_again t (paren e) rest h follows = let p = paren_again t e rest h.0 h.1 in rw (p.0, p.1) refl
-  basic_again t (not_paren e) rest (good, (k, a, blank, is, same)) follows =
+  basic_again t (paren false e) rest h follows = let p = paren_again t e rest h.0 h.1 in rw (p.0, p.1) refl
+  basic_again t (paren true e) rest (good, (k, a, blank, is, same)) follows =
       let p = paren_again a e rest good is in
-      negated_again t k a rest (not_paren e) blank same (basic_begins (paren e) a rest is) (rw (p.0, p.1) refl)
+      negated_again t k a rest (paren true e) blank same (basic_begins (paren false e) a rest is) (rw (p.0, p.1) refl)
   basic_again t (relation left op right) rest h follows =
-      let first = ap (λ (l : List ℕ). begins begins_operand (l ++ rest)) h.1.6 ∙ ap (begins begins_operand) (append_assoc h.1.0 _ rest) ∙ comparable_begins left h.1.0 ((h.1.1 ++ h.1.2) ++ rest) h.1.3 in
+      let first = ap (λ (l : List ℕ). begins begins_operand (l ++ rest)) h.1.6 ∙ ap (begins begins_operand) (append_assoc h.1.0 _ rest) ∙ operand_begins left h.1.0 ((h.1.1 ++ h.1.2) ++ rest) h.1.3 in
       of_operand (t ++ rest) first ∙ relation_again signature n deeper laws t left op right rest h follows
-  basic_again t (exist q) rest h follows = of_operand (t ++ rest) (operand_begins (a_query q) t rest h.1) ∙ tested signature n deeper laws t (a_query q) rest h follows
-  basic_again t (not_exist (query root segs)) rest (good, (k, a, blank, (b, reads, e), same)) follows =
-      negated_again t k a rest (not_exist (query root segs)) blank same (basic_begins (exist (query root segs)) a rest (b, reads, e))
-      (rw (e, query_again signature n deeper laws root 36 b segs rest good reads (basic_ends_operand rest follows)) refl)
-  basic_again t (not_exist (query current segs)) rest (good, (k, a, blank, (b, reads, e), same)) follows =
-      negated_again t k a rest (not_exist (query current segs)) blank same (basic_begins (exist (query current segs)) a rest (b, reads, e))
-      (rw (e, query_again signature n deeper laws current 64 b segs rest good reads (basic_ends_operand rest follows)) refl)
-  basic_again t (test c) rest h follows = of_operand (t ++ rest) (operand_begins (a_call c) t rest h.1) ∙ tested signature n deeper laws t (a_call c) rest ((h.0.0.0, h.0.1), h.1) follows ∙ rw (test_no_value (result_kind signature c) h.0.0.1) refl
-  basic_again t (not_test c) rest (good, (k, a, blank, is, same)) follows =
-      let named = named_call_again signature n deeper laws a c rest (good.0.0, good.1) is in
-      let letter = (and_parts (begins is_small_letter (a ++ rest)) (begins (λ d. d == 40) (past_word (a ++ rest))) named.0).0 in
-      let other : (k : ℕ) → is_small_letter k ≡ false → begins (λ c. c == k) (a ++ rest) ≡ false = λ k none. begins_differs is_small_letter k (a ++ rest) none letter in
-      negated_again t k a rest (not_test c) blank same (basic_begins (test c) a rest is)
-      (rw (other 40 refl, other 64 refl, other 36 refl, named.0, named.1, test_no_value (result_kind signature c) good.0.1) refl)
+  basic_again t (test false o) rest h follows =
+      of_operand (t ++ rest) (operand_begins o t rest h.1) ∙ tested signature n deeper laws t o rest (typed_good signature n o of_logical h.0.0 h.0.1, h.1) follows ∙ test_again signature n deeper laws false (t ++ rest) o (past_blanks rest) h.0.0
+  basic_again t (test true o) rest (good, (k, a, blank, is, same)) follows =
+      negated_again t k a rest (test true o) blank same (basic_begins (test false o) a rest is) (negated_test_again a o rest good is follows)
 
   -- ---- what is joined by `&&`
 

@@ -1,5 +1,5 @@
 -- What is good at a level, and its texts: what may follow an operand or an expression, how each begins, and filters by what holds one level deeper.
-use Rattle.serde_json_path_parser.proofs.Words.{◌==◌, ◌||◌, Segments, no_segments, segment, Segment, dot_name, long_hand, no_selectors, selector, Selector, filter, LogicalOr, Signature, is_at, begins, ReadsSelector, past_blanks, Query, query, child, descendant, name, index, Call, call, Arguments, IsSingularSegment, AreSingular, IsSingular, and_parts, IsTyped, AreTypedSegments, IsTypedSegment, IsTypedSelector, IsTypedOr, IsTypedCall, depth, segments_depth, segment_depth, selector_depth, or_depth, call_depth, IsBlank, IsFunctionName, IsLiteral, Reads, ReadsOr, ReadsCall, ReadArguments, byte_count, Operand, a_literal, a_call, is_singular_segment, are_singular, is_singular, Deeper, Comparable, IsTypedComparable, IsTypedAnd, ReadsAnd, IsTypedBasic, ReadsComparable, comparable_depth, basic_depth, LogicalAnd, ReadsBasic, Basic, and_depth, root, current, no_or, or, no_and, and, paren, relation, exist, test, literal, singular, called, Literal, text, number, truth, is_blank, is_digit, is_small_letter, SegmentKind, ReadSegments, ReadsSegment, ◌≡◌, ℕ, true, List, [], ◌++◌, Option, Ok, ◌+◌, ◌≤◌, Bool, ◌∷◌, refl, arith, false, ap, ◌∙◌, append_assoc, drop, a_query, read_filter}
+use Rattle.serde_json_path_parser.proofs.Words.{comparable_is, ◌==◌, ◌||◌, Segments, no_segments, segment, Segment, dot_name, long_hand, no_selectors, selector, Selector, filter, LogicalOr, Signature, is_at, begins, ReadsSelector, past_blanks, Query, query, child, descendant, name, index, Call, call, Arguments, IsSingularSegment, AreSingular, IsSingular, and_parts, IsTyped, AreTypedSegments, IsTypedSegment, IsTypedSelector, IsTypedOr, IsTypedCall, depth, segments_depth, segment_depth, selector_depth, or_depth, call_depth, IsBlank, IsFunctionName, IsLiteral, Reads, ReadsOr, ReadsCall, ReadArguments, byte_count, Operand, literal, called, is_singular_segment, are_singular, is_singular, Deeper, IsTypedComparable, IsTypedAnd, ReadsAnd, IsTypedBasic, ReadsOperand, operand_depth, basic_depth, LogicalAnd, ReadsBasic, Basic, and_depth, root, current, no_or, or, no_and, and, paren, relation, test, queried, Literal, text, number, truth, is_blank, is_digit, is_small_letter, SegmentKind, ReadSegments, ReadsSegment, ◌≡◌, ℕ, true, List, [], ◌++◌, Option, Ok, ◌+◌, ◌≤◌, Bool, ◌∷◌, refl, arith, false, ap, ◌∙◌, append_assoc, drop, read_filter, begins_test, IsTypedOperand, Kind, of_value, of_logical}
 use Rattle.serde_json_path_parser.proofs.Reading.{Inner, Outcome, Past, remade, after_sign, Spaced, some_begun, begins_front, begins_where, no_blank, blanks_of, past_run, front_each}
 use Rattle.serde_json_path_parser.proofs.Rows.{Follows}
 use Rattle.serde_json_path_parser.proofs.Grammar.Numbers.{number_first}
@@ -45,16 +45,16 @@ module _ (signature : List ℕ → Option Signature) (n : ℕ) where
   IsGoodCall c = IsTypedCall signature c × (call_depth c ≤ n)
 
   abbrev pub IsGoodOperand : Operand → Type 0
-  IsGoodOperand (a_literal l) = Unit {0}
-  IsGoodOperand (a_query q) = IsGoodQuery q
-  IsGoodOperand (a_call c) = IsGoodCall c
+  IsGoodOperand (literal l) = Unit {0}
+  IsGoodOperand (queried q) = IsGoodQuery q
+  IsGoodOperand (called c) = IsGoodCall c
 
--- ---- texts of operands
-
-abbrev pub ReadsOperand : Operand → List ℕ → Type 0
-ReadsOperand (a_literal l) t = IsLiteral l t
-ReadsOperand (a_query q) t = Reads q t
-ReadsOperand (a_call c) t = ReadsCall c t
+  -- what some parameter takes is good
+  pub typed_good : (o : Operand) (kind : Kind) → IsTypedOperand signature o kind → operand_depth o ≤ n → IsGoodOperand o
+  typed_good (literal l) kind h d = tt
+  typed_good (queried q) of_value h d = (h.0, d)
+  typed_good (queried q) kind h d = (h, d)
+  typed_good (called c) kind h d = (h.0, d)
 
 -- ---- texts of what is good
 
@@ -62,8 +62,8 @@ module _ (signature : List ℕ → Option Signature) (n : ℕ) where
   abbrev pub IsOperandText : List ℕ → Operand → Type 0
   IsOperandText t o = IsGoodOperand signature n o × ReadsOperand o t
 
-  abbrev pub IsComparableText : List ℕ → Comparable → Type 0
-  IsComparableText t a = (IsTypedComparable signature a × (comparable_depth a ≤ n)) × ReadsComparable a t
+  abbrev pub IsComparableText : List ℕ → Operand → Type 0
+  IsComparableText t a = (IsTypedComparable signature a × (operand_depth a ≤ n)) × ReadsOperand a t
 
   abbrev pub IsBasicText : List ℕ → Basic → Type 0
   IsBasicText t b = (IsTypedBasic signature b × (basic_depth b ≤ n)) × ReadsBasic b t
@@ -115,6 +115,9 @@ singular_segments (segment descendant seg more) e = absurd cc
 pub singular_query : (q : Query) → is_singular q ≡ true → IsSingular q
 singular_query (query kind segs) e = singular_segments segs e
 
+pub query_singular : (q : Query) → IsSingular q → is_singular q ≡ true
+query_singular q h = comparable_is (queried q) h
+
 -- ---- how operands and logical expressions begin
 
 -- a quote, `@`, `$`, a small letter, a digit or `-`
@@ -133,34 +136,37 @@ literal_begins (number amount) t rest h = number_first begins_operand true t amo
 literal_begins (truth true) t rest h = ap (λ (x : List ℕ). begins begins_operand (x ++ rest)) h
 literal_begins _ t rest h = ap (λ (x : List ℕ). begins begins_operand (x ++ rest)) h
 
-query_begins : (q : Query) (t rest : List ℕ) → Reads q t → begins begins_operand (t ++ rest) ≡ true
-query_begins (query root segs) t rest h = ap (λ (x : List ℕ). begins begins_operand (x ++ rest)) h.2
-query_begins (query current segs) t rest h = ap (λ (x : List ℕ). begins begins_operand (x ++ rest)) h.2
+query_begins : (q : Query) (t rest : List ℕ) → Reads q t → begins begins_test (t ++ rest) ≡ true
+query_begins (query root segs) t rest h = ap (λ (x : List ℕ). begins begins_test (x ++ rest)) h.2
+query_begins (query current segs) t rest h = ap (λ (x : List ℕ). begins begins_test (x ++ rest)) h.2
 
-call_begins : (c : Call) (t rest : List ℕ) → ReadsCall c t → begins begins_operand (t ++ rest) ≡ true
+call_begins : (c : Call) (t rest : List ℕ) → ReadsCall c t → begins begins_test (t ++ rest) ≡ true
 call_begins (call f args) t rest (n, j, a, k, is_name, before, is, after, e) =
-    begins_where is_small_letter begins_operand true (t ++ rest) (λ c e. grind (arith, e))
+    begins_where is_small_letter begins_test true (t ++ rest) (λ c e. grind (arith, e))
     (ap (λ (x : List ℕ). begins is_small_letter (x ++ rest)) e ∙ ap (begins is_small_letter) (append_assoc n _ rest) ∙ begins_front is_small_letter true n _ (some_begun is_small_letter n is_name.first) is_name.first)
 
-pub operand_begins : (o : Operand) (t rest : List ℕ) → ReadsOperand o t → begins begins_operand (t ++ rest) ≡ true
-operand_begins (a_literal l) t rest h = literal_begins l t rest h
-operand_begins (a_query q) t rest h = query_begins q t rest h
-operand_begins (a_call c) t rest h = call_begins c t rest h
+-- what may be tested
+pub test_begins : (signature : List ℕ → Option Signature) (o : Operand) (t rest : List ℕ) → IsTypedOperand signature o of_logical → ReadsOperand o t → begins begins_test (t ++ rest) ≡ true
+test_begins signature (literal l) t rest typed h = absurd typed
+test_begins signature (queried q) t rest typed h = query_begins q t rest h
+test_begins signature (called c) t rest typed h = call_begins c t rest h
 
-pub comparable_begins : (a : Comparable) (t rest : List ℕ) → ReadsComparable a t → begins begins_operand (t ++ rest) ≡ true
-comparable_begins (literal l) t rest h = literal_begins l t rest h
-comparable_begins (singular q) t rest h = query_begins q t rest h.1
-comparable_begins (called c) t rest h = call_begins c t rest h
+as_operand : (cs : List ℕ) → begins begins_test cs ≡ true → begins begins_operand cs ≡ true
+as_operand cs e = begins_where begins_test begins_operand true cs (λ c e. grind (arith, e)) e
+
+pub operand_begins : (o : Operand) (t rest : List ℕ) → ReadsOperand o t → begins begins_operand (t ++ rest) ≡ true
+operand_begins (literal l) t rest h = literal_begins l t rest h
+operand_begins (queried q) t rest h = as_operand (t ++ rest) (query_begins q t rest h)
+operand_begins (called c) t rest h = as_operand (t ++ rest) (call_begins c t rest h)
 
 pub as_expression : (cs : List ℕ) → begins begins_operand cs ≡ true → begins begins_expression cs ≡ true
 as_expression cs e = begins_where begins_operand begins_expression true cs (λ c e. grind (arith, e)) e
 
 pub basic_begins : (b : Basic) (t rest : List ℕ) → ReadsBasic b t → begins begins_expression (t ++ rest) ≡ true
-basic_begins (paren e) t rest h = ap (λ (x : List ℕ). begins begins_expression (x ++ rest)) h.6
+basic_begins (paren false e) t rest h = ap (λ (x : List ℕ). begins begins_expression (x ++ rest)) h.6
 basic_begins (relation left op right) t rest h =
-    ap (λ (x : List ℕ). begins begins_expression (x ++ rest)) h.6 ∙ ap (begins begins_expression) (append_assoc h.0 _ rest) ∙ as_expression (h.0 ++ ((h.1 ++ h.2) ++ rest)) (comparable_begins left h.0 ((h.1 ++ h.2) ++ rest) h.3)
-basic_begins (exist q) t rest h = as_expression (t ++ rest) (query_begins q t rest h)
-basic_begins (test c) t rest h = as_expression (t ++ rest) (call_begins c t rest h)
+    ap (λ (x : List ℕ). begins begins_expression (x ++ rest)) h.6 ∙ ap (begins begins_expression) (append_assoc h.0 _ rest) ∙ as_expression (h.0 ++ ((h.1 ++ h.2) ++ rest)) (operand_begins left h.0 ((h.1 ++ h.2) ++ rest) h.3)
+basic_begins (test false o) t rest h = as_expression (t ++ rest) (operand_begins o t rest h)
 basic_begins _ t rest h = ap (λ (x : List ℕ). begins begins_expression (x ++ rest)) h.4
 
 pub and_begins : (e : LogicalAnd) (t rest : List ℕ) → ReadsAnd e t → begins begins_expression (t ++ rest) ≡ true

@@ -1,7 +1,7 @@
 -- The words of contracts of private functions: a reader of a text, what is read at a level, and
 -- that what a function of the parser returned is what reading gives.
 use Rattle.std.specs.Prelude.{ℕ, true, false, List, codes, bytes_eq, Option, Some, None, if◌then◌else◌, ◌≡◌, ◌+◌, ◌≤◌, max, drop, length, ◌-◌, ◌++◌, Result, Ok, Err}
-use Rattle.serde_json_path_parser.specs.Imports.{Literal, truth, null, Selector, Query, LogicalOr, query, root, SegmentKind, Segments, Segment, Call, Arguments, Argument, logical_argument, chars, Signature, FunctionSet, Fits, names_of, calls_in_segments, calls_in_selectors, calls_from, calls_in_arguments, calls_in_argument, parts_in, literal_view, Branch, a_segment, calls_in_branch, IsPart, ArePartsOf, AreSelectorsOf, AreArgumentsOf, KeepsTrees, calls_in, signatures_of, tree_of, result_kind, AreCalled, AreDeclared, names_in, kind_view, FunctionArgType, Part, Parts, SyntaxBuilder, Checked}
+use Rattle.serde_json_path_parser.specs.Imports.{Literal, truth, null, Selector, Query, LogicalOr, query, root, SegmentKind, Segments, Segment, Call, Arguments, Argument, Operand, literal, queried, called, operand, logical_argument, chars, Signature, FunctionSet, Fits, names_of, calls_in_segments, calls_in_selectors, calls_from, calls_in_arguments, calls_in_argument, calls_in_operand, parts_in, literal_view, Branch, a_segment, calls_in_branch, IsPart, ArePartsOf, AreSelectorsOf, AreArgumentsOf, KeepsTrees, calls_in, signatures_of, tree_of, result_kind, AreCalled, AreDeclared, names_in, kind_view, FunctionArgType, Part, Parts, SyntaxBuilder, Checked}
 use Rattle.serde_json_path_parser.specs.Source.{Observed}
 use Rattle.serde_json_path_parser.specs.Inside.Looking.{up_to_second}
 use Rattle.serde_json_path_parser.specs.declared.source.PathSource.{Ghosts}
@@ -9,7 +9,7 @@ use Rattle.serde_json_path_parser.specs.declared.parser.reader.Reader.{Reader}
 use Rattle.serde_json_path_parser.specs.declared.parser.Parser.{Parser}
 use Rattle.serde_json_path_parser.specs.Parsed.{Parsed, past_blanks, byte_count}
 use Rattle.serde_json_path_parser.specs.Filters as filters
-use Rattle.serde_json_path_parser.specs.Filters.{Deeper, alone}
+use Rattle.serde_json_path_parser.specs.Filters.{Deeper}
 use Rattle.serde_json_path_syntax.specs.Branch as branch
 use Rattle.serde_json_path_parser.specs.declared.error.Refusal.{Refusal}
 use Rattle.serde_json_path_parser.specs.declared.error.Failure.{Failure}
@@ -17,7 +17,6 @@ use Rattle.serde_json_path_parser.specs.declared.error.Failure.TheVariants as fa
 use Rattle.serde_json_path_parser.specs.Errors.{is_seen_at_next, no_memory}
 use Rattle.serde_json_path_parser.specs.declared.error.ParseError.{ParseError}
 use Rattle.serde_json_path_parser.specs.Parsing.{selector_list, segment_list}
-use Rattle.serde_json_path_parser.specs.Operands.{Operand, a_literal, a_query, a_call, calls_in_operand}
 use Rattle.serde_json_path_parser.specs.declared.parser.operand.Operand as operands
 use Rattle.serde_json_path_parser.specs.declared.parser.operand.Operand.TheVariants as the_operands
 use Rattle.serde_json_path_parser.specs.declared.parser.call.Argument as arguments
@@ -146,18 +145,18 @@ IsQueryAsRead F (Err e) read = Fails e read
 -- The operand is the one that reading gives.
 abbrev pub IsOperandOf : (List ℕ → Option Signature) → SyntaxBuilder → operands.Operand → Operand
     → Type 0
-IsOperandOf signature builder (the_operands.Literal l) x = x ≡ a_literal (literal_view l)
+IsOperandOf signature builder (the_operands.Literal l) x = x ≡ literal (literal_view l)
 IsOperandOf signature builder (the_operands.Query part) x =
-    (q : Query) × (x ≡ a_query q) × IsPart builder part (branch.a_query q)
+    (q : Query) × (x ≡ queried q) × IsPart builder part (branch.a_query q)
 IsOperandOf signature builder (the_operands.Call part kind) x =
-    (c : Call) × (x ≡ a_call c) × IsPart builder part (branch.a_call c)
+    (c : Call) × (x ≡ called c) × IsPart builder part (branch.a_call c)
     × (result_kind signature c ≡ Some (kind_view kind))
 
 -- The argument is the one that reading gives.
 abbrev pub IsArgumentOf : (List ℕ → Option Signature) → SyntaxBuilder → arguments.Argument
     → Argument → Type 0
 IsArgumentOf signature builder (the_arguments.Operand o) x =
-    (y : Operand) × (x ≡ alone y) × IsOperandOf signature builder o y
+    (y : Operand) × (x ≡ operand y) × IsOperandOf signature builder o y
 IsArgumentOf signature builder (the_arguments.Logical part) x =
     (e : LogicalOr) × (x ≡ logical_argument e) × IsPart builder part (branch.an_or e)
 

@@ -1,9 +1,10 @@
 //! Calls of functions (RFC 9535, section 2.4).
 
 ghost use Rattle.std.specs.Prelude.{◌≡◌, ◌==◌, ◌<◌, ℕ, List, drop, length, map, true, string_bytes, Option, IfOk};
-ghost use Rattle.serde_json_path_parser.specs.Inside.Words.{KeepsParts, IsPart, an_argument, Signature, read_argument, read_logical_from, read_end, MakesArgument, MakesArguments, MakesCall, IsArgumentOf, IsAsRead, MovesTo, at_level, signatures, deeper, left, begins, no_arguments, read_arguments};
+ghost use Rattle.serde_json_path_parser.specs.Inside.Words.{KeepsParts, IsPart, Signature, read_argument, read_logical_from, read_end, MakesArgument, MakesArguments, MakesCall, IsArgumentOf, IsAsRead, MovesTo, at_level, signatures, deeper, left, begins, no_arguments, read_arguments};
 ghost use Rattle.serde_json_path_functions.specs.Terms.{kind_view};
 ghost use Rattle.serde_json_path_parser.specs.Operands as operands;
+ghost use Rattle.serde_json_path_syntax.specs.Parts.{argument_branch};
 ghost use Rattle.serde_json_path_syntax.specs.Tree as tree;
 
 use crate::error::{Context, Failure, ParseErrorKind as Kind};
@@ -56,14 +57,14 @@ impl Argument {
             × IsArgumentOf signature builder.old self x }
         ensures made { IfOk result (λ part.
             (signature : List ℕ → Option Signature) (x : tree.Argument)
-            → IsArgumentOf signature builder.old self x → IsPart builder.new part (an_argument x)) }
+            → IsArgumentOf signature builder.old self x → IsPart builder.new part (argument_branch x)) }
         ensures keeps { KeepsParts builder.old builder.new }
     {
         match self {
-            Argument::Operand(Operand::Literal(literal)) => builder.literal_argument(literal),
-            Argument::Operand(Operand::Query(query)) => builder.query_argument(query),
-            Argument::Operand(Operand::Call(call, _)) => builder.call_argument(call),
-            Argument::Logical(expression) => builder.logical_argument(expression),
+            Argument::Operand(Operand::Literal(literal)) => builder.literal(literal),
+            Argument::Operand(Operand::Query(query)) => builder.queried(query),
+            Argument::Operand(Operand::Call(call, _)) => builder.called(call),
+            Argument::Logical(expression) => Ok(expression),
         }
     }
 }

@@ -1,8 +1,8 @@
 //! Logical expressions (RFC 9535, section 2.3.5.1).
 
 ghost use Rattle.std.specs.Prelude.{◌≡◌, ◌==◌, ◌<◌, drop, length, true, IfOk};
-ghost use Rattle.serde_json_path_parser.specs.Inside.Words.{calls_in_and, calls_in_basic, IsPart, an_or, an_and, a_basic, read_paren, read_negated, read_basic, read_and_from, read_and, read_or_from, read_or, Makes, MakesFrom, IsOperandOf, MovesTo, at_level, signatures, deeper, left, is_at, begins, calls_in_operand, byte_count, past_blanks, read_basic_from, LogicalAnd, Basic, is_small_letter};
-ghost use Rattle.serde_json_path_parser.specs.Operands as operands;
+ghost use Rattle.serde_json_path_parser.specs.Inside.Words.{calls_in_and, calls_in_basic, IsPart, an_or, an_and, a_basic, read_paren, read_negated, read_basic, read_and_from, read_and, read_or_from, read_or, Makes, MakesFrom, IsOperandOf, MovesTo, at_level, signatures, deeper, left, is_at, begins, calls_in_operand, byte_count, past_blanks, read_basic_from, LogicalAnd, Basic};
+ghost use Rattle.serde_json_path_syntax.specs.Tree as tree;
 
 use crate::error::{Context, Failure, ParseErrorKind as Kind};
 use crate::parser::Parser;
@@ -10,7 +10,7 @@ use crate::parser::operand::Operand;
 use crate::parser::primitive::operator::parse_operator;
 use crate::parser::reader::Reader;
 use crate::source::PathSource;
-use serde_json_path_functions::{FunctionArgType, Functions};
+use serde_json_path_functions::Functions;
 use serde_json_path_syntax::{Part, Parts, QueryKind, SyntaxBuilder};
 
 impl<F: Functions> Parser<'_, F> {
@@ -138,7 +138,7 @@ impl<F: Functions> Parser<'_, F> {
         // No `match` on the next byte, which takes seven instructions more for each parenthesis.
         if reader.sees(b'(') {
             let inner = self.parse_paren(builder, reader)?;
-            return Ok(builder.paren(inner)?);
+            return Ok(builder.paren(false, inner)?);
         }
         if reader.sees(b'!') {
             reader.take_char();
@@ -159,19 +159,19 @@ impl<F: Functions> Parser<'_, F> {
         place: usize,
         operand: Operand,
     ) -> Result<Part, Failure>
-        requires { (x : operands.Operand)
+        requires { (x : tree.Operand)
             × IsOperandOf (signatures F.set self.now) builder.old operand x }
         ensures moves { MovesTo result reader.old reader.new }
         ensures made { IfOk result (λ part.
             (b : Basic) × IsPart builder.new part (a_basic b)) }
-        ensures gives { (x : operands.Operand)
+        ensures gives { (x : tree.Operand)
             → IsOperandOf (signatures F.set self.now) builder.old operand x
             → MakesFrom (signatures F.set self.now) (calls_in_operand x) a_basic
             builder.old builder.new result reader.new
             (at_level F.set self.now read_basic_from place x (left reader.old)) }
     {
         let Some(operator) = parse_operator(reader) else {
-            return self.as_test(builder, reader, place, operand);
+            return self.as_test(builder, reader, false, place, operand);
         };
         reader.skip_blanks();
         let left = self.as_comparable(builder, reader, place, operand)?;
@@ -217,44 +217,18 @@ impl<F: Functions> Parser<'_, F> {
             result reader.new
             (at_level F.set self.now read_negated (left reader.old)) }
     {
-        match reader.peek() {
-            Some(b'(') => {
-                let inner = self.parse_paren(builder, reader)?;
-                Ok(builder.not_paren(inner)?)
-            }
-            Some(b'@') => {
-                let query = self.parse_query(builder, reader, QueryKind::Current)?;
-                Ok(builder.not_exist(query)?)
-            }
-            Some(b'$') => {
-                let query = self.parse_query(builder, reader, QueryKind::Root)?;
-                Ok(builder.not_exist(query)?)
-            }
-            Some(b'a'..=b'z') => self.parse_negated_call(builder, reader),
-            _ => Err(reader.refusal(Kind::ExpectedExpression, Context::LongHand)),
+        if reader.sees(b'(') {
+            let inner = self.parse_paren(builder, reader)?;
+            return Ok(builder.paren(true, inner)?);
         }
-    }
-
-    /// Parses a call that is negated, from its name on, and the blanks after it.
-    #[cycle(filters)]
-    fn parse_negated_call<S: PathSource>(
-        &self,
-        builder: &mut SyntaxBuilder,
-        reader: &mut Reader<'_, S>,
-    ) -> Result<Part, Failure>
-        requires { begins is_small_letter (left reader.old) ≡ true }
-        ensures moves { MovesTo result reader.old reader.new }
-        ensures gives { Makes (signatures F.set self.now) a_basic builder.old builder.new
-            result reader.new
-            (at_level F.set self.now read_negated (left reader.old)) }
-    {
+        if !reader.sees_test() {
+            return Err(reader.refusal(Kind::ExpectedExpression, Context::LongHand));
+        }
         let place = reader.bytes_left();
-        let Operand::Call(call, result) = self.parse_named(builder, reader)? else {
+        let operand = self.parse_operand(builder, reader)?;
+        if let Operand::Literal(_) = operand {
             return Err(Failure::in_long_hand(Kind::ExpectedExpression, place));
-        };
-        if result == FunctionArgType::Value {
-            return Err(Failure::in_long_hand(Kind::WrongReturnType, place));
         }
-        Ok(builder.not_test(call)?)
+        self.as_test(builder, reader, true, place, operand)
     }
 }

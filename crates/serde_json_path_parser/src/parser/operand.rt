@@ -1,9 +1,9 @@
 //! Operands: what a filter compares or tests, read before its use is known (RFC 9535, section 2.3.5.1).
 
 ghost use Rattle.std.specs.Prelude.{◌≡◌, ◌==◌, ◌<◌, ℕ, List, length, true, Option};
-ghost use Rattle.serde_json_path_parser.specs.Inside.Words.{KeepsParts, SyntaxBuilder, a_query, a_comparable, a_basic, Signature, read_query, read_operand, read_comparable, read_named, read_test, read_text, Makes, MakesOf, MakesOperand, IsOperandOf, IsNear, MovesTo, at_level, signatures, left, begins, is_small_letter, IsQuote, calls_in_operand};
+ghost use Rattle.serde_json_path_parser.specs.Inside.Words.{KeepsParts, SyntaxBuilder, a_query, an_operand, a_basic, Signature, read_query, read_operand, read_comparable, read_named, read_test, read_text, Makes, MakesOf, MakesOperand, IsOperandOf, IsNear, MovesTo, at_level, signatures, left, begins, is_small_letter, IsQuote, calls_in_operand};
 ghost use Rattle.serde_json_path_syntax.specs.Flat.{query_kind_view};
-ghost use Rattle.serde_json_path_parser.specs.Operands as operands;
+ghost use Rattle.serde_json_path_syntax.specs.Tree as tree;
 
 use crate::error::{Context, Failure, ParseErrorKind as Kind};
 use crate::parser::Parser;
@@ -136,13 +136,13 @@ impl<F: Functions> Parser<'_, F> {
         place: usize,
         operand: Operand,
     ) -> Result<Part, Failure>
-        requires { (x : operands.Operand)
+        requires { (x : tree.Operand)
             × IsOperandOf (signatures F.set self.now) builder.old operand x }
         ensures near { IsNear result reader.now }
         ensures keeps { KeepsParts builder.old builder.new }
-        ensures gives { (x : operands.Operand)
+        ensures gives { (x : tree.Operand)
             → IsOperandOf (signatures F.set self.now) builder.old operand x
-            → MakesOf (calls_in_operand x) a_comparable builder.new result reader.now
+            → MakesOf (calls_in_operand x) an_operand builder.new result reader.now
             (at_level F.set self.now read_comparable place x (left reader.now)) }
     {
         match operand {
@@ -151,7 +151,7 @@ impl<F: Functions> Parser<'_, F> {
                 if !builder.is_singular(query) {
                     return Err(Failure::in_long_hand(Kind::NonSingularQuery, place));
                 }
-                Ok(builder.singular(query)?)
+                Ok(builder.queried(query)?)
             }
             Operand::Call(call, result) => {
                 if result != FunctionArgType::Value {
@@ -162,34 +162,39 @@ impl<F: Functions> Parser<'_, F> {
         }
     }
 
-    /// The operand as a test. `place` bytes are left where it begins.
+    /// The operand as a test, negated or not. `place` bytes are left where it begins.
     pub(crate) fn as_test<S: PathSource>(
         &self,
         builder: &mut SyntaxBuilder,
         reader: &Reader<'_, S>,
+        negated: bool,
         place: usize,
         operand: Operand,
     ) -> Result<Part, Failure>
-        requires { (x : operands.Operand)
+        requires { (x : tree.Operand)
             × IsOperandOf (signatures F.set self.now) builder.old operand x }
         ensures near { IsNear result reader.now }
         ensures keeps { KeepsParts builder.old builder.new }
-        ensures gives { (x : operands.Operand)
+        ensures gives { (x : tree.Operand)
             → IsOperandOf (signatures F.set self.now) builder.old operand x
             → MakesOf (calls_in_operand x) a_basic builder.new result reader.now
-            (at_level F.set self.now read_test place x (left reader.now)) }
+            (at_level F.set self.now read_test negated place x (left reader.now)) }
     {
         match operand {
             Operand::Literal(_literal) => Err(reader.refusal(
                 Kind::ExpectedComparisonOperator,
                 Context::LongHand,
             )),
-            Operand::Query(query) => { Ok(builder.exist(query)?) }
+            Operand::Query(query) => {
+                let operand = builder.queried(query)?;
+                Ok(builder.test(negated, operand)?)
+            }
             Operand::Call(call, result) => {
                 if result == FunctionArgType::Value {
                     return Err(Failure::in_long_hand(Kind::WrongReturnType, place));
                 }
-                Ok(builder.test(call)?)
+                let operand = builder.called(call)?;
+                Ok(builder.test(negated, operand)?)
             }
         }
     }

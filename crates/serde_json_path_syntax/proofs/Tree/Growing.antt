@@ -8,8 +8,7 @@ use Rattle.serde_json_path_syntax.specs.declared.node.Node.TheVariants as node
 use Rattle.serde_json_path_syntax.specs.declared.node.Segment.TheVariants.{LongHand}
 use Rattle.serde_json_path_syntax.specs.declared.node.Selector.TheVariants as one
 use Rattle.serde_json_path_syntax.specs.declared.node.Basic.TheVariants.{Relation}
-use Rattle.serde_json_path_syntax.specs.declared.node.Comparable.TheVariants as side
-use Rattle.serde_json_path_syntax.specs.declared.node.Argument.TheVariants as given_as
+use Rattle.serde_json_path_syntax.specs.declared.node.Operand.TheVariants as one_operand
 use Rattle.std.proofs.lemmas.List.Elements.{AllZip-get_or}
 use Rattle.std.proofs.lemmas.Slice.Zip.{AllZip-long}
 
@@ -43,8 +42,7 @@ module _ (a b : List Branch) (bound : ℕ) (f : (i : ℕ) → i < bound → bran
   same (node.Segment kind (LongHand parts)) h = rw (named (parts_in parts) h)
   same (node.Selector (one.Filter part)) h = rw (f part.number (omega (arith, h)))
   same (node.Basic (Relation left operator right)) h = simp (f left.number (omega (arith, h)), f right.number (omega (arith, h)))
-  same (node.Comparable (side.Singular part)) h = rw (f part.number (omega (arith, h)))
-  same (node.Argument (given_as.Query part)) h = rw (f part.number (omega (arith, h)))
+  same (node.Operand (one_operand.Query part)) h = rw (f part.number (omega (arith, h)))
   same _ h = grind (arith, f, named)
 
   same_branch : (n : Node) → NamesBelow bound n → branch_of a n ≡ branch_of b n

@@ -1,5 +1,5 @@
 -- Parts that nodes name: their bounds, their kinds, and what stands for them.
-use Rattle.serde_json_path_syntax.proofs.Words.{◌≡◌, ℕ, ◌<◌, ◌≤◌, true, false, nat_lt, arith, rules, zero, suc, List, [], ◌∷◌, length, get_or, ap, ◌-◌, take, drop, Bool, sym, subst, slice_get, option_map, refl, ◌∙◌, parts_bound, Part, and_parts, Decides-and, Decides, take_all, branch_in, branches_named, selector_in, selectors_in, segments_in, ors_in, ands_in, arguments_in, are_singular, each_is, is_and, is_argument, is_basic, is_query, is_segment, is_selector, is_singular, is_singular_query, is_singular_segment, Branch, a_query, long_hand, Selectors, selector, Selector, name, wildcard, index, slice, filter, IsSingularSegment, slice_get_read, slice_get_past, ArePartsFor, AreSelectorsOf, AreOrPartsOf, AreAndPartsOf, KeepsTrees, segment_branches, selector_branches, or_branches, and_branches, argument_branches, branches}
+use Rattle.serde_json_path_syntax.proofs.Words.{◌≡◌, ℕ, ◌<◌, ◌≤◌, true, false, nat_lt, arith, rules, zero, suc, List, [], ◌∷◌, length, get_or, ap, ◌-◌, take, drop, Bool, sym, subst, slice_get, option_map, refl, ◌∙◌, parts_bound, Part, and_parts, Decides-and, Decides, take_all, branch_in, branches_named, selector_in, selectors_in, segments_in, ors_in, ands_in, arguments_in, are_singular, each_is, is_and, is_argument, is_basic, is_comparable, is_operand, is_segment, is_selector, is_singular_segment, is_tested, Branch, an_operand, long_hand, Selectors, selector, Selector, name, wildcard, index, slice, filter, IsSingularSegment, slice_get_read, slice_get_past, ArePartsFor, AreSelectorsOf, AreOrPartsOf, AreAndPartsOf, KeepsTrees, segment_branches, selector_branches, or_branches, and_branches, argument_branches, branches}
 use Rattle.serde_json_path_syntax.specs.Tree as tree
 use Rattle.serde_json_path_syntax.specs.declared.builder.SyntaxBuilder.{SyntaxBuilder}
 use Rattle.serde_json_path_syntax.specs.Stages.{selectors_list}
@@ -117,11 +117,13 @@ ands_fit (tree.and e more) = ands_fit more
 
 pub arguments_are : (args : tree.Arguments) → arguments_in (argument_branches args) ≡ args
 arguments_are tree.no_arguments = refl
-arguments_are (tree.argument a more) = ap (tree.argument a) (arguments_are more)
+arguments_are (tree.argument (tree.operand o) more) = ap (tree.argument (tree.operand o)) (arguments_are more)
+arguments_are (tree.argument (tree.logical_argument e) more) = ap (tree.argument (tree.logical_argument e)) (arguments_are more)
 
 pub arguments_fit : (args : tree.Arguments) → each_is is_argument (argument_branches args) ≡ true
 arguments_fit tree.no_arguments = refl
-arguments_fit (tree.argument a more) = arguments_fit more
+arguments_fit (tree.argument (tree.operand o) more) = arguments_fit more
+arguments_fit (tree.argument (tree.logical_argument e) more) = arguments_fit more
 
 -- parts of which there is one at least stand for their branches
 pub selectors_for : (builder : SyntaxBuilder) (parts : List Part) (sels : tree.Selectors) → AreSelectorsOf builder parts sels → ArePartsFor builder parts (selector_branches sels)
@@ -150,12 +152,23 @@ Decides-are_singular (tree.segment tree.child seg more) =
     Decides-and (is_singular_segment seg) (are_singular more) (Decides-is_singular_segment seg) (Decides-are_singular more)
 Decides-are_singular (tree.segment tree.descendant seg more) = never
 
-pub query_singular : (q : tree.Query) → tree.IsSingular q → is_singular q ≡ true
-query_singular (tree.query kind segs) = (Decides-are_singular segs).1
+-- ---- operands that may be compared, and such as may be tested
 
-pub query_of_singular : (p : Branch) → is_singular_query p ≡ true → is_query p ≡ true
-query_of_singular (a_query q) h = refl
-query_of_singular _ h = absurd cc
+pub comparable_is : (o : tree.Operand) → tree.IsComparable o → is_comparable (an_operand o) ≡ true
+comparable_is (tree.queried (tree.query kind segs)) h = (Decides-are_singular segs).1 h
+comparable_is _ h = refl
+
+pub tested_is : (o : tree.Operand) → tree.IsTested o → is_tested (an_operand o) ≡ true
+tested_is (tree.literal l) h = absurd h
+tested_is _ h = refl
+
+pub operand_of_comparable : (p : Branch) → is_comparable p ≡ true → is_operand p ≡ true
+operand_of_comparable (an_operand o) h = refl
+operand_of_comparable _ h = absurd cc
+
+pub operand_of_tested : (p : Branch) → is_tested p ≡ true → is_operand p ≡ true
+operand_of_tested (an_operand o) h = refl
+operand_of_tested _ h = absurd cc
 
 -- what a node is made of that names several parts
 pub ruleset of_named_parts = (

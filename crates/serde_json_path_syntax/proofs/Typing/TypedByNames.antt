@@ -1,5 +1,5 @@
 -- Well-typedness rests on the signatures of the called names alone.
-use Rattle.serde_json_path_syntax.proofs.Words.{◌≡◌, ℕ, List, [], ◌∷◌, Option, Some, None, inl, inr, refl, ap, ◌∙◌, option_map, none-some, Query, query, Segments, no_segments, segment, Segment, long_hand, Selectors, no_selectors, selector, Selector, filter, LogicalOr, no_or, or, LogicalAnd, no_and, and, Basic, paren, not_paren, relation, exist, not_exist, test, not_test, Comparable, literal, singular, called, Call, call, Arguments, no_arguments, argument, Argument, literal_argument, query_argument, call_argument, logical_argument, Kind, of_value, of_logical, of_nodes, Signature, IsTestKind, IsTyped, AreTypedSegments, IsTypedSegment, AreTypedSelectors, IsTypedSelector, IsTypedOr, IsTypedAnd, IsTypedBasic, IsTypedComparable, IsTypedCall, AreTypedArguments, IsTypedArgument, TakesResult, result_kind, OfEach, name_of, names_of, calls_of, calls_in_segments, calls_in_segment, calls_in_selectors, calls_in_selector, calls_in_or, calls_in_and, calls_in_basic, calls_in_comparable, calls_from, calls_in_arguments, calls_in_argument, IsIn}
+use Rattle.serde_json_path_syntax.proofs.Words.{◌≡◌, ℕ, List, [], ◌∷◌, Option, Some, None, inl, inr, refl, ap, ◌∙◌, option_map, none-some, Query, query, Segments, no_segments, segment, Segment, long_hand, Selectors, no_selectors, selector, Selector, filter, LogicalOr, no_or, or, LogicalAnd, no_and, and, Basic, paren, relation, test, Operand, literal, queried, called, Call, call, Arguments, no_arguments, argument, Argument, operand, logical_argument, Kind, of_value, of_logical, of_nodes, Signature, IsTestKind, IsTyped, AreTypedSegments, IsTypedSegment, AreTypedSelectors, IsTypedSelector, IsTypedOr, IsTypedAnd, IsTypedBasic, IsTypedComparable, IsTypedCall, AreTypedArguments, IsTypedArgument, IsTypedOperand, TakesResult, result_kind, OfEach, name_of, names_of, calls_of, calls_in_segments, calls_in_segment, calls_in_selectors, calls_in_selector, calls_in_or, calls_in_and, calls_in_basic, calls_in_operand, calls_from, calls_in_arguments, calls_in_argument, IsIn}
 use Rattle.serde_json_path_syntax.proofs.Names.Once.{in_from, of_both}
 use Rattle.serde_json_path_syntax.proofs.Lists.{map_in}
 
@@ -60,18 +60,14 @@ module _ (few many : List ℕ → Option Signature) where
         let both = of_both KeepsSignature (calls_in_basic b) (calls_in_and more) each in (typed_basic b both.0 h.0, typed_and more both.1 h.1)
 
     typed_basic : (b : Basic) → Keep (calls_in_basic b) → IsTypedBasic few b → IsTypedBasic many b
-    typed_basic (paren e) each h = typed_or e each h
-    typed_basic (not_paren e) each h = typed_or e each h
+    typed_basic (paren negated e) each h = typed_or e each h
     typed_basic (relation a op b) each h =
-        let both = of_both KeepsSignature (calls_in_comparable a) (calls_in_comparable b) each in (typed_comparable a both.0 h.0, typed_comparable b both.1 h.1)
-    typed_basic (exist q) each h = typed_again q each h
-    typed_basic (not_exist q) each h = typed_again q each h
-    typed_basic (test c) each h = (typed_call c each h.0, test_kind c (each c (in_from c)) h.1)
-    typed_basic (not_test c) each h = (typed_call c each h.0, test_kind c (each c (in_from c)) h.1)
+        let both = of_both KeepsSignature (calls_in_operand a) (calls_in_operand b) each in (typed_comparable a both.0 h.0, typed_comparable b both.1 h.1)
+    typed_basic (test negated o) each h = typed_operand o of_logical each h
 
-    typed_comparable : (a : Comparable) → Keep (calls_in_comparable a) → IsTypedComparable few a → IsTypedComparable many a
+    typed_comparable : (a : Operand) → Keep (calls_in_operand a) → IsTypedComparable few a → IsTypedComparable many a
     typed_comparable (literal l) each h = tt
-    typed_comparable (singular q) each h = typed_again q each h
+    typed_comparable (queried q) each h = (typed_again q each h.0, h.1)
     typed_comparable (called c) each h = (typed_call c each h.0, kind_stays c of_value (each c (in_from c)) h.1)
 
     typed_call : (c : Call) → Keep (calls_from c) → IsTypedCall few c → IsTypedCall many c
@@ -86,12 +82,15 @@ module _ (few many : List ℕ → Option Signature) where
         let both = of_both KeepsSignature (calls_in_argument a) (calls_in_arguments more) each in (typed_argument a kind both.0 h.0, typed_arguments more kinds both.1 h.1)
 
     typed_argument : (a : Argument) (kind : Kind) → Keep (calls_in_argument a) → IsTypedArgument few a kind → IsTypedArgument many a kind
-    typed_argument (literal_argument l) _ each h = h
-    typed_argument (query_argument q) of_value each h = (typed_again q each h.0, h.1)
-    typed_argument (query_argument q) _ each h = typed_again q each h
-    typed_argument (call_argument c) kind each h = (typed_call c each h.0, takes c kind (each c (in_from c)) h.1)
+    typed_argument (operand o) kind each h = typed_operand o kind each h
     typed_argument (logical_argument e) of_logical each h = typed_or e each h
     typed_argument (logical_argument e) _ each h = h
+
+    typed_operand : (o : Operand) (kind : Kind) → Keep (calls_in_operand o) → IsTypedOperand few o kind → IsTypedOperand many o kind
+    typed_operand (literal l) _ each h = h
+    typed_operand (queried q) of_value each h = (typed_again q each h.0, h.1)
+    typed_operand (queried q) _ each h = typed_again q each h
+    typed_operand (called c) kind each h = (typed_call c each h.0, takes c kind (each c (in_from c)) h.1)
 
 -- a well-typed query is well-typed under any signatures that keep those of the called names
 pub typed_by_names : (few many : List ℕ → Option Signature) (q : Query)

@@ -1,5 +1,5 @@
 -- Well-typedness is decided, so that it can be recovered from its truncation. Each lemma decides what its type says.
-use Rattle.serde_json_path_syntax.proofs.Words.{◌≡◌, ◌<◌, ℕ, zero, suc, ℤ, pos, negsuc, neg_ℤ, of_z, nat_eq, ◌%◌, ◌==◌, unsigned_abs, int_div, int_rem, List, [], ◌∷◌, Option, Some, None, Bool, true, false, inl, inr, refl, sym, ap, subst, ◌∙◌, true≢false, arith, w128, Decides-eqb, Decides-like, ints, quot-rem, unsigned_abs-mul, none-some, same_Some, Query, query, Segments, no_segments, segment, Segment, long_hand, Selectors, no_selectors, selector, Selector, filter, LogicalOr, no_or, or, LogicalAnd, no_and, and, Basic, paren, not_paren, relation, exist, not_exist, test, not_test, Comparable, literal, singular, called, Call, call, Arguments, no_arguments, argument, Argument, literal_argument, query_argument, call_argument, logical_argument, Literal, number, segments_of, are_singular, Kind, of_value, of_nodes, of_logical, Signature, IsValueLiteral, IsTestKind, result_kind, TakesResult, IsTyped, AreTypedSegments, IsTypedSegment, AreTypedSelectors, IsTypedSelector, IsTypedOr, IsTypedAnd, IsTypedBasic, IsTypedComparable, IsTypedCall, AreTypedArguments, IsTypedArgument}
+use Rattle.serde_json_path_syntax.proofs.Words.{◌≡◌, ◌<◌, ℕ, zero, suc, ℤ, pos, negsuc, neg_ℤ, of_z, nat_eq, ◌%◌, ◌==◌, unsigned_abs, int_div, int_rem, List, [], ◌∷◌, Option, Some, None, Bool, true, false, inl, inr, refl, sym, ap, subst, ◌∙◌, true≢false, arith, w128, Decides-eqb, Decides-like, ints, quot-rem, unsigned_abs-mul, none-some, same_Some, Query, query, Segments, no_segments, segment, Segment, long_hand, Selectors, no_selectors, selector, Selector, filter, LogicalOr, no_or, or, LogicalAnd, no_and, and, Basic, paren, relation, test, Operand, literal, queried, called, Call, call, Arguments, no_arguments, argument, Argument, operand, logical_argument, Literal, number, segments_of, AreSingular, are_singular, Kind, of_value, of_nodes, of_logical, Signature, IsValueLiteral, IsTestKind, result_kind, TakesResult, IsTyped, AreTypedSegments, IsTypedSegment, AreTypedSelectors, IsTypedSelector, IsTypedOr, IsTypedAnd, IsTypedBasic, IsTypedComparable, IsTypedCall, AreTypedArguments, IsTypedArgument, IsTypedOperand}
 use Rattle.std.proofs.Common.{Decides}
 use Rattle.std.proofs.Math.Decide.{map_dec}
 use Rattle.std.proofs.Math.Logic.{∥∥₁_elim}
@@ -55,6 +55,9 @@ value_literal : (l : Literal) → Dec (IsValueLiteral l)
 value_literal (number amount) = by_test (whole_amount amount) (Decides-whole_amount amount)
 value_literal _ = yes tt
 
+singular : (segs : Segments) → Dec (AreSingular segs)
+singular segs = by_test (are_singular segs) (Decides-are_singular segs)
+
 -- ---- declared names
 
 -- the parameters of a declared name meet what is decided
@@ -100,17 +103,13 @@ module _ (signature : List ℕ → Option Signature) where
     typed_and (and b more) = both (typed_basic b) (typed_and more)
 
     typed_basic : (b : Basic) → Dec (IsTypedBasic signature b)
-    typed_basic (paren e) = typed_or e
-    typed_basic (not_paren e) = typed_or e
+    typed_basic (paren negated e) = typed_or e
     typed_basic (relation a op b) = both (typed_comparable a) (typed_comparable b)
-    typed_basic (exist q) = typed q
-    typed_basic (not_exist q) = typed q
-    typed_basic (test c) = both (typed_call c) (test_kind (result_kind signature c))
-    typed_basic (not_test c) = both (typed_call c) (test_kind (result_kind signature c))
+    typed_basic (test negated o) = typed_operand o of_logical
 
-    typed_comparable : (c : Comparable) → Dec (IsTypedComparable signature c)
+    typed_comparable : (c : Operand) → Dec (IsTypedComparable signature c)
     typed_comparable (literal l) = yes tt
-    typed_comparable (singular q) = typed q
+    typed_comparable (queried q) = both (typed q) (singular (segments_of q))
     typed_comparable (called c) = both (typed_call c) (kind (result_kind signature c) of_value)
 
     typed_call : (c : Call) → Dec (IsTypedCall signature c)
@@ -123,12 +122,16 @@ module _ (signature : List ℕ → Option Signature) where
     typed_arguments (argument a more) (wanted ∷ kinds) = both (typed_argument a wanted) (typed_arguments more kinds)
 
     typed_argument : (a : Argument) (wanted : Kind) → Dec (IsTypedArgument signature a wanted)
-    typed_argument (literal_argument l) of_value = value_literal l
-    typed_argument (query_argument q) of_value = both (typed q) (by_test (are_singular (segments_of q)) (Decides-are_singular (segments_of q)))
-    typed_argument (query_argument q) _ = typed q
-    typed_argument (call_argument c) wanted = both (typed_call c) (takes_result wanted (result_kind signature c))
+    typed_argument (operand o) wanted = typed_operand o wanted
     typed_argument (logical_argument e) of_logical = typed_or e
-    typed_argument _ _ = no (λ h. h)
+    typed_argument (logical_argument e) _ = no (λ h. h)
+
+    typed_operand : (o : Operand) (wanted : Kind) → Dec (IsTypedOperand signature o wanted)
+    typed_operand (literal l) of_value = value_literal l
+    typed_operand (literal l) _ = no (λ h. h)
+    typed_operand (queried q) of_value = both (typed q) (singular (segments_of q))
+    typed_operand (queried q) _ = typed q
+    typed_operand (called c) wanted = both (typed_call c) (takes_result wanted (result_kind signature c))
 
   -- what is well-typed for some reason is decided to be so, and from that a reason is built
   pub typed_recovered : (q : Query) → ∥ IsTyped signature q ∥₁ → IsTyped signature q

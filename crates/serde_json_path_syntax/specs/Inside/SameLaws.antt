@@ -8,10 +8,10 @@ use Rattle.std.specs.Ordering.{int_eq}
 use Rattle.std.proofs.Common.{◌∙◌, ap, sym}
 use Rattle.std.proofs.lemmas.Cmp.{on_equiv}
 use Rattle.std.proofs.lemmas.Bool.Decides.{Decides-and, Decides-like, same_from_decides}
-use Rattle.serde_json_path_syntax.specs.Tree.{QueryKind, root, current, SegmentKind, child, descendant, Slice, Operator, equal, not_equal, less, less_or_equal, greater, greater_or_equal, Literal, text, number, truth, null, Query, query, Segments, no_segments, segment, Segment, dot_name, dot_wildcard, long_hand, Selectors, no_selectors, selector, Selector, name, wildcard, index, slice, filter, LogicalOr, no_or, or, LogicalAnd, no_and, and, Basic, paren, not_paren, relation, exist, not_exist, test, not_test, Comparable, literal, singular, called, Call, call, Arguments, no_arguments, argument, Argument, literal_argument, query_argument, call_argument, logical_argument}
+use Rattle.serde_json_path_syntax.specs.Tree.{QueryKind, root, current, SegmentKind, child, descendant, Slice, Operator, equal, not_equal, less, less_or_equal, greater, greater_or_equal, Literal, text, number, truth, null, Query, query, Segments, no_segments, segment, Segment, dot_name, dot_wildcard, long_hand, Selectors, no_selectors, selector, Selector, name, wildcard, index, slice, filter, LogicalOr, no_or, or, LogicalAnd, no_and, and, Basic, paren, relation, test, Operand, literal, queried, called, Call, call, Arguments, no_arguments, argument, Argument, operand, logical_argument}
 use Rattle.serde_json_path_syntax.specs.Parts.{tree_of}
 use Rattle.serde_json_path_syntax.specs.declared.checked.Checked.{Checked}
-use Rattle.serde_json_path_syntax.specs.SameTree.{same_query_kind, same_segment_kind, same_slice, same_operator, same_literal, same_query, same_segments, same_segment, same_selectors, same_selector, same_or, same_and, same_basic, same_comparable, same_call, same_arguments, same_argument}
+use Rattle.serde_json_path_syntax.specs.SameTree.{same_query_kind, same_segment_kind, same_slice, same_operator, same_literal, same_query, same_segments, same_segment, same_selectors, same_selector, same_or, same_and, same_basic, same_operand, same_call, same_arguments, same_argument}
 
 -- ---- what has no parts of its own
 
@@ -103,21 +103,17 @@ mutual
   Decides-same_and _ _ = (λ h. cc, λ e. cc)
 
   Decides-same_basic : (a b : Basic) → Decides (same_basic a b) (a ≡ b)
-  Decides-same_basic (paren a) (paren b) = Decides-like _ (ap paren) (λ e. cc) (Decides-same_or a b)
-  Decides-same_basic (not_paren a) (not_paren b) = Decides-like _ (ap not_paren) (λ e. cc) (Decides-same_or a b)
+  Decides-same_basic (paren n a) (paren m b) = Decides-like _ (λ h. cc) (λ e. (cc, cc)) (Decides-and _ _ (booleans_Decides n m) (Decides-same_or a b))
   Decides-same_basic (relation a op b) (relation c other d) =
-      Decides-like _ (λ h. cc) (λ e. ((cc, cc), cc)) (Decides-and _ _ (Decides-and _ _ (Decides-same_operator op other) (Decides-same_comparable a c)) (Decides-same_comparable b d))
-  Decides-same_basic (exist a) (exist b) = Decides-like _ (ap exist) (λ e. cc) (Decides-same_query a b)
-  Decides-same_basic (not_exist a) (not_exist b) = Decides-like _ (ap not_exist) (λ e. cc) (Decides-same_query a b)
-  Decides-same_basic (test a) (test b) = Decides-like _ (ap test) (λ e. cc) (Decides-same_call a b)
-  Decides-same_basic (not_test a) (not_test b) = Decides-like _ (ap not_test) (λ e. cc) (Decides-same_call a b)
+      Decides-like _ (λ h. cc) (λ e. ((cc, cc), cc)) (Decides-and _ _ (Decides-and _ _ (Decides-same_operator op other) (Decides-same_operand a c)) (Decides-same_operand b d))
+  Decides-same_basic (test n a) (test m b) = Decides-like _ (λ h. cc) (λ e. (cc, cc)) (Decides-and _ _ (booleans_Decides n m) (Decides-same_operand a b))
   Decides-same_basic _ _ = (λ h. cc, λ e. cc)
 
-  Decides-same_comparable : (a b : Comparable) → Decides (same_comparable a b) (a ≡ b)
-  Decides-same_comparable (literal a) (literal b) = Decides-like _ (ap literal) (λ e. cc) (Decides-same_literal a b)
-  Decides-same_comparable (singular a) (singular b) = Decides-like _ (ap singular) (λ e. cc) (Decides-same_query a b)
-  Decides-same_comparable (called a) (called b) = Decides-like _ (ap called) (λ e. cc) (Decides-same_call a b)
-  Decides-same_comparable _ _ = (λ h. cc, λ e. cc)
+  Decides-same_operand : (a b : Operand) → Decides (same_operand a b) (a ≡ b)
+  Decides-same_operand (literal a) (literal b) = Decides-like _ (ap literal) (λ e. cc) (Decides-same_literal a b)
+  Decides-same_operand (queried a) (queried b) = Decides-like _ (ap queried) (λ e. cc) (Decides-same_query a b)
+  Decides-same_operand (called a) (called b) = Decides-like _ (ap called) (λ e. cc) (Decides-same_call a b)
+  Decides-same_operand _ _ = (λ h. cc, λ e. cc)
 
   Decides-same_call : (a b : Call) → Decides (same_call a b) (a ≡ b)
   Decides-same_call (call f args) (call g more) =
@@ -130,9 +126,7 @@ mutual
   Decides-same_arguments _ _ = (λ h. cc, λ e. cc)
 
   Decides-same_argument : (a b : Argument) → Decides (same_argument a b) (a ≡ b)
-  Decides-same_argument (literal_argument a) (literal_argument b) = Decides-like _ (ap literal_argument) (λ e. cc) (Decides-same_literal a b)
-  Decides-same_argument (query_argument a) (query_argument b) = Decides-like _ (ap query_argument) (λ e. cc) (Decides-same_query a b)
-  Decides-same_argument (call_argument a) (call_argument b) = Decides-like _ (ap call_argument) (λ e. cc) (Decides-same_call a b)
+  Decides-same_argument (operand a) (operand b) = Decides-like _ (ap operand) (λ e. cc) (Decides-same_operand a b)
   Decides-same_argument (logical_argument a) (logical_argument b) = Decides-like _ (ap logical_argument) (λ e. cc) (Decides-same_or a b)
   Decides-same_argument _ _ = (λ h. cc, λ e. cc)
 

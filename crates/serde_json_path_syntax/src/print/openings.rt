@@ -1,7 +1,7 @@
 //! Texts that open a query, a segment or a selector, each for one write.
 
 ghost use Rattle.std.specs.Prelude.{◌≡◌, ◌++◌, codes, option_map};
-ghost use Rattle.serde_json_path_syntax.specs.Words.{query_kind_view, segment_kind_view, opening_text, dots_of, query_kind_text, sign_text};
+ghost use Rattle.serde_json_path_syntax.specs.Words.{query_kind_view, segment_kind_view, opening_text, dots_of, negation_text, query_kind_text, sign_text};
 
 use crate::node::{QueryKind, SegmentKind};
 
@@ -13,6 +13,13 @@ pub(crate) fn sign(kind: QueryKind) -> &'static str
         QueryKind::Root => "$",
         QueryKind::Current => "@",
     }
+}
+
+/// What is before a parenthesis or a test.
+pub(crate) fn negation(negated: bool) -> &'static str
+    ensures { result.now ≡ negation_text negated }
+{
+    if negated { "!" } else { "" }
 }
 
 /// What is before a name or `*`, after the sign of the query that begins with it.

@@ -5,7 +5,6 @@ use Rattle.jsonpath_document.specs.Document.{ReadsAs}
 use Rattle.jsonpath_program.specs.Run.{line_of, status_of}
 use Rattle.jsonpath_program.specs.declared.report.ReportError.TheVariants.{Path, Document, Query}
 use Rattle.jsonpath_program.proofs.Runs.{one_word, same_word, of_known, whole_read, report_of_run, path_of, document_of, query_of}
-use Rattle.serde_json_path_functions.proofs.Sets.{before_itself}
 use Rattle.jsonpath_program.proofs.run.run.Goals as goal
 
 pub returns-then-is_err-clause-document_reported : goal.returns-then-is_err-clause-document_reported
@@ -32,7 +31,7 @@ returns-in-Ok-clause-query_last g c =
     λ three. of_known (λ bytes. (d : Data) × ReadsAs bytes d) _ _ whole (_, c.in-Ok.ensures.lines.reads)
 
 pub refuse-requires : goal.refuse-requires
-refuse-requires g c = λ path is kind. ap position_of ((c.report.ensures.path_refused path (c.in-Err.is ∙ ap Err is)).memory kind)
+refuse-requires g c = λ path is kind. ap position_of ((c.report_under.ensures.path_refused path (c.in-Err.is ∙ ap Err is)).memory kind)
 
 pub returns-clause-path_reported : goal.returns-clause-path_reported
 returns-clause-path_reported g c = λ one.
@@ -41,8 +40,8 @@ returns-clause-path_reported g c = λ one.
       one_word _ _ _ c.in-len1.len_at_least c.in-len1.len_below c.path-item.is c.as_str.ensures.value,
       (
         path,
-        rw before_itself at (c.report.ensures.path_refused path (c.in-Err.is ∙ ap Err is)),
-        rw before_itself at (c.report.ensures.path_reported path (c.in-Err.is ∙ ap Err is)),
+        c.report_under.ensures.path_refused path (c.in-Err.is ∙ ap Err is),
+        c.report_under.ensures.path_reported path (c.in-Err.is ∙ ap Err is),
         rw is at c.refuse.ensures.reported,
       ),
     )
@@ -55,7 +54,7 @@ returns-clause-document_reported g c = λ two.
       inl (
         document,
         refl,
-        λ not_json. of_known (λ bytes. (d : Data) → ReadsAs bytes d → ⊥) _ _ read (c.report.ensures.not_json (c.in-Err.is ∙ ap Err (is ∙ ap Document not_json))),
+        λ not_json. of_known (λ bytes. (d : Data) → ReadsAs bytes d → ⊥) _ _ read (c.report_under.ensures.not_json (c.in-Err.is ∙ ap Err (is ∙ ap Document not_json))),
       ),
       rw is at c.refuse.ensures.reported,
     )
@@ -73,7 +72,7 @@ returns-clause-query_reported g c = λ three.
           c.as_str.result.now,
           one_word _ _ _ c.in-len1.len_at_least c.in-len1.len_below c.path-item.is c.as_str.ensures.value,
           whole,
-          rw before_itself at (c.report.ensures.pattern_refused (c.in-Err.is ∙ ap Err (is ∙ ap Query pattern))),
+          c.report_under.ensures.pattern_refused (c.in-Err.is ∙ ap Err (is ∙ ap Query pattern)),
         ),
       ),
       inr refl,
@@ -84,7 +83,7 @@ pub returns-clause-query_last : goal.returns-clause-query_last
 returns-clause-query_last g c = λ three.
     let (query, is) = query_of c.in-Err.e (sym c.refuse.ensures.status ∙ three) in
     let whole = whole_read _ _ _ _ _ (sym c.is_err.ensures.value ∙ c.if-is_err.false) c.read_to_end.ensures.bytes c.new-document.ensures.items c.as_slice.ensures.value in
-    of_known (λ bytes. (d : Data) × ReadsAs bytes d) _ _ whole (c.report.ensures.query_last query (c.in-Err.is ∙ ap Err is))
+    of_known (λ bytes. (d : Data) × ReadsAs bytes d) _ _ whole (c.report_under.ensures.query_last query (c.in-Err.is ∙ ap Err is))
 
 pub returns-then-is_err-clause-path_first : goal.returns-then-is_err-clause-path_first
 returns-then-is_err-clause-path_first g c = λ path one no_path. inr (refl, c.write_text-then-is_err.ensures.beginning)
@@ -93,13 +92,13 @@ pub returns-in-Ok-clause-path_first : goal.returns-in-Ok-clause-path_first
 returns-in-Ok-clause-path_first g c = λ path is_word no_path.
     let one = one_word _ _ _ c.in-len1.len_at_least c.in-len1.len_below c.path-item.is c.as_str.ensures.value in
     let same = same_word c.args.words.now path c.as_str.result.now is_word one in
-    let (e, refused) = c.report.ensures.path_first (rw (before_itself, ← same) no_path) in
+    let (e, refused) = c.report_under.ensures.path_first (rw (← same) no_path) in
     let told = sym c.in-Ok.is ∙ refused in absurd cc
 
 pub returns-clause-path_first : goal.returns-clause-path_first
 returns-clause-path_first g c = λ path is_word no_path.
     let one = one_word _ _ _ c.in-len1.len_at_least c.in-len1.len_below c.path-item.is c.as_str.ensures.value in
     let same = same_word c.args.words.now path c.as_str.result.now is_word one in
-    let (e, refused) = c.report.ensures.path_first (rw (before_itself, ← same) no_path) in
+    let (e, refused) = c.report_under.ensures.path_first (rw (← same) no_path) in
     let same_error : c.in-Err.e ≡ Path e = cc in
     inl (c.refuse.ensures.status ∙ ap status_of same_error)

@@ -1,10 +1,10 @@
-use Rattle.serde_json_path_core.proofs.Words.{◌≡◌, sym, subst, ◌∙◌, same_Some, Data, Comparable, FunctionSet, Compared, AreEqual, IsComparedAs}
+use Rattle.serde_json_path_core.proofs.Words.{◌≡◌, sym, subst, ◌∙◌, same_Some, Data, Operand, FunctionSet, Compared, AreEqual, IsComparedAs}
 use Rattle.serde_json_path_core.proofs.Meaning.AnswerKinds.{compared_there}
 use Rattle.serde_json_path_core.proofs.Meaning.Derived.{compared_right}
 use Rattle.serde_json_path_core.proofs.laws.law_not_equal_negates_equal.Goals as goal
 
 -- a side of a comparison stands for one thing at most
-compared_once : (F : FunctionSet) (top : Data) (a : Comparable) (v : Data) (x y : Compared) → IsComparedAs F top a v x → IsComparedAs F top a v y → x ≡ y
+compared_once : (F : FunctionSet) (top : Data) (a : Operand) (v : Data) (x y : Compared) → IsComparedAs F top a v x → IsComparedAs F top a v y → x ≡ y
 compared_once F top a v x y h g = same_Some x y (sym ((compared_right F top a v x).0 h) ∙ (compared_right F top a v y).0 g)
 
 -- each side stands for something, so that one of the two comparisons holds

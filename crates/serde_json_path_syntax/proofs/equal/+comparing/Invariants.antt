@@ -1,4 +1,4 @@
-use Rattle.serde_json_path_syntax.proofs.Words.{◌+◌, ◌*◌, argument_parts, basic_parts, comparable_parts, segment_parts, selector_parts, parts_bound, nodes_in, branches}
+use Rattle.serde_json_path_syntax.proofs.Words.{◌+◌, ◌*◌, basic_parts, operand_parts, segment_parts, selector_parts, parts_bound, nodes_in, branches}
 use Rattle.std.specs.Slice.Iter.{iter_rest}
 use Rattle.serde_json_path_syntax.proofs.Equality.{AreLeft}
 use Rattle.serde_json_path_syntax.proofs.equal.+comparing.Given as goal
@@ -20,11 +20,8 @@ decreases-same_selector l = 4 * parts_bound (selector_parts l.left.now) + 2
 abbrev pub decreases-same_basic : goal.decreases-same_basic
 decreases-same_basic l = 4 * parts_bound (basic_parts l.left.now) + 2
 
-abbrev pub decreases-same_comparable : goal.decreases-same_comparable
-decreases-same_comparable l = 4 * parts_bound (comparable_parts l.left.now) + 2
-
-abbrev pub decreases-same_argument : goal.decreases-same_argument
-decreases-same_argument l = 4 * parts_bound (argument_parts l.left.now) + 2
+abbrev pub decreases-same_operand : goal.decreases-same_operand
+decreases-same_operand l = 4 * parts_bound (operand_parts l.left.now) + 2
 
 -- the parts that are left, where those before are alike
 abbrev pub invariant-same_parts-loop-left : goal.invariant-same_parts-loop-left

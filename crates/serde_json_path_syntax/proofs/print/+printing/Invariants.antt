@@ -1,4 +1,4 @@
-use Rattle.serde_json_path_syntax.proofs.Words.{◌+◌, ◌*◌, [], codes, HasWritten, IsPlainFormatter, argument_parts, basic_parts, comparable_parts, parts_bound, nodes_in, branches}
+use Rattle.serde_json_path_syntax.proofs.Words.{◌+◌, ◌*◌, [], codes, HasWritten, IsPlainFormatter, basic_parts, operand_parts, parts_bound, nodes_in, branches}
 use Rattle.serde_json_path_syntax.proofs.Printing.{begun}
 use Rattle.serde_json_path_syntax.proofs.print.+printing.Given as goal
 
@@ -25,11 +25,8 @@ decreases-write_joined g l = 4 * parts_bound l.parts.now + 1
 abbrev pub decreases-write_basic : goal.decreases-write_basic
 decreases-write_basic g l = 4 * parts_bound (basic_parts l.basic.now) + 1
 
-abbrev pub decreases-write_comparable : goal.decreases-write_comparable
-decreases-write_comparable g l = 4 * parts_bound (comparable_parts l.comparable.now) + 1
-
-abbrev pub decreases-write_argument : goal.decreases-write_argument
-decreases-write_argument g l = 4 * parts_bound (argument_parts l.argument.now) + 1
+abbrev pub decreases-write_operand : goal.decreases-write_operand
+decreases-write_operand g l = 4 * parts_bound (operand_parts l.operand.now) + 1
 
 -- ---- what is printed of the parts after the first one, since that was printed
 

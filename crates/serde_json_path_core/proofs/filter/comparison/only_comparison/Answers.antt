@@ -1,4 +1,4 @@
-use Rattle.serde_json_path_core.proofs.Words.{◌≡◌, ◌∙◌, ap, arith, rules, sym, and_parts, common_steps, comparable_at, is_and, is_comparable, one_is, or_at, branch_at, branches, operator_view, and, no_and, no_or, or, relation, Part, nodes_of, top_of, within_get, compare_sides, query_of, set_of, compared_by, SoundComparable, compared_at}
+use Rattle.serde_json_path_core.proofs.Words.{◌≡◌, ◌∙◌, ap, arith, rules, sym, and_parts, common_steps, operand_at, is_and, is_comparable, one_is, or_at, branch_at, branches, operator_view, and, no_and, no_or, or, relation, Part, nodes_of, top_of, within_get, compare_sides, query_of, set_of, compared_by, SoundComparable, compared_at}
 use Rattle.serde_json_path_core.proofs.Sound.{sound-sides}
 use Rattle.serde_json_path_core.proofs.Steps.Lookups.{one-comparison, only-comparison}
 use Rattle.serde_json_path_core.proofs.filter.comparison.only_comparison.Goals.{In-Basic-Relation}
@@ -11,7 +11,7 @@ and_parts-requires-clause-kind g c =
 -- the filter is that comparison alone
 only : (g : _) (c : In-Basic-Relation g)
     → or_at (nodes_of c.args.scope.now) c.args.test
-    ≡ or (and (relation (comparable_at (nodes_of c.args.scope.now) c.in-Basic-Relation.left) (operator_view c.in-Basic-Relation.operator) (comparable_at (nodes_of c.args.scope.now) c.in-Basic-Relation.right)) no_and) no_or
+    ≡ or (and (relation (operand_at (nodes_of c.args.scope.now) c.in-Basic-Relation.left) (operator_view c.in-Basic-Relation.operator) (operand_at (nodes_of c.args.scope.now) c.in-Basic-Relation.right)) no_and) no_or
 only g c =
     let nodes = nodes_of c.args.scope.now in
     let d : Part = record { number = 0 } in

@@ -1,8 +1,8 @@
 use Rattle.serde_json_path_parser.proofs.Reading.{first_fails, no_longer, with_none}
 use Rattle.serde_json_path_parser.proofs.Texts.{is_ahead}
-use Rattle.serde_json_path_parser.proofs.Words.{drop, ◌∙◌, [], Some, Err, refl, sym, ap, option_map, arith, true≢false, past_blanks, string_bytes, nil_from_length, err_from_is_err_and, literal_view, operator_view, a_comparable, logical_argument, call, signature_view, alone, and_list, or_list, signatures, deeper, begins, is_at, opens, a_literal, a_call, left, common_steps, selector_list, read_segments, segment_list, read_named_call, calls_in_operand, a_query, AreAndPartsOf, AreOrPartsOf, AreSelectorsOf, map, kind_view, read_argument, segment_kind_view, query_kind_view}
+use Rattle.serde_json_path_parser.proofs.Words.{drop, ◌∙◌, [], Some, Err, refl, sym, ap, option_map, arith, true≢false, past_blanks, string_bytes, nil_from_length, err_from_is_err_and, literal_view, operator_view, an_operand, logical_argument, call, signature_view, and_list, or_list, signatures, deeper, begins, is_at, opens, literal, called, left, common_steps, selector_list, read_segments, segment_list, read_named_call, calls_in_operand, queried, AreAndPartsOf, AreOrPartsOf, AreSelectorsOf, map, kind_view, read_argument, segment_kind_view, query_kind_view, operand, true, false}
 use Rattle.serde_json_path_parser.specs.Inside.Giving.{read_filter}
-use Rattle.serde_json_path_parser.proofs.Steps.{none_made, one_more, first_refused, first_open, alone_calls, literal_word_reads, level_down, at_mark, value_kind, negated_named, no_call, grows_none, grows_kept, grows_same, grows_then, grows_call, grown_so, begins_row, row_fails, row_shorter, row_goes_on, row_done, segments_stand, selectors_stand, ors_stand, ands_stand, segment_shorter, some_parts}
+use Rattle.serde_json_path_parser.proofs.Steps.{no_literal, comparable_read, none_made, one_more, first_refused, first_open, literal_word_reads, level_down, at_mark, value_kind, grows_none, grows_kept, grows_same, grows_then, grows_call, grown_so, begins_row, row_fails, row_shorter, row_goes_on, row_done, segments_stand, selectors_stand, ors_stand, ands_stand, segment_shorter, some_parts}
 use Rattle.serde_json_path_parser.proofs.parser.Parser.+filters.Goals as goal
 use Rattle.serde_json_path_syntax.specs.Tree as tree
 
@@ -51,7 +51,7 @@ pub parse_argument-returns-then-sees_end_of_argument-clause-gives : goal.parse_a
 unfolding read_argument
 parse_argument-returns-then-sees_end_of_argument-clause-gives g t c =
     let o = c.in_ok-operand.ensures.gives in
-    (alone o.0, (o.0, refl, o.1), grind (arith, common_steps), grows_same (alone_calls o.0) o.3)
+    (operand o.0, (o.0, refl, o.1), grind (arith, common_steps), o.3)
 
 pub parse_argument-returns-clause-gives : goal.parse_argument-returns-clause-gives
 unfolding read_argument
@@ -111,7 +111,7 @@ parse_arguments-returns-then-not-sees-clause-gives g t c =
 pub parse_basic-returns-then-sees-clause-gives : goal.parse_basic-returns-then-sees-clause-gives
 parse_basic-returns-then-sees-clause-gives g t c =
     let inner = c.in_ok-inner.ensures.gives in
-    (tree.paren inner.0, c.in_ok-paren.ensures.made inner.0 inner.1, grind (arith, common_steps), grows_kept inner.3 c.paren.ensures.keeps)
+    (tree.paren false inner.0, c.in_ok-paren.ensures.made inner.0 inner.1, grind (arith, common_steps), grows_kept inner.3 c.paren.ensures.keeps)
 
 pub parse_basic_from-returns-in_default-clause-gives : goal.parse_basic_from-returns-in_default-clause-gives
 parse_basic_from-returns-in_default-clause-gives g t c = λ x is.
@@ -120,14 +120,20 @@ parse_basic_from-returns-in_default-clause-gives g t c = λ x is.
 pub parse_basic_from-relation-requires-clause-left : goal.parse_basic_from-relation-requires-clause-left
 parse_basic_from-relation-requires-clause-left g t c =
     let a = c.in_ok-left.ensures.gives c.requires.0 c.requires.1 in
-    (a.0, c.as_comparable-2.ensures.keeps.trees c.in_ok-left.left (a_comparable a.0) (c.in_ok-operand.ensures.gives.3.trees c.in_ok-left.left (a_comparable a.0) a.1))
+    (a.0, c.as_comparable-2.ensures.keeps.trees c.in_ok-left.left (an_operand a.0) (c.in_ok-operand.ensures.gives.3.trees c.in_ok-left.left (an_operand a.0) a.1), comparable_read (signatures g.F.Functions.set c.args.self.now) (deeper g.F.Functions.set c.args.self.now) c.args.place c.requires.0 a.0 (left c.skip_blanks.new.self) (left c.skip_blanks.new.self) a.2)
+
+pub parse_basic_from-relation-requires-clause-right : goal.parse_basic_from-relation-requires-clause-right
+parse_basic_from-relation-requires-clause-right g t c =
+    let o = c.in_ok-operand.ensures.gives in
+    let b = c.in_ok-right.ensures.gives o.0 o.1 in
+    (b.0, b.1, comparable_read (signatures g.F.Functions.set c.args.self.now) (deeper g.F.Functions.set c.args.self.now) c.bytes_left-right_place.result o.0 b.0 (left c.parse_operand.new.reader) (left c.parse_operand.new.reader) b.2)
 
 pub parse_basic_from-returns-clause-gives : goal.parse_basic_from-returns-clause-gives
 parse_basic_from-returns-clause-gives g t c = λ x is.
     let a = c.in_ok-left.ensures.gives x is in
     let o = c.in_ok-operand.ensures.gives in
     let b = rw c.bytes_left-right_place.ensures.value at (c.in_ok-right.ensures.gives o.0 o.1) in
-    let kept = c.as_comparable-2.ensures.keeps.trees c.in_ok-left.left (a_comparable a.0) (o.3.trees c.in_ok-left.left (a_comparable a.0) a.1) in (
+    let kept = c.as_comparable-2.ensures.keeps.trees c.in_ok-left.left (an_operand a.0) (o.3.trees c.in_ok-left.left (an_operand a.0) a.1) in (
       tree.relation a.0 (operator_view c.in-Some.operator) b.0,
       c.in_ok-relation.ensures.made a.0 b.0 kept b.1,
       rw (c.in-Some.ensures.value, ← c.skip_blanks.ensures.left, a.2, o.2, b.2) refl,
@@ -175,59 +181,27 @@ pub parse_named-returns-then-sees-clause-gives : goal.parse_named-returns-then-s
 unfolding read_named_call
 parse_named-returns-then-sees-clause-gives g t c =
     let k = rw c.bytes_left-place.ensures.value at c.in_ok-call.ensures.gives in
-    (a_call k.0, (k.0, refl, k.1.0, k.1.1), rw (c.requires, ← c.in_ok-word.ensures.rest, sym c.sees.ensures ∙ c.if-sees.true, read_named_call, ← c.in_ok-word.ensures.word, k.2) refl, k.3)
+    (called k.0, (k.0, refl, k.1.0, k.1.1), rw (c.requires, ← c.in_ok-word.ensures.rest, sym c.sees.ensures ∙ c.if-sees.true, read_named_call, ← c.in_ok-word.ensures.word, k.2) refl, k.3)
 
 pub parse_named-returns-in-Some-clause-gives : goal.parse_named-returns-in-Some-clause-gives
 parse_named-returns-in-Some-clause-gives g t c =
     let reads = literal_word_reads (left c.args.reader.now) in
-    (a_literal (literal_view c.in-Some.literal), refl, grind (arith, common_steps, reads), grows_none c.args.builder.now)
+    (literal (literal_view c.in-Some.literal), refl, grind (arith, common_steps, reads), grows_none c.args.builder.now)
 
-pub parse_negated-returns-in_ok-not_paren-in-Some-eq40-clause-gives : goal.parse_negated-returns-in_ok-not_paren-in-Some-eq40-clause-gives
-parse_negated-returns-in_ok-not_paren-in-Some-eq40-clause-gives g t c =
-    let inner = c.in_ok-inner-in-Some-eq40.ensures.gives in
-    let begun = is_ahead 40 _ _ (omega arith) c.in-Some-eq40.ensures (grind (arith, common_steps)) in
-    (tree.not_paren inner.0, c.in_ok-not_paren-in-Some-eq40.ensures.made inner.0 inner.1, rw (ap (is_at "(") begun, inner.2) refl, grows_kept inner.3 c.not_paren.ensures.keeps)
+pub parse_negated-returns-then-sees-clause-gives : goal.parse_negated-returns-then-sees-clause-gives
+parse_negated-returns-then-sees-clause-gives g t c =
+    let inner = c.in_ok-inner.ensures.gives in
+    (tree.paren true inner.0, c.in_ok-paren.ensures.made inner.0 inner.1, grind (arith, common_steps), grows_kept inner.3 c.paren.ensures.keeps)
 
-pub parse_negated-returns-in_ok-not_exist-in-Some-eq64-clause-gives : goal.parse_negated-returns-in_ok-not_exist-in-Some-eq64-clause-gives
-parse_negated-returns-in_ok-not_exist-in-Some-eq64-clause-gives g t c =
-    let q = c.in_ok-query-in-Some-eq64.ensures.gives in
-    let begun = is_ahead 64 _ _ (omega arith) c.in-Some-eq64.ensures (grind (arith, common_steps)) in
-    (tree.not_exist q.0, c.in_ok-not_exist-in-Some-eq64.ensures.made q.0 q.1, rw (ap (is_at "(") begun, ap (is_at "@") begun, q.2) refl, grows_kept q.3 c.not_exist.ensures.keeps)
-
-pub parse_negated-returns-in_ok-not_exist-in-Some-eq36-clause-gives : goal.parse_negated-returns-in_ok-not_exist-in-Some-eq36-clause-gives
-parse_negated-returns-in_ok-not_exist-in-Some-eq36-clause-gives g t c =
-    let q = c.in_ok-query-in-Some-eq36.ensures.gives in
-    let begun = is_ahead 36 _ _ (omega arith) c.in-Some-eq36.ensures (grind (arith, common_steps)) in
-    (tree.not_exist q.0, c.in_ok-not_exist-in-Some-eq36.ensures.made q.0 q.1, rw (ap (is_at "(") begun, ap (is_at "@") begun, ap (is_at "$") begun, q.2) refl, grows_kept q.3 c.not_exist-in-Some-eq36.ensures.keeps)
-
-pub parse_negated_call-returns-in_err-call-clause-gives : goal.parse_negated_call-returns-in_err-call-clause-gives
-parse_negated_call-returns-in_err-call-clause-gives g t c =
-    let p = err_from_is_err_and c.from_residual.result c.from_residual.ensures.1 in
-    rw (p.1, p.2, negated_named _ _ _ c.requires) (first_fails c.in_err-call.field-0.0 _ _ c.in_err-call.ensures.gives)
-
-pub parse_negated_call-returns-in_default : goal.parse_negated_call-returns-in_default
-parse_negated_call-returns-in_default g t c =
-    let o = c.in_ok-call.ensures.gives in
+pub parse_negated-returns : goal.parse_negated-returns
+parse_negated-returns g t c =
+    let o = c.in_ok-operand.ensures.gives in
+    let tests = no_literal (signatures g.F.Functions.set c.args.self.now) (deeper g.F.Functions.set c.args.self.now) c.bytes_left-place.result c.parse_operand.new.builder _ o.0 (left c.parse_operand.new.reader) c.in_default.not-Literal o.1 in
+    let made = grown_so _ _ _ _ _ c.as_test.result (c.as_test.ensures.gives o.0 o.1) (λ b same. grows_same same (grows_kept o.3 c.as_test.ensures.keeps)) in
     record {
-      moves = record { moves = c.parse_named.ensures.moves.moves; near = rw c.in_long_hand.ensures (λ e. absurd cc) };
-      gives = rw (c.in_long_hand.ensures, c.bytes_left-place.ensures.value, negated_named _ _ _ c.requires, o.2) (no_call _ _ c.parse_named.new.builder _ o.0 _ c.in_default.not-Call o.1);
+      moves = record { moves = c.parse_operand.ensures.moves.moves; near = c.as_test.ensures.near };
+      gives = rw (sym c.sees.ensures ∙ c.if-sees.false, sym c.sees_test.ensures ∙ c.if-not-sees_test.false, o.2, sym c.bytes_left-place.ensures.value, tests) made;
     }
-
-pub parse_negated_call-returns-then-eq-clause-gives : goal.parse_negated_call-returns-then-eq-clause-gives
-parse_negated_call-returns-then-eq-clause-gives g t c =
-    let o = c.in_ok-call.ensures.gives in
-    let f = rw c.in-Call.is at o.1 in
-    rw (c.in_long_hand-then-eq.ensures, c.bytes_left-place.ensures.value, negated_named _ _ _ c.requires, o.2, f.1, f.3, value_kind c.in-Call.result ∙ sym c.eq.ensures ∙ c.if-eq.true) refl
-
-pub parse_negated_call-returns-clause-gives : goal.parse_negated_call-returns-clause-gives
-parse_negated_call-returns-clause-gives g t c =
-    let o = c.in_ok-call.ensures.gives in
-    let f = rw c.in-Call.is at o.1 in (
-      tree.not_test f.0,
-      c.in_ok-not_test.ensures.made f.0 f.2,
-      rw (negated_named _ _ _ c.requires, o.2) (simp (f.1, f.3, value_kind c.in-Call.result ∙ sym c.eq.ensures ∙ c.if-eq.false) refl),
-      grows_kept (grows_same (ap calls_in_operand f.1) o.3) c.not_test.ensures.keeps,
-    )
 
 pub parse_operand-returns-in-Some-eq39-clause-gives : goal.parse_operand-returns-in-Some-eq39-clause-gives
 parse_operand-returns-in-Some-eq39-clause-gives g t c =
@@ -243,13 +217,13 @@ pub parse_operand-returns-in_ok-query-in-Some-eq64-clause-gives : goal.parse_ope
 parse_operand-returns-in_ok-query-in-Some-eq64-clause-gives g t c =
     let q = c.in_ok-query-in-Some-eq64.ensures.gives in
     let begun = is_ahead 64 _ _ (omega arith) c.in-Some-eq64.ensures (grind (arith, common_steps)) in
-    (a_query q.0, (q.0, refl, q.1), rw (ap (is_at "'") begun, ap (is_at "\"") begun, ap (is_at "@") begun, q.2) refl, q.3)
+    (queried q.0, (q.0, refl, q.1), rw (ap (is_at "'") begun, ap (is_at "\"") begun, ap (is_at "@") begun, q.2) refl, q.3)
 
 pub parse_operand-returns-in_ok-query-in-Some-eq36-clause-gives : goal.parse_operand-returns-in_ok-query-in-Some-eq36-clause-gives
 parse_operand-returns-in_ok-query-in-Some-eq36-clause-gives g t c =
     let q = c.in_ok-query-in-Some-eq36.ensures.gives in
     let begun = is_ahead 36 _ _ (omega arith) c.in-Some-eq36.ensures (grind (arith, common_steps)) in
-    (a_query q.0, (q.0, refl, q.1), rw (ap (is_at "'") begun, ap (is_at "\"") begun, ap (is_at "@") begun, ap (is_at "$") begun, q.2) refl, q.3)
+    (queried q.0, (q.0, refl, q.1), rw (ap (is_at "'") begun, ap (is_at "\"") begun, ap (is_at "@") begun, ap (is_at "$") begun, q.2) refl, q.3)
 
 pub parse_or_from-parts-init : goal.parse_or_from-parts-init
 parse_or_from-parts-init g t c = record {

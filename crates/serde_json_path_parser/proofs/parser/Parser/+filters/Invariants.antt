@@ -23,9 +23,6 @@ decreases-parse_named g l = 512 * l.self.now.depth + 32
 abbrev pub decreases-parse_selectors : goal.decreases-parse_selectors
 decreases-parse_selectors g l = 512 * l.self.now.depth + 32
 
-abbrev pub decreases-parse_negated_call : goal.decreases-parse_negated_call
-decreases-parse_negated_call g l = 512 * l.self.now.depth + 48
-
 abbrev pub decreases-parse_bracket : goal.decreases-parse_bracket
 decreases-parse_bracket g l = 512 * l.self.now.depth + 48
 
@@ -39,7 +36,7 @@ abbrev pub decreases-parse_query : goal.decreases-parse_query
 decreases-parse_query g l = 512 * l.self.now.depth + 96
 
 abbrev pub decreases-parse_negated : goal.decreases-parse_negated
-decreases-parse_negated g l = 512 * l.self.now.depth + 112
+decreases-parse_negated g l = 512 * l.self.now.depth + 120
 
 abbrev pub decreases-parse_operand : goal.decreases-parse_operand
 decreases-parse_operand g l = 512 * l.self.now.depth + 112

@@ -8,11 +8,11 @@ returns-then-not-is_singular-clause-gives g c = λ x h.
     let q = rw c.in-Query.is at h in
     rw (c.in_long_hand.ensures, q.1, singular_by c.is_singular.result q.0 (c.is_singular.ensures q.0 q.2), c.if-not-is_singular.true) refl
 
-pub returns-in_ok-singular-in-Query-clause-gives : goal.returns-in_ok-singular-in-Query-clause-gives
-returns-in_ok-singular-in-Query-clause-gives g c = λ x h.
+pub returns-in_ok-queried-in-Query-clause-gives : goal.returns-in_ok-queried-in-Query-clause-gives
+returns-in_ok-queried-in-Query-clause-gives g c = λ x h.
     let q = rw c.in-Query.is at h in (
-      tree.singular q.0,
-      c.in_ok-singular-in-Query.ensures.made q.0 q.2,
+      tree.queried q.0,
+      c.in_ok-queried-in-Query.ensures.made q.0 q.2,
       simp (q.1, singular_by c.is_singular.result q.0 (c.is_singular.ensures q.0 q.2), c.if-not-is_singular.false) refl,
       ap calls_in_operand q.1,
     )
