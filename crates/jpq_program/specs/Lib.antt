@@ -1,3 +1,3 @@
 -- What contracts cite:
--- Query: the exit statuses, and plain lines.
+-- Query: the exit statuses.
 pub mod Query

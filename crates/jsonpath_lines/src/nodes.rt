@@ -229,7 +229,8 @@ fn push_chosen<F: Functions + Drop, const VARIES: bool>(
     walk: Walk<'_, '_, F>,
 ) -> Result<Written, QueryError>
     ensures pushed { IfOk result (λ written.
-        Pushes writer.entry.output writer.entry.head.now (asked writer.entry.output (rest walk.entry))
+        Pushes writer.entry.output writer.entry.head.now
+        (asked writer.entry.output (rest walk.entry))
         (string_bytes text) (string_bytes written.text) written.count) }
     ensures refused { OnlyMemoryOrPattern (set_of walk.entry) (query_of walk.entry)
         (document_of walk.entry) result }

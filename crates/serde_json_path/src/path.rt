@@ -156,7 +156,8 @@ impl JsonPath {
     ) -> Result<LocatedNodeList<'b>, QueryError>
         requires { Fits (before_builtin (F.set functions.now)) (path_signatures self.now) }
         ensures selects { IfOk result (λ list.
-            Selects (before_builtin (F.set functions.now)) (path_tree self.now) (view value.now) (located_nodes list)) }
+            Selects (before_builtin (F.set functions.now)) (path_tree self.now) (view value.now)
+            (located_nodes list)) }
         ensures refused { OnlyMemoryOrPattern (before_builtin (F.set functions.now))
             (path_tree self.now) (view value.now) result }
     {
@@ -175,7 +176,8 @@ impl JsonPath {
     pub fn query<'b>(&self, alloc: Global, value: &'b Value) -> Result<NodeList<'b>, QueryError>
         requires { Fits builtin_functions (path_signatures self.now) }
         ensures selects { IfOk result (λ list.
-            SelectsValues builtin_functions (path_tree self.now) (view value.now) (node_values list)) }
+            SelectsValues builtin_functions (path_tree self.now) (view value.now)
+            (node_values list)) }
         ensures refused { OnlyMemoryOrPattern builtin_functions (path_tree self.now)
             (view value.now) result }
     {
@@ -194,7 +196,8 @@ impl JsonPath {
     ) -> Result<NodeList<'b>, QueryError>
         requires { Fits (before_builtin (F.set functions.now)) (path_signatures self.now) }
         ensures selects { IfOk result (λ list.
-            SelectsValues (before_builtin (F.set functions.now)) (path_tree self.now) (view value.now) (node_values list)) }
+            SelectsValues (before_builtin (F.set functions.now)) (path_tree self.now)
+            (view value.now) (node_values list)) }
         ensures refused { OnlyMemoryOrPattern (before_builtin (F.set functions.now))
             (path_tree self.now) (view value.now) result }
     {
@@ -221,7 +224,8 @@ impl JsonPath {
     ) -> Result<Walk<'q, 'b, Both<&'q F, Builtin>>, QueryError>
         requires { Fits (before_builtin (F.set functions.now)) (path_signatures self.now) }
         ensures selects { IfOk result (λ walk.
-            Selects (before_builtin (F.set functions.now)) (path_tree self.now) (view value.now) (rest walk)) }
+            Selects (before_builtin (F.set functions.now)) (path_tree self.now) (view value.now)
+            (rest walk)) }
         ensures query { IfOk result (λ walk. query_of walk ≡ path_tree self.now) }
         ensures set { IfOk result (λ walk. set_of walk ≡ before_builtin (F.set functions.now)) }
         ensures document { IfOk result (λ walk. document_of walk ≡ view value.now) }

@@ -113,7 +113,8 @@ pub fn evaluate<'b, F: Functions + Drop>(
 ) -> Result<NodeList<'b>, QueryError>
     requires { Fits (F.set functions) (signatures_of query.now) }
     ensures selects { IfOk result (λ list.
-        SelectsValues (F.set functions) (tree_of query.now) (view document.now) (node_values list)) }
+        SelectsValues (F.set functions) (tree_of query.now) (view document.now)
+        (node_values list)) }
     ensures refused { OnlyMemoryOrPattern (F.set functions) (tree_of query.now)
         (view document.now) result }
 {

@@ -128,7 +128,8 @@ fn texts_match<P: FindsPatterns>(
         let terms = value (value_view text.now) ∷ value (value_view pattern.now) ∷ [] in
         logical found ≡ pattern_meaning (matching_view matching) terms) }
     ensures refused { result ≡ Err Pattern →
-        MayRefuse (Some (matching_view matching)) (value (value_view text.now) ∷ value (value_view pattern.now) ∷ []) }
+        MayRefuse (Some (matching_view matching))
+        (value (value_view text.now) ∷ value (value_view pattern.now) ∷ []) }
 {
     match (text.as_value(), pattern.as_value()) {
         (Some(Value::String(text)), Some(Value::String(pattern))) => {

@@ -60,7 +60,8 @@ fn regex_of(
     matching: Matching,
     pattern: &str,
 ) -> Result<Option<Box<Regex>>, QueryError>
-    ensures reading { IfOk result (λ regex. IsReadingOf (spec.built_text (matching_view matching) pattern.now)
+    ensures reading { IfOk result (λ regex.
+        IsReadingOf (spec.built_text (matching_view matching) pattern.now)
         (option_map (λ it. regex_pattern it.value) regex)) }
     ensures refused { result ≡ Err Pattern
         → IsReadable (spec.built_text (matching_view matching) pattern.now) }
@@ -132,7 +133,8 @@ impl ReadPattern {
 pub(crate) struct PatternMatcher<'p> {
     pub(crate) pattern: &'p ReadPattern,
     matcher: Option<Matcher<'p>>,
-    ghost reading: { IsReadingOf (spec.built_text (matching_view pattern.now.matching) (string_bytes pattern.now.pattern))
+    ghost reading: { IsReadingOf
+        (spec.built_text (matching_view pattern.now.matching) (string_bytes pattern.now.pattern))
         (option_map matcher_pattern matcher) },
 }
 

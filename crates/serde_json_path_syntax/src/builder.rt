@@ -58,7 +58,8 @@ impl SyntaxBuilder {
     /// The segment `.name`.
     pub fn dot_name(&mut self, kind: SegmentKind, name: String) -> Result<Part, AllocError>
         ensures made { IfOk result (λ part.
-            IsPart self.new part (a_segment (segment_kind_view kind) (tree.dot_name (string_bytes name)))) }
+            IsPart self.new part
+            (a_segment (segment_kind_view kind) (tree.dot_name (string_bytes name)))) }
         ensures keeps { KeepsParts self.old self.new }
     {
         self.push(Node::Segment {

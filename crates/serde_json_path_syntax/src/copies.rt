@@ -30,7 +30,8 @@ fn copy_of(node: &Node) -> Result<Node, AllocError>
 impl Clone for LiteralValue {
     ghost use Rattle.serde_json_path_syntax.specs.Words.{held_view, literal_fits};
 
-    ghost is_clone = { λ old copy. (held_view copy ≡ held_view old) × (literal_fits copy ≡ literal_fits old) };
+    ghost is_clone = { λ old copy. (held_view copy ≡ held_view old)
+        × (literal_fits copy ≡ literal_fits old) };
 
     fn clone(&self) -> Result<LiteralValue, AllocError> {
         self.try_clone()

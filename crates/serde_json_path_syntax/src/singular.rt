@@ -58,7 +58,8 @@ fn selects_one(arena: &Arena, segment: &Segment) -> bool
 fn is_name_or_index(arena: &Arena, selector: Part) -> bool
     requires { selector.number < length arena.now.nodes.items }
     ensures { IsTrue result
-        ↔ tree.IsSingularSegment (tree.long_hand (tree.selector (selector_at arena.now.nodes.items selector) tree.no_selectors)) }
+        ↔ tree.IsSingularSegment (tree.long_hand
+        (tree.selector (selector_at arena.now.nodes.items selector) tree.no_selectors)) }
 {
     matches!(
         arena.node(selector),

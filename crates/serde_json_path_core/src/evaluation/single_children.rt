@@ -30,7 +30,8 @@ pub(crate) struct Reached<'q, 'b> {
 fn name_or_index(selector_ref: SelectorRef<'_>) -> Option<SingleSelector<'_>>
     ensures found { (nodes : List Node) → IfSome result (λ single.
         selector_view nodes selector_ref.entry ≡ single_view single) }
-    ensures complete { (nodes : List Node) → is_single (selector_view nodes selector_ref.entry) ≡ true
+    ensures complete { (nodes : List Node)
+        → is_single (selector_view nodes selector_ref.entry) ≡ true
         → IsSome result }
 {
     match selector_ref {

@@ -80,7 +80,6 @@ impl<'q, 'b, F: Functions> Walk<'q, 'b, F> {
     ///     steps = node.into_steps();
     /// }
     /// ```
-    // Inlined, since each loop over a walk calls it at one place, and programs with several kinds of loops would call it.
     #[inline(always)]
     pub fn next_into(
         &mut self,

@@ -115,7 +115,8 @@ pub(crate) fn form_of<'x, 'q: 'x, 'b: 'x, F: Functions>(
 ) -> SideForm<'x>
     requires within { comparable.number < length (nodes_of scope.now) }
     requires sound { SoundComparable scope.now comparable }
-    ensures means { (v : Data) → compared_by scope.now result v ≡ compared_at scope.now comparable v }
+    ensures means { (v : Data) → compared_by scope.now result v
+        ≡ compared_at scope.now comparable v }
     ensures below { form_bound result ≤ comparable.number }
     ensures sound { SoundForm scope.now result }
 {

@@ -148,7 +148,8 @@ fn call_holds<'b, F: Functions>(
     current: &'b Value,
 ) -> Result<bool, QueryError>
     requires { MayEvaluate scope.now (SoundCall scope.now) call (view current.now) }
-    ensures { Tells scope.now result (computed.answer_holds (answer_at scope.now call (view current.now))) }
+    ensures { Tells scope.now result
+        (computed.answer_holds (answer_at scope.now call (view current.now))) }
 {
     let answer = answer(scope, call, current)?;
     Ok(answer_holds(&answer))

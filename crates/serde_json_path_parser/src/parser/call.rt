@@ -57,7 +57,8 @@ impl Argument {
             × IsArgumentOf signature builder.old self x }
         ensures made { IfOk result (λ part.
             (signature : List ℕ → Option Signature) (x : tree.Argument)
-            → IsArgumentOf signature builder.old self x → IsPart builder.new part (argument_branch x)) }
+            → IsArgumentOf signature builder.old self x
+            → IsPart builder.new part (argument_branch x)) }
         ensures keeps { KeepsParts builder.old builder.new }
     {
         match self {

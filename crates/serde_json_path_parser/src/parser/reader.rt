@@ -230,8 +230,7 @@ impl<'s, S: PathSource> Reader<'s, S> {
     pub(crate) fn sees_test(&self) -> bool
         ensures { result ≡ begins begins_test (left self.now) }
     {
-        self.peek()
-            .is_some_and(|next| next == b'@' || next == b'$' || next.is_ascii_lowercase())
+        self.peek().is_some_and(|next| next == b'@' || next == b'$' || next.is_ascii_lowercase())
     }
 
     /// Whether a function's name goes on here.

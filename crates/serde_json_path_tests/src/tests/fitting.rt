@@ -21,7 +21,8 @@ fn query_if_it_fits<'b>(
     document: &'b Value,
 ) -> Result<Option<NodeList<'b>>, QueryError>
     ensures { IfOk result (λ found. IfSome found (λ list.
-        SelectsValues builtin_functions (path_tree path.now) (view document.now) (node_values list))) }
+        SelectsValues builtin_functions (path_tree path.now) (view document.now)
+        (node_values list))) }
 {
     law_set_before_itself();
     if !path.fits(&Builtin) {
@@ -38,7 +39,8 @@ fn query_with_if_it_fits<'b, F: Functions>(
     functions: &F,
 ) -> Result<Option<NodeList<'b>>, QueryError>
     ensures { IfOk result (λ found. IfSome found (λ list.
-        SelectsValues (before_builtin (F.set functions.now)) (path_tree path.now) (view document.now) (node_values list))) }
+        SelectsValues (before_builtin (F.set functions.now)) (path_tree path.now)
+        (view document.now) (node_values list))) }
 {
     if !path.fits(functions) {
         return Ok(None);

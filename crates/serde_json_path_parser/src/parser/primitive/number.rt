@@ -21,7 +21,8 @@ const TOO_MANY: u128 = (1 << 127) - 1;
 /// Parses the digits before a point.
 fn parse_whole<S: PathSource>(reader: &mut Reader<'_, S>, place: usize) -> Result<u128, Failure>
     ensures moves { MovesTo result reader.old reader.new }
-    ensures gives { IsAsRead (λ n. n) result reader.new (capped (read_whole place (left reader.old))) }
+    ensures gives { IsAsRead (λ n. n) result reader.new
+        (capped (read_whole place (left reader.old))) }
 {
     if reader.sees(b'0') {
         reader.take_char();
@@ -65,7 +66,8 @@ fn parse_fraction<S: PathSource>(reader: &mut Reader<'_, S>, place: usize) -> Re
 #[tactic(auto, unfolding(crate::specs::Numbers::read_amount))]
 fn parse_amount<S: PathSource>(reader: &mut Reader<'_, S>, place: usize) -> Result<u128, Failure>
     ensures moves { MovesTo result reader.old reader.new }
-    ensures gives { IsAsRead (λ n. n) result reader.new (capped (read_amount place (left reader.old))) }
+    ensures gives { IsAsRead (λ n. n) result reader.new
+        (capped (read_amount place (left reader.old))) }
 {
     let whole = parse_whole(reader, place)?;
     let fraction = parse_fraction(reader, place)?;
