@@ -1,5 +1,5 @@
 -- What is known of a node without its document: its kind, the number of a number, and how long it is.
-use Rattle.std.specs.Prelude.{ℕ, ◌^◌, nat_lt, pos, length, true, false, if◌then◌else◌}
+use Rattle.std.specs.Prelude.{◌^◌, nat_lt, pos, length, true, false, if◌then◌else◌}
 use Rattle.serde_json.specs.Data.{Num, unsigned, negative, float, Data, null, boolean, number, string, array, object}
 use Rattle.serde_json.specs.Events.{items_len, members_len}
 use Rattle.jsonpath_owned_nodes.specs.declared.node_info.NodeInfo.{NodeInfo}

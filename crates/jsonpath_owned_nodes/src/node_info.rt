@@ -31,6 +31,7 @@ pub enum NodeInfo {
 
 impl NodeInfo {
     /// What is known of a node with this value.
+    #[tactic(auto, using(crate::proofs::Words::of_views))]
     pub fn of(value: &Value) -> NodeInfo
         ensures { result ≡ info_of (view value.now) }
     {

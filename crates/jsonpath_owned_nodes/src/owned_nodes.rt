@@ -40,6 +40,7 @@ impl Model for OwnedNodes {
         AreParts (string_bytes nodes.names) nodes.locations.ended nodes.infos.items };
 }
 
+#[tactic(auto, using(crate::proofs::Kept::of_nodes))]
 impl OwnedNodes {
     ghost use Rattle.serde_json_path_nodes.specs.Views.{located};
     ghost use Rattle.jsonpath_owned_nodes.specs.Kept.{kept, known_of, location_of, value_in};

@@ -31,6 +31,7 @@ impl<T> Model for Runs<T> {
     ghost invariant = { λ runs. AreEnds 0 runs.ends.items (length runs.items.items) };
 }
 
+#[tactic(auto, using(crate::proofs::Cuts::of_cuts))]
 impl<T> Runs<T> {
     /// No list, and none begun. Takes no memory.
     pub fn new(alloc: Global) -> Runs<T>

@@ -1,20 +1,8 @@
 use Rattle.std.proofs.Common.{◌≡◌, ◌∷◌, [], ◌++◌, ◌∙◌, ap, string_bytes}
-use Rattle.jsonpath_owned_nodes.proofs.Words.{err_from_is_err_and, located, KeptNode, kept, nodes_in}
+use Rattle.jsonpath_owned_nodes.proofs.Words.{located, KeptNode, kept, nodes_in}
 use Rattle.jsonpath_owned_nodes.proofs.Names.{text_grew}
 use Rattle.jsonpath_owned_nodes.proofs.Kept.{node_more}
 use Rattle.jsonpath_owned_nodes.proofs.owned_nodes.OwnedNodes.push.Goals as goal
-
--- nothing was stored
-pub invariant_of-self-in_err-push_location : goal.invariant_of-self-in_err-push_location
-invariant_of-self-in_err-push_location c =
-    let same = c.in_err-push_location.ensures in
-    rw (same.locations, same.names, c.reserve.ensures.items) c.self.invariant
-
-pub returns-in_err-push_location-clause-err : goal.returns-in_err-push_location-clause-err
-returns-in_err-push_location-clause-err c =
-    let same = c.in_err-push_location.ensures in
-    let refused = err_from_is_err_and c.from_residual-in_err-push_location.result c.from_residual-in_err-push_location.ensures.1 in
-    rw (refused.1, same.locations, same.names, c.reserve.ensures.items) c.self.view_is
 
 pub invariant_of-self-2 : goal.invariant_of-self-2
 invariant_of-self-2 c =
