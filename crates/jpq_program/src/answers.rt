@@ -56,7 +56,7 @@ pub fn push_answer<F: Functions>(
         (view document.now) result }
 {
     let walk = path.walk_under(alloc, document, functions)?;
-    let written = write_nodes::<_, true>(alloc, output, head, String::new(alloc), walk)?;
+    let written = write_nodes(alloc, output, head, String::new(alloc), walk)?;
     join(text, written.text)?;
     Ok(written.count > 0)
 }

@@ -79,11 +79,6 @@ filled_by_one before old nodes later n text count took piece further full =
       one.1 ∙ ap (λ (ns : List Located). length ns) these,
     )
 
--- what was taken of a node says less of a sink that knows more
-pub taken_by : {A B C D : Type 0} (taken : Taken) → (A → C) → (B → D) → MatchTaken taken A B → MatchTaken taken C D
-taken_by (More steps) further enough h = further h
-taken_by Enough further enough h = enough h
-
 -- what was written of all nodes, or up to the limit
 pub pushed_either : (before now : Lines) (all : List Located) → before.limit ≡ limit_in before.writer.output.form before.writer.output.most → TookLines before all now ⊎ FilledLines before all now
     → Pushes before.writer.output before.writer.head.now all (string_bytes before.text) (string_bytes now.text) now.count

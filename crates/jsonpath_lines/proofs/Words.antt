@@ -8,7 +8,7 @@ pub use Rattle.json.specs.Print.{ArePrintableOrBad, ends, print, token_text}
 pub use Rattle.json.specs.Token.{Token, end_object}
 pub use Rattle.json.specs.Tree.{HasNumbers, ItemsHaveNumbers, items_tokens, json_tokens, members_tokens}
 pub use Rattle.jsonpath_lines.specs.Distinct.{AreEnough, IsExceeded}
-pub use Rattle.jsonpath_lines.specs.Inside.{Appends, ArePieces, ArePiecesIn, FilledLines, IsClosedIn, IsLaid, IsLaidOut, IsPiece, IsPieceIn, IsPrintedOf, IsUnseen, Pushes, TookDistinct, TookLines, asked, in_located_lines, is_reached, leaves_out_in, limit_in, once, opening, path_string}
+pub use Rattle.jsonpath_lines.specs.Inside.{Appends, ArePieces, ArePiecesIn, FilledLines, IsClosedIn, IsLaid, IsLaidOut, IsPiece, IsPieceIn, IsPrintedOf, IsUnseen, Pushes, TookDistinct, TookLines, asked, is_reached, leaves_out_in, limit_in, once, opening, path_string}
 pub use Rattle.jsonpath_lines.specs.Output.{AreLines, AreLinesIn, IsCount, IsCountIn, IsJsonIn, IsJsonOf, IsLine, IsLineOfEach, IsPrettyOf, array_of, end_text, items_of, object_of, up_to}
 pub use Rattle.jsonpath_lines.specs.Plain.{HasNoEscape, plain, plain_from}
 pub use Rattle.jsonpath_lines.specs.declared.forms.Form.{Form}
@@ -31,7 +31,7 @@ pub use Rattle.serde_json_path_nodes.specs.Location.{Located, Step}
 pub use Rattle.serde_json_path_nodes.specs.Views.{located, location_of}
 pub use Rattle.std.proofs.Common.{Bool, Err, List, None, Ok, OnOk, Option, Result, SFits, Some, [], ap, append-nil, append_assoc, ap₂, arith, codes, decimal, encode_utf8, false, fold, if◌then◌else◌, inl, inr, int_lt, is_ok, length, length-append, map, max, nat_lt, negsuc, of_z, option_map, pos, refl, rules, string_bytes, subst, suc, sym, take, to_z, to_z-of_z, true, w64, zero, ℕ, ℤ, ◌++◌, ◌+◌, ◌<◌, ◌==◌, ◌^◌, ◌||◌, ◌↔◌, ◌∙◌, ◌∷◌, ◌≡◌, ◌≤◌, ◌⊎◌}
 pub use Rattle.std.proofs.lemmas.List.{length-map, length-take, length-take-le, map_push, nil_from_length, take-append-le, take-map, take_all, take_more}
-pub use Rattle.std.proofs.lemmas.Result.{IfOk-weaker, on_ok_weaker}
+pub use Rattle.std.proofs.lemmas.Result.{on_ok_weaker}
 pub use Rattle.std.specs.Fmt.{signed_decimal}
 pub use Rattle.std.specs.Prelude.{option_and_then}
 pub use Rattle.std.specs.Str.Iter.{chars_rest}

@@ -22,7 +22,6 @@ use Rattle.jsonpath_lines.specs.declared.forms.LineEnd.TheVariants.{LineFeed}
 use Rattle.jsonpath_lines.specs.declared.forms.Output.{Output}
 use Rattle.jsonpath_lines.specs.declared.distinct.DistinctNodes.{DistinctNodes}
 use Rattle.jsonpath_lines.specs.declared.nodes.Lines.{Lines}
-use Rattle.jsonpath_lines.specs.declared.nodes.LocatedLines.{LocatedLines}
 
 -- what is appended to a text
 abbrev pub Appends : (List ℕ → Type 0) → List ℕ → List ℕ → Type 0
@@ -53,10 +52,6 @@ IsIndented json text = (tokens text ≡ tokens json) × (text ≡ pretty (tokens
 abbrev pub IsLaidOut : Layout → List ℕ → List ℕ → Type 0
 IsLaidOut Compact json text = text ≡ json
 IsLaidOut Pretty json text = IsIndented json text
-
--- the same nodes, each as a compact line with its location and its value, ended by a line feed
-abbrev pub in_located_lines : Output → Output
-in_located_lines output = record output { form = LocationAndValue; layout = Compact; end = LineFeed }
 
 -- how many nodes a walk is asked for at most: one is enough to know that there is one
 abbrev pub limit_in : Form → Option ℕ → Option ℕ
@@ -115,10 +110,6 @@ pub record TookLines (before : Lines) (nodes : List Located) (now : Lines) : Typ
   pub text : Appends (ArePieces before.writer.output before.writer.head.now nodes) (string_bytes before.text) (string_bytes now.text)
   pub count : now.count ≡ length nodes
   pub more : is_reached now.limit now.count ≡ false
-
--- the same where each line is a compact one with the location and the value
-abbrev pub TookLocatedLines : LocatedLines → List Located → LocatedLines → Type 0
-TookLocatedLines before nodes now = (before.0.writer.output ≡ in_located_lines before.0.writer.output) × TookLines before.0 nodes now.0
 
 -- what was written of these nodes up to the limit, which is reached
 abbrev pub FilledLines : Lines → List Located → Lines → Type 0

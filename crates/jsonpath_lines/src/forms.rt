@@ -71,7 +71,7 @@ impl LineEnd {
 }
 
 impl Output {
-    ghost use Rattle.jsonpath_lines.specs.Inside.{in_located_lines, leaves_out_in, limit_in};
+    ghost use Rattle.jsonpath_lines.specs.Inside.{leaves_out_in, limit_in};
     ghost use Rattle.jsonpath_lines.specs.Output.{compact_lines};
 
     /// A compact line in a form for each node, ended by a line feed, as `jsonpath` writes them.
@@ -84,19 +84,6 @@ impl Output {
             end: LineEnd::LineFeed,
             unique: false,
             most: None,
-        }
-    }
-
-    /// The same nodes, each as a compact line with its location and its value, ended by a line feed.
-    #[inline(always)]
-    pub(crate) fn in_located_lines(self) -> Output
-        ensures { result ≡ in_located_lines self }
-    {
-        Output {
-            form: Form::LocationAndValue,
-            layout: Layout::Compact,
-            end: LineEnd::LineFeed,
-            ..self
         }
     }
 

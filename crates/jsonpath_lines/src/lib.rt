@@ -7,7 +7,7 @@
 //! ```text
 //! let output = Output { most: Some(2), ..Output::compact_lines(Form::Pointer) };
 //! let walk = path.walk(alloc, &document, &Builtin)?;
-//! let written = write_nodes::<_, true>(alloc, &output, "", String::new(alloc), walk)?;
+//! let written = write_nodes(alloc, &output, "", String::new(alloc), walk)?;
 //! ```
 //!
 //! [`colored`] gives such a line in the colours of a terminal.

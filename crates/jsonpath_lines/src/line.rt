@@ -9,7 +9,8 @@ ghost use Rattle.jsonpath_lines.specs.Output.{IsLine, IsText};
 ghost use Rattle.jsonpath_lines.specs.Inside.{Appends, IsArrayLine, IsClosedIn, IsLaidOut, IsPiece, opening};
 
 use crate::forms::{Form, Layout, Output};
-use crate::values::{indented, push_item, push_json, push_raw};
+use crate::values::{indented, push_item, push_json};
+use serde_json::Value;
 use serde_json_path::LocatedNode;
 use std::alloc::{AllocError, Global};
 
@@ -64,21 +65,28 @@ impl LineWriter<'_> {
             (IsText self.entry.output.form self.entry.output.layout (located node.now))
             (string_bytes text.old) (string_bytes text.new)) }
     {
-        let (alloc, layout) = (self.alloc, self.output.layout);
+        // Each writer of text is called at one place alone, where it can be inlined.
         match self.output.form {
-            Form::LocationAndValue => {
-                write!(text, "{}\t", node.location())?;
-                push_json(alloc, layout, text, node.node())
+            Form::LocationAndValue | Form::Location => {
+                write!(text, "{}", node.location())?;
+                if self.output.form == Form::Location {
+                    return Ok(());
+                }
+                text.push('\t')?;
             }
-            Form::Value => push_json(alloc, layout, text, node.node()),
-            Form::Raw => push_raw(alloc, layout, text, node.node()),
-            Form::Location => write!(text, "{}", node.location()),
             Form::Pointer => {
-                let pointer = node.location().to_json_pointer(alloc)?;
-                text.push_str(pointer.as_str())
+                let pointer = node.location().to_json_pointer(self.alloc)?;
+                return text.push_str(pointer.as_str());
             }
-            Form::Json | Form::Count | Form::Nothing => Ok(()),
+            Form::Raw => {
+                if let Value::String(own) = node.node() {
+                    return text.push_str(own.as_str());
+                }
+            }
+            Form::Value => {}
+            Form::Json | Form::Count | Form::Nothing => return Ok(()),
         }
+        push_json(self.alloc, self.output.layout, text, node.node())
     }
 
     /// Appends a node's line.

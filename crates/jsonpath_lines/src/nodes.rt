@@ -6,7 +6,7 @@ ghost use Rattle.serde_json_path_nodes.specs.Lists.{first_places};
 ghost use Rattle.serde_json_path_core.specs.Selects.{OnlyMemoryOrPattern};
 ghost use Rattle.serde_json_path_core.specs.Walks.{rest, query_of, set_of, document_of};
 ghost use Rattle.jsonpath_lines.specs.Output.{AreLines, IsCount, up_to};
-ghost use Rattle.jsonpath_lines.specs.Inside.{Appends, ArePieces, FilledLines, Pushes, TookLines, asked, is_reached};
+ghost use Rattle.jsonpath_lines.specs.Inside.{Appends, ArePieces, Pushes, asked, is_reached};
 
 use crate::distinct::distinct_nodes;
 use crate::forms::Output;
@@ -45,37 +45,19 @@ struct Lines<'a> {
     count: u64,
 }
 
-impl Lines<'_> {
-    ghost use Rattle.std.specs.Prelude.{◌++◌, [], ◌∷◌, List};
-    ghost use Rattle.serde_json_path_nodes.specs.Location.{Located};
-    ghost use Rattle.serde_json_path_functions.specs.declared.error.QueryError.TheVariants.{Memory};
-    ghost use Rattle.serde_json_path_core.specs.Sinks.{MatchTaken};
+impl<'a, 'b> Sink<'b> for Lines<'a> {
     ghost use Rattle.jsonpath_lines.specs.Inside.{FilledLines, TookLines};
 
-    /// Takes a node, whose line is as the output says, which is the writer's.
+    ghost took = { TookLines };
+
+    ghost filled = { FilledLines };
+
     // Inlined, as what it calls: each node passes here.
     #[inline(always)]
-    fn take_as<'b>(
-        &mut self,
-        output: Output,
-        node: LocatedNode<'b>,
-    ) -> Result<Taken<'b>, QueryError>
-        ensures taken { IfOk result (λ taken. MatchTaken taken
-            ((before : Lines) → (nodes : List Located) → before.writer.output ≡ output
-            → TookLines before nodes self.old
-            → TookLines before (nodes ++ located node.entry ∷ []) self.new)
-            ((before : Lines) → (nodes later : List Located) → before.writer.output ≡ output
-            → TookLines before nodes self.old
-            → FilledLines before (nodes ++ located node.entry ∷ later) self.new)) }
-        ensures refused { IfErr result (λ e. e ≡ Memory) }
-    {
-        let writer = LineWriter {
-            output,
-            ..self.writer
-        };
-        // Taken out, so that what is lent to a call is the text alone, and a form that is known stays so.
+    fn take(&mut self, node: LocatedNode<'b>) -> Result<Taken<'b>, QueryError> {
+        // Taken out, so that what is lent to a call is the text alone.
         let mut text = replace(&mut self.text, String::new(self.writer.alloc));
-        writer.push_node(&mut text, self.count > 0, &node)?;
+        self.writer.push_node(&mut text, self.count > 0, &node)?;
         self.text = text;
         // A walk that gave one node in each nanosecond would take 584 years to come to the error.
         self.count = self.count.checked_add(1).ok_or(QueryError::Memory)?;
@@ -86,62 +68,10 @@ impl Lines<'_> {
     }
 }
 
-impl<'a, 'b> Sink<'b> for Lines<'a> {
-    ghost use Rattle.jsonpath_lines.specs.Inside.{FilledLines, TookLines};
-
-    ghost took = { TookLines };
-
-    ghost filled = { FilledLines };
-
-    #[inline(always)]
-    fn take(&mut self, node: LocatedNode<'b>) -> Result<Taken<'b>, QueryError> {
-        self.take_as(self.writer.output, node)
-    }
-}
-
-/// Such lines, each with its location and its value in compact JSON: the form that most runs ask for is compiled for itself.
-#[derive(Drop)]
-struct LocatedLines<'a>(Lines<'a>);
-
-impl<'a, 'b> Sink<'b> for LocatedLines<'a> {
-    ghost use Rattle.jsonpath_lines.specs.Inside.{FilledLines, TookLocatedLines};
-
-    ghost took = { TookLocatedLines };
-
-    ghost filled = { λ before nodes now. FilledLines before.0 nodes now.0 };
-
-    #[inline(always)]
-    fn take(&mut self, node: LocatedNode<'b>) -> Result<Taken<'b>, QueryError> {
-        let output = self.0.writer.output.in_located_lines();
-        self.0.take_as(output, node)
-    }
-}
-
-/// The lines with what is written of the nodes of a walk up to the limit.
-#[inline(always)]
-fn filled<'a, F: Functions + Drop, const VARIES: bool>(
-    mut lines: Lines<'a>,
-    walk: Walk<'_, '_, F>,
-) -> Result<Lines<'a>, QueryError>
-    requires { TookLines lines [] lines }
-    ensures filled { IfOk result (λ now. TookLines lines.entry (rest walk.entry) now
-        ⊎ FilledLines lines.entry (rest walk.entry) now) }
-    ensures refused { OnlyMemoryOrPattern (set_of walk.entry) (query_of walk.entry)
-        (document_of walk.entry) result }
-{
-    if VARIES && lines.writer.output == lines.writer.output.in_located_lines() {
-        let mut located = LocatedLines(lines);
-        walk.feed(&mut located)?;
-        return Ok(located.0);
-    }
-    walk.feed(&mut lines)?;
-    Ok(lines)
-}
-
 /// Appends what is written of the nodes of a walk up to the limit, and tells how many these are.
 // Inlined, as what calls it, so that a form that is known where it is asked for is known here.
 #[inline(always)]
-fn push_walk<F: Functions + Drop, const VARIES: bool>(
+fn push_walk<F: Functions + Drop>(
     writer: LineWriter<'_>,
     text: String,
     walk: Walk<'_, '_, F>,
@@ -156,13 +86,13 @@ fn push_walk<F: Functions + Drop, const VARIES: bool>(
     if is_reached(limit, 0) {
         return Ok(Written { text, count: 0 });
     }
-    let lines = Lines {
+    let mut lines = Lines {
         writer,
         limit,
         text,
         count: 0,
     };
-    let lines = filled::<F, VARIES>(lines, walk)?;
+    walk.feed(&mut lines)?;
     Ok(Written {
         text: lines.text,
         count: lines.count,
@@ -223,7 +153,7 @@ fn push_unique<F: Functions + Drop>(
 
 /// Appends what is written of the chosen nodes of a walk up to the limit, and tells how many these are.
 #[inline(always)]
-fn push_chosen<F: Functions + Drop, const VARIES: bool>(
+fn push_chosen<F: Functions + Drop>(
     writer: LineWriter<'_>,
     text: String,
     walk: Walk<'_, '_, F>,
@@ -238,7 +168,7 @@ fn push_chosen<F: Functions + Drop, const VARIES: bool>(
     if writer.output.leaves_out() {
         push_unique(writer, text, walk)
     } else {
-        push_walk::<F, VARIES>(writer, text, walk)
+        push_walk(writer, text, walk)
     }
 }
 
@@ -249,15 +179,12 @@ fn push_chosen<F: Functions + Drop, const VARIES: bool>(
 ///
 /// The error is `Pattern` or `Memory` as that of `Walk::next`; `Memory` comes also where memory for the text is refused.
 ///
-/// `VARIES` says whether the form is known only at run time. Then lines with a location and a value are compiled for themselves;
-/// else the one form that the caller gives is.
-///
 /// ```text
 /// let output = Output { form: Form::Count, unique: true, ..Output::compact_lines(Form::Count) };
-/// write_nodes::<_, true>(alloc, &output, "a.json\t", String::new(alloc), walk)?.text.as_str() == "a.json\t2\n"
+/// write_nodes(alloc, &output, "a.json\t", String::new(alloc), walk)?.text.as_str() == "a.json\t2\n"
 /// ```
 #[inline(always)]
-pub fn write_nodes<F: Functions + Drop, const VARIES: bool>(
+pub fn write_nodes<F: Functions + Drop>(
     alloc: Global,
     output: &Output,
     head: &str,
@@ -278,7 +205,7 @@ pub fn write_nodes<F: Functions + Drop, const VARIES: bool>(
         head,
     };
     writer.open(&mut text)?;
-    let written = push_chosen::<F, VARIES>(writer, text, walk)?;
+    let written = push_chosen(writer, text, walk)?;
     let text = writer.closed(written.text, written.count)?;
     Ok(Written {
         text,

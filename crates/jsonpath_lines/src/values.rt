@@ -6,7 +6,6 @@ ghost use Rattle.json.specs.Lex.{tokens};
 ghost use Rattle.json.specs.Print.{ArePrintable};
 ghost use Rattle.serde_json.specs.View.{view};
 ghost use Rattle.serde_json_path_nodes.specs.Views.{located};
-ghost use Rattle.jsonpath_lines.specs.Output.{IsRaw};
 ghost use Rattle.jsonpath_lines.specs.Inside.{Appends, IsIndented, IsItem, IsLaid, path_string};
 
 use crate::forms::Layout;
@@ -81,22 +80,6 @@ pub(crate) fn push_json(
     }
 }
 
-/// Appends a string's own text, or the JSON of another value.
-pub(crate) fn push_raw(
-    alloc: Global,
-    layout: Layout,
-    text: &mut String,
-    value: &Value,
-) -> Result<(), AllocError>
-    ensures { OnOk result (Appends (IsRaw layout (view value.now))
-        (string_bytes text.old) (string_bytes text.new)) }
-{
-    match value {
-        Value::String(own) => text.push_str(own.as_str()),
-        _ => push_json(alloc, layout, text, value),
-    }
-}
-
 /// Appends the JSON string of a node's normalised path.
 fn push_path(alloc: Global, text: &mut String, node: &LocatedNode<'_>) -> Result<(), AllocError>
     ensures { OnOk result
@@ -119,7 +102,7 @@ pub(crate) fn push_item(
     text.push_str("{\"path\":")?;
     push_path(alloc, text, node)?;
     text.push_str(",\"value\":")?;
-    push_json(alloc, Layout::Compact, text, node.node())?;
+    push_printed(alloc, Layout::Compact, text, node.node())?;
     text.push('}')
 }
 

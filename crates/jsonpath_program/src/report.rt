@@ -108,7 +108,7 @@ fn selected<F: Functions + Drop>(
         (view document.now) result }
 {
     let walk = walk(alloc, path, document, functions)?;
-    Ok(write_nodes::<_, false>(alloc, &Output::compact_lines(form), "", text, walk)?.text)
+    Ok(write_nodes(alloc, &Output::compact_lines(form), "", text, walk)?.text)
 }
 
 /// One line for each node of the document that the path selects, in order: its normalised path, a tab, its compact JSON

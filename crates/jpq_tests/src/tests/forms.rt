@@ -61,7 +61,7 @@ fn shown(alloc: Global, given: &str) -> Came {
     } else {
         ""
     };
-    match write_nodes::<_, true>(alloc, &output, head, String::new(alloc), walk) {
+    match write_nodes(alloc, &output, head, String::new(alloc), walk) {
         Ok(written) => Ok(format!(in alloc; "{} |{}", written.count, written.text)?),
         Err(e) => Ok(format!(in alloc; "{e}")?),
     }

@@ -1,7 +1,7 @@
 //! The lines of reports, and refusals of paths and documents.
 
 use jsonpath_lines::Form;
-use jsonpath_program::report::{report, report_in};
+use jsonpath_program::report::{report, report_in, report_under};
 use serde_json_path::functions::{Builtin, Functions, Numbers, Ruled};
 use serde_json_path_core_tests::{BOOKSTORE, Came, Own, fields, hold_rows, nested};
 use std::alloc::Global;
@@ -82,12 +82,12 @@ const HALVES: &[&str] = &[
     "$['a','a'] ~ {\"a\":[\"\\t\"]} -> $['a']\n$['a']\n ~ [\"\\t\"]\n[\"\\t\"]\n",
 ];
 
-/// The report of a path and a document in each of the two forms.
+/// The report of a path and a document in each of the two forms, under a set before the built-in one and alone.
 fn halves(alloc: Global, given: &str) -> Came {
     let (path, document) = fields(given)?;
     let document = document.as_bytes();
     let locations = report_in(alloc, Form::Location, path, document, &Builtin)?;
-    let values = report_in(alloc, Form::Value, path, document, &Builtin)?;
+    let values = report_under(alloc, Form::Value, path, document, Builtin)?;
     Ok(format!(in alloc; "{locations} ~ {values}")?)
 }
 
