@@ -1,6 +1,6 @@
 -- Names in a text that all of them share, and that grows.
-use Rattle.std.proofs.Common.{◌≡◌, ℕ, String, string_bytes, ◌<◌, ◌≤◌, List, [], ◌∷◌, ◌++◌, length, take, get_or, map, refl, sym, ap, subst, ◌∙◌, arith, length-append, ⊎_elim}
-use Rattle.jsonpath_owned_nodes.proofs.Words.{cases_lt, take_at, get_or_append_left, append_assoc, All-head, All-tail, All-weaker, IsCharBoundary-end, IsCharBoundary-from_take, IsUtf8-string_bytes, All, IsUtf8, IsCharBoundary, by_name, step_in, IsStored, BeginsWith, StoredStep, Name, Index}
+use Rattle.std.proofs.Common.{◌≡◌, ℕ, String, string_bytes, ◌≤◌, List, [], ◌∷◌, ◌++◌, length, take, map, refl, ap, ◌∙◌, arith, length-append}
+use Rattle.jsonpath_owned_nodes.proofs.Words.{append_assoc, All-head, All-tail, All-weaker, IsCharBoundary-end, IsCharBoundary-from_take, IsUtf8-take, take-append-le, IsUtf8-string_bytes, All, IsUtf8, IsCharBoundary, by_name, step_in, IsStored, BeginsWith, StoredStep, Name, Index}
 use Rattle.jsonpath_owned_nodes.proofs.Cuts.{slice_range-more}
 
 -- a text that went on after another
@@ -17,35 +17,22 @@ text_grew old new begins = record { was_text = IsUtf8-string_bytes old; is_text 
 pub goes_on : (first second third : List ℕ) → BeginsWith second first → BeginsWith third second → BeginsWith third first
 goes_on first second third a b = (a.0 ++ b.0, b.1 ∙ ap (λ text. text ++ b.0) a.1 ∙ append_assoc first a.0 b.0)
 
--- where the old text ends, the new one may be cut
-pub seam : (old new : List ℕ) → Grew old new → IsCharBoundary new (length old)
-seam old new grew =
-    let whole = grew.begins.1 in
-    let front : take (length old) new ≡ old = rw whole (take_at old grew.begins.0 (length old) refl) in
-    let shorter : length old ≤ length new = omega (arith, ap length whole ∙ length-append old grew.begins.0) in
-    IsCharBoundary-from_take new (length old) grew.is_text shorter (subst IsUtf8 (sym front) grew.was_text)
-
--- what was appended stands in the new text
-pub name_stored : (old new : List ℕ) → Grew old new → IsStored new (Name (length old) (length new))
-name_stored old new grew =
-    let at = seam old new grew in
-    (at.0, at, IsCharBoundary-end new)
-
 -- where the old text may be cut, the new one may be
 boundary_kept : (old new : List ℕ) (i : ℕ) → Grew old new → IsCharBoundary old i → IsCharBoundary new i
 boundary_kept old new i grew may =
     let more = grew.begins.0 in
     let whole = grew.begins.1 in
-    let shorter : length old ≤ length new = omega (arith, ap length whole ∙ length-append old more) in
-    ⊎_elim
-    (λ (inside : i < length old).
-    let same : get_or new i 0 ≡ get_or old i 0 = rw whole (get_or_append_left old more 0 i inside) in
-    let lead = may.1 inside in
-    (omega arith, λ _. rw same lead))
-    (λ (past : length old ≤ i).
-    let at : i ≡ length old = omega (arith, may.0) in
-    subst (IsCharBoundary new) (sym at) (seam old new grew))
-    (cases_lt i (length old))
+    let within : i ≤ length new = omega (arith, may.0, ap length whole ∙ length-append old more) in
+    let front : take i new ≡ take i old = rw whole (take-append-le i old more may.0) in
+    IsCharBoundary-from_take new i grew.is_text within (rw front (IsUtf8-take old i grew.was_text may))
+
+-- and so where the old one ends
+pub seam : (old new : List ℕ) → Grew old new → IsCharBoundary new (length old)
+seam old new grew = boundary_kept old new (length old) grew (IsCharBoundary-end old)
+
+-- what was appended stands in the new text
+pub name_stored : (old new : List ℕ) → Grew old new → IsStored new (Name (length old) (length new))
+name_stored old new grew = let at = seam old new grew in (at.0, at, IsCharBoundary-end new)
 
 -- a step that is stored stays so, and stays the same step
 stored_kept : (old new : List ℕ) → Grew old new → (step : StoredStep) → IsStored old step → IsStored new step

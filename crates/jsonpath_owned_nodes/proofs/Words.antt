@@ -10,11 +10,10 @@ pub use Rattle.serde_json.specs.Data.{Data}
 pub use Rattle.serde_json.specs.View.{view}
 pub use Rattle.serde_json_path_nodes.specs.Location.{Step, at, by_name, child_at}
 pub use Rattle.serde_json_path_nodes.specs.Views.{located, step_view}
-pub use Rattle.std.proofs.lemmas.Bool.{cases_lt}
-pub use Rattle.std.proofs.lemmas.List.{append_assoc, drop-append-le, drop_all, drop_more, get_or_append_left, length-take-le, length_push, map-append, take-append-drop, take-append-le, take_all, take_at}
+pub use Rattle.std.proofs.lemmas.List.{append_assoc, drop-append-le, drop_all, drop_more, length-take-le, length_push, map-append, take-append-drop, take-append-le, take_all}
 pub use Rattle.std.proofs.lemmas.List.Elements.{All-head, All-push, All-tail, All-weaker}
 pub use Rattle.std.proofs.lemmas.Option.{slice_get_past, slice_get_read}
-pub use Rattle.std.proofs.lemmas.Str.{IsCharBoundary-end, IsCharBoundary-from_take, IsUtf8-string_bytes}
+pub use Rattle.std.proofs.lemmas.Str.{IsCharBoundary-end, IsCharBoundary-from_take, IsUtf8-string_bytes, IsUtf8-take}
 pub use Rattle.std.specs.List.{All}
 pub use Rattle.std.specs.Option.{option_copied}
 pub use Rattle.std.specs.Slice.{IsGetResult}
