@@ -1,7 +1,7 @@
 -- What a list keeps of its nodes, read from its parts.
-use Rattle.std.proofs.Common.{◌≡◌, ℕ, suc, ◌+◌, ◌<◌, List, [], ◌∷◌, ◌++◌, length, map, drop, get_or, Option, Bor, Some, None, ◌⊎◌, inl, inr, zero, refl, sym, ap, ◌∙◌, arith, slice_get, option_and_then}
-use Rattle.jsonpath_owned_nodes.proofs.Words.{take_all, option_copied, IsGetResult, slice_get_past, slice_get_read, map-append, append_assoc, drop_all, drop_more, length_push, All-head, All-tail, All-push, All-weaker, All, Data, Step, child_at, at, KeptNode, step_in, IsStored, IsLocation, nodes_in, AreParts, NodeInfo, StoredStep}
-use Rattle.jsonpath_owned_nodes.proofs.Names.{Grew, steps_kept, all_kept}
+use Rattle.std.proofs.Common.{◌≡◌, ℕ, suc, ◌+◌, ◌<◌, String, string_bytes, List, [], ◌∷◌, ◌++◌, length, map, drop, get_or, Option, Bor, Some, None, ◌⊎◌, inl, inr, zero, refl, sym, ap, ◌∙◌, arith, slice_get, option_and_then}
+use Rattle.jsonpath_owned_nodes.proofs.Words.{take_all, option_copied, IsGetResult, slice_get_past, slice_get_read, map-append, append_assoc, drop_all, drop_more, length_push, All-head, All-tail, All-push, All-weaker, All, Data, Step, child_at, at, step_in, IsStored, IsLocation, nodes_in, AreParts, NodeInfo, StoredStep, BeginsWith}
+use Rattle.jsonpath_owned_nodes.proofs.Names.{text_grew, Grew, steps_kept, all_kept}
 
 -- there are as many nodes as parts
 pub length_nodes_in : (names : List ℕ) (locations : List (List StoredStep)) (infos : List NodeInfo) → length locations ≡ length infos
@@ -53,24 +53,22 @@ nodes_in-push names (first ∷ others) [] steps info e = cc
 nodes_in-push names (first ∷ others) (known ∷ infos) steps info e =
     ap (λ rest. record { location = map (step_in names) first; info = known } ∷ rest) (nodes_in-push names others infos steps info (omega arith))
 
--- the parts with those of one more node, whose names are appended
-pub record AreMore (names : List ℕ) (locations : List (List StoredStep)) (infos : List NodeInfo) (before : List KeptNode) (node : KeptNode) : Type 0 where
-  pub parts : AreParts names locations infos
-  pub nodes : nodes_in names locations infos ≡ before ++ node ∷ []
-
-pub node_more : (old new : List ℕ) → Grew old new → (locations : List (List StoredStep)) (infos : List NodeInfo) (steps : List StoredStep) (info : NodeInfo) (location : List Step)
-    → AreParts old locations infos → IsLocation new steps location
-    → AreMore new (locations ++ steps ∷ []) (infos ++ info ∷ []) (nodes_in old locations infos) (record { location = location; info = info })
-node_more old new grew locations infos steps info location are is =
-    let kept = All-weaker (All (IsStored old)) (All (IsStored new)) (all_kept old new grew) locations are.stored in
+-- one more node, whose names are appended
+pub parts_more : {Z : Type 0} (old new : String Z) → BeginsWith (string_bytes new) (string_bytes old) → (locations : List (List StoredStep)) (infos : List NodeInfo) (steps : List StoredStep) (info : NodeInfo) (location : List Step)
+    → AreParts (string_bytes old) locations infos → IsLocation (string_bytes new) steps location → AreParts (string_bytes new) (locations ++ steps ∷ []) (infos ++ info ∷ [])
+parts_more old new begins locations infos steps info location are is =
+    let kept = All-weaker (All (IsStored (string_bytes old))) (All (IsStored (string_bytes new))) (all_kept _ _ (text_grew old new begins)) locations are.stored in
     record {
-      parts = record {
-        one_each = simp length_push (ap (λ n. n + 1) are.one_each);
-        stored = All-push (All (IsStored new)) locations steps kept is.stored;
-      };
-      nodes = nodes_in-push new locations infos steps info are.one_each
-          ∙ rw (nodes_kept old new grew locations infos are.stored, is.same);
+      one_each = simp length_push (ap (λ n. n + 1) are.one_each);
+      stored = All-push (All (IsStored (string_bytes new))) locations steps kept is.stored;
     }
+
+pub nodes_more : {Z : Type 0} (old new : String Z) → BeginsWith (string_bytes new) (string_bytes old) → (locations : List (List StoredStep)) (infos : List NodeInfo) (steps : List StoredStep) (info : NodeInfo) (location : List Step)
+    → AreParts (string_bytes old) locations infos → IsLocation (string_bytes new) steps location
+    → nodes_in (string_bytes new) (locations ++ steps ∷ []) (infos ++ info ∷ []) ≡ nodes_in (string_bytes old) locations infos ++ record { location = location; info = info } ∷ []
+nodes_more old new begins locations infos steps info location are is =
+    nodes_in-push (string_bytes new) locations infos steps info are.one_each
+    ∙ rw (nodes_kept _ _ (text_grew old new begins) locations infos are.stored, is.same)
 
 -- one more step of the location that is being stored: `rest` is still to come
 pub record IsBegun (names : List ℕ) (steps : List StoredStep) (rest location : List Step) : Type 0 where
@@ -90,4 +88,4 @@ step_more old new steps step next left rest location grew begun e stored is =
     }
 
 -- what readers of a list cite
-pub ruleset of_nodes = (length_nodes_in, node_at, copied_at, none_below, drop_all, take_all)
+pub ruleset of_nodes = (length_nodes_in, node_at, copied_at, nodes_more, none_below, drop_all, take_all)
