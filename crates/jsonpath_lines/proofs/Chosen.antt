@@ -1,8 +1,5 @@
 -- The nodes that a walk is asked for.
 use Rattle.jsonpath_lines.proofs.Words.{◌≡◌, ◌↔◌, ◌⊎◌, inl, inr, ℕ, zero, suc, ◌+◌, ◌≤◌, Bool, true, false, List, [], ◌∷◌, ◌++◌, length, take, codes, Option, Some, None, nat_lt, string_bytes, refl, sym, ap, subst, ◌∙◌, append-nil, append_assoc, arith, length-take, take_all, take-append-le, tokens, ArePrintable, Located, first_places_after, AreLines, AreLinesIn, IsCount, IsCountIn, up_to, Appends, ArePieces, ArePiecesIn, IsClosedIn, IsPiece, FilledLines, Pushes, TookLines, asked, is_reached, leaves_out_in, limit_in, once, opening, Form, LocationAndValue, Value, Raw, Location, Pointer, Json, Count, Nothing, Output, LineWriter, Lines}
-use Rattle.serde_json_path_core.specs.Sinks.{MatchTaken}
-use Rattle.serde_json_path_core.specs.declared.evaluation.sink.Taken.{Taken}
-use Rattle.serde_json_path_core.specs.declared.evaluation.sink.Taken.TheVariants.{More, Enough}
 use Rattle.jsonpath_lines.proofs.Arrays.{array_printable}
 use Rattle.jsonpath_lines.proofs.Pieces.{appended_pushed, length_further, lines_written}
 

@@ -15,10 +15,9 @@ use Rattle.jsonpath_lines.specs.Output.{IsJsonIn, IsLine, end_text, up_to}
 use Rattle.jsonpath_lines.specs.Distinct.{AreEnough}
 use Rattle.jsonpath_lines.specs.Plain.{plain}
 use Rattle.jsonpath_lines.specs.declared.forms.Form.{Form}
-use Rattle.jsonpath_lines.specs.declared.forms.Form.TheVariants.{LocationAndValue, Json, Count, Nothing}
+use Rattle.jsonpath_lines.specs.declared.forms.Form.TheVariants.{Json, Count, Nothing}
 use Rattle.jsonpath_lines.specs.declared.forms.Layout.{Layout}
 use Rattle.jsonpath_lines.specs.declared.forms.Layout.TheVariants.{Compact, Pretty}
-use Rattle.jsonpath_lines.specs.declared.forms.LineEnd.TheVariants.{LineFeed}
 use Rattle.jsonpath_lines.specs.declared.forms.Output.{Output}
 use Rattle.jsonpath_lines.specs.declared.distinct.DistinctNodes.{DistinctNodes}
 use Rattle.jsonpath_lines.specs.declared.nodes.Lines.{Lines}

@@ -1,7 +1,7 @@
 -- The grammar: which text has which tree (RFC 9535, sections 2.1 to 2.5). A text is a list of
 -- characters, and the joining of the texts of its parts, of signs and of blanks.
 use Rattle.std.specs.Prelude.{Bool, true, false, ◌≡◌, ℕ, ℤ, List, [], ◌++◌, ◌⊎◌, Option, Some, None, codes}
-use Rattle.serde_json_path_parser.specs.Imports.{QueryKind, root, current, Query, query, Segments, no_segments, segment, SegmentKind, child, descendant, Segment, dot_name, dot_wildcard, long_hand, Selectors, no_selectors, selector, Selector, name, wildcard, index, slice, filter, Slice, LogicalOr, no_or, or, LogicalAnd, no_and, and, Basic, paren, relation, test, Operator, equal, not_equal, less, less_or_equal, greater, greater_or_equal, Operand, literal, queried, called, Call, call, Arguments, no_arguments, argument, Argument, operand, logical_argument, Literal, text, number, truth, null, IsSingular}
+use Rattle.serde_json_path_parser.specs.Imports.{QueryKind, root, current, Query, query, Segments, no_segments, segment, SegmentKind, child, descendant, Segment, dot_name, dot_wildcard, long_hand, Selectors, no_selectors, selector, Selector, name, wildcard, index, slice, filter, Slice, LogicalOr, no_or, or, LogicalAnd, no_and, and, Basic, paren, relation, test, Operator, equal, not_equal, less, less_or_equal, greater, greater_or_equal, Operand, literal, queried, called, Call, call, Arguments, no_arguments, argument, Argument, operand, logical_argument, Literal, text, number, truth, null}
 use Rattle.serde_json_path_parser.specs.Lexical.{IsBlank, IsName, IsFunctionName, IsInt, IsNumber, IsString}
 
 -- ---- signs

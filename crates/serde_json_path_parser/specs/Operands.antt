@@ -1,5 +1,5 @@
 -- What decides how an operand may be used, which is read before its use is known.
-use Rattle.std.specs.Prelude.{ℕ, ◌+◌, ◌%◌, ◌==◌, ◌||◌, Bool, true, false, ℤ, pos, negsuc, List, [], Option, Some}
+use Rattle.std.specs.Prelude.{ℕ, ◌+◌, ◌%◌, ◌==◌, ◌||◌, Bool, true, false, ℤ, pos, negsuc, List, Option, Some}
 use Rattle.serde_json_path_parser.specs.Imports.{is_singular, literal, queried, called, Argument, operand, logical_argument, Literal, number, result_kind, Kind, of_value, of_nodes, of_logical, Signature}
 
 -- ---- results (section 2.4.3)

@@ -1,8 +1,8 @@
 -- Logical expressions: what is read is a good one, or where the refusal stands; and each good one is read.
-use Rattle.serde_json_path_parser.proofs.Words.{◌==◌, codes, and_parts, root, current, LogicalOr, LogicalAnd, Basic, paren, relation, test, query, no_or, or, no_and, and, result_kind, IsTypedOr, IsTypedAnd, or_depth, and_depth, Signature, WrongReturnType, ExpectedClosingParenthesis, ExpectedExpression, is_at, are_at, begins, IsBlank, is_small_letter, InParentheses, ReadsOr, ReadMoreOrs, ReadMoreAnds, past_blanks, called, begins_call, and_list, or_list, Deeper, read_paren, read_negated, read_basic, read_next_basic, read_and_from, read_and, read_next_and, read_or_from, read_or, past_word, ◌≡◌, ℕ, ◌≤◌, inl, true, false, List, [], ◌∷◌, ◌++◌, drop, Option, Ok, refl, ap, ◌∙◌, append_assoc, arith, LongHand, queried, is_blank, IsTypedOperand, operand_depth, ReadsOperand, Operand, literal, begins_test, of_logical, byte_count, read_negated_test}
-use Rattle.serde_json_path_parser.proofs.Reading.{blanks_of, spread, begins_differs, Read, Spaced, after_one, Inner, guarded, onward, remade, refused, choose, Outcome, after_sign, past_spaced, read_spaced, read_as, Consumes, past_run, front_each}
+use Rattle.serde_json_path_parser.proofs.Words.{codes, LogicalOr, LogicalAnd, Basic, paren, relation, test, no_or, or, no_and, and, IsTypedOr, IsTypedAnd, or_depth, and_depth, Signature, ExpectedClosingParenthesis, ExpectedExpression, is_at, are_at, begins, IsBlank, InParentheses, ReadsOr, ReadMoreOrs, ReadMoreAnds, past_blanks, called, and_list, or_list, Deeper, read_paren, read_negated, read_basic, read_next_basic, read_and_from, read_and, read_next_and, read_or_from, read_or, ◌≡◌, ℕ, ◌≤◌, inl, true, false, List, [], ◌∷◌, ◌++◌, drop, Option, Ok, refl, ap, ◌∙◌, append_assoc, arith, LongHand, queried, is_blank, IsTypedOperand, operand_depth, ReadsOperand, Operand, literal, begins_test, of_logical, byte_count, read_negated_test}
+use Rattle.serde_json_path_parser.proofs.Reading.{blanks_of, spread, begins_differs, Read, Spaced, after_one, Inner, guarded, onward, remade, refused, choose, Outcome, after_sign, past_spaced, read_spaced, Consumes, past_run, front_each}
 use Rattle.serde_json_path_parser.proofs.Grammar.LogicalForms.{IsGoodInside, DeeperLaws, ends_or, ends_and, ends_basic, IsOrText, IsAndText, IsBasicText, begins_operand, begins_expression, operand_begins, basic_begins, and_begins, or_begins, no_blank_begins, IsOperandText, typed_good, test_begins}
-use Rattle.serde_json_path_parser.proofs.Grammar.Comparisons.{query_again, named_call_again, query_outcome, named_call_outcome, operand_outcome, basic_ends_operand, relation_again, test_no_value, may_test, compared, basic_from_outcome, tested, test_again, test_outcome, operand_again}
+use Rattle.serde_json_path_parser.proofs.Grammar.Comparisons.{operand_outcome, basic_ends_operand, relation_again, compared, basic_from_outcome, tested, test_again, test_outcome, operand_again}
 use Rattle.serde_json_path_parser.proofs.Rows.{Follows, AreRows, RowLaw, next_consumes, row_outcome, row_again}
 
 module _ (signature : List ℕ → Option Signature) (n : ℕ) (deeper : Deeper) (laws : DeeperLaws signature n deeper) where

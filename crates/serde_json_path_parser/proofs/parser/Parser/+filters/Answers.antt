@@ -1,8 +1,8 @@
 use Rattle.serde_json_path_parser.proofs.Reading.{first_fails, no_longer, with_none}
 use Rattle.serde_json_path_parser.proofs.Texts.{is_ahead}
-use Rattle.serde_json_path_parser.proofs.Words.{drop, ◌∙◌, [], Some, Err, refl, sym, ap, option_map, arith, true≢false, past_blanks, string_bytes, nil_from_length, err_from_is_err_and, literal_view, operator_view, an_operand, logical_argument, call, signature_view, and_list, or_list, signatures, deeper, begins, is_at, opens, literal, called, left, common_steps, selector_list, read_segments, segment_list, read_named_call, calls_in_operand, queried, AreAndPartsOf, AreOrPartsOf, AreSelectorsOf, map, kind_view, read_argument, segment_kind_view, query_kind_view, operand, true, false}
+use Rattle.serde_json_path_parser.proofs.Words.{drop, ◌∙◌, [], Some, Err, refl, sym, ap, option_map, arith, true≢false, past_blanks, string_bytes, nil_from_length, err_from_is_err_and, literal_view, operator_view, an_operand, logical_argument, call, signature_view, and_list, or_list, signatures, deeper, begins, is_at, opens, literal, called, left, common_steps, selector_list, read_segments, segment_list, read_named_call, queried, AreAndPartsOf, AreOrPartsOf, AreSelectorsOf, map, kind_view, read_argument, segment_kind_view, query_kind_view, operand, true, false}
 use Rattle.serde_json_path_parser.specs.Inside.Giving.{read_filter}
-use Rattle.serde_json_path_parser.proofs.Steps.{no_literal, comparable_read, none_made, one_more, first_refused, first_open, literal_word_reads, level_down, at_mark, value_kind, grows_none, grows_kept, grows_same, grows_then, grows_call, grown_so, begins_row, row_fails, row_shorter, row_goes_on, row_done, segments_stand, selectors_stand, ors_stand, ands_stand, segment_shorter, some_parts}
+use Rattle.serde_json_path_parser.proofs.Steps.{no_literal, comparable_read, none_made, one_more, first_refused, first_open, literal_word_reads, level_down, at_mark, grows_none, grows_kept, grows_same, grows_then, grows_call, grown_so, begins_row, row_fails, row_shorter, row_goes_on, row_done, segments_stand, selectors_stand, ors_stand, ands_stand, segment_shorter, some_parts}
 use Rattle.serde_json_path_parser.proofs.parser.Parser.+filters.Goals as goal
 use Rattle.serde_json_path_syntax.specs.Tree as tree
 
