@@ -1,7 +1,8 @@
-use Rattle.std.proofs.Common.{◌≡◌, Ok, Err, refl, rules}
+use Rattle.std.proofs.Common.{◌≡◌, Ok, Err, refl, ap, rules}
 use Rattle.serde_json.specs.View.{view}
 use Rattle.serde_json_path_syntax.specs.Parts.{tree_of}
 use Rattle.serde_json_path_functions.specs.declared.error.QueryError.TheVariants.{Pattern}
+use Rattle.serde_json_path_parser.specs.Source.{Observed}
 use Rattle.jsonpath_program.specs.declared.report.ReportError.TheVariants.{Query}
 use Rattle.jsonpath_program.proofs.Runs.{ok_before, pattern_before}
 use Rattle.jsonpath_program.proofs.report.report_under.Goals as goal
@@ -11,6 +12,7 @@ returns-clause-lines g c =
     let path = c.in_ok-path.path in
     let value = c.in_ok-value.value in
     let text = c.in_ok-text.text in
+    let same_text = ap (λ (o : Observed). o.text) c.new-source.ensures in
     let parsed : c.parse.result ≡ Ok path = ok_before _ _ path _ c.map_err.ensures.cases c.in_ok-path.was in
     let read : c.document.result ≡ Ok value = ok_before _ _ value _ c.map_err-2.ensures.cases c.in_ok-value.was in
     let made : c.selected.result ≡ Ok text = ok_before _ _ text _ c.map_err-3.ensures.cases c.in_ok-text.was in
@@ -19,7 +21,7 @@ returns-clause-lines g c =
       query = tree_of path;
       value = view value;
       nodes = written.0;
-      accepted = (rw parsed at c.parse.ensures.parse).accepted;
+      accepted = (rw same_text at (rw parsed at c.parse.ensures.parse)).accepted;
       reads = rw read at c.document.ensures.ok;
       selects = written.2;
       lines = written.1;
@@ -29,13 +31,14 @@ pub returns-in_err-text-clause-pattern_refused : goal.returns-in_err-text-clause
 returns-in_err-text-clause-pattern_refused g c = λ is.
     let path = c.in_ok-path.path in
     let value = c.in_ok-value.value in
+    let same_text = ap (λ (o : Observed). o.text) c.new-source.ensures in
     let parsed : c.parse.result ≡ Ok path = ok_before _ _ path _ c.map_err.ensures.cases c.in_ok-path.was in
     let read : c.document.result ≡ Ok value = ok_before _ _ value _ c.map_err-2.ensures.cases c.in_ok-value.was in
     let told : c.map_err-3.result ≡ Err (Query Pattern) = search rules in
     let refused = rw (pattern_before c.selected.result c.map_err-3.result c.map_err-3.ensures.cases told) at c.selected.ensures.refused in (
       tree_of path,
       view value,
-      (rw parsed at c.parse.ensures.parse).accepted,
+      (rw same_text at (rw parsed at c.parse.ensures.parse)).accepted,
       rw read at c.document.ensures.ok,
       refused refl,
     )

@@ -13,13 +13,13 @@ returns-then-is_err-clause-document_reported g c = λ two. (codes "jsonpath: doc
 pub returns-in-Ok-clause-report_out : goal.returns-in-Ok-clause-report_out
 returns-in-Ok-clause-report_out g c =
     let one = one_word _ _ _ c.in-len1.len_at_least c.in-len1.len_below c.path-item.is c.as_str.ensures.value in
-    let whole = whole_read _ _ _ _ _ (sym c.is_err.ensures.value ∙ c.if-is_err.false) c.read_to_end.ensures.bytes c.new-document.ensures.items c.as_slice.ensures.value in
+    let whole = whole_read _ _ _ _ _ (sym c.is_err.ensures.value ∙ c.if-is_err.false) c.read_to_end.ensures.bytes c.new-document.ensures.items c.as_slice-document.ensures.value in
     λ done. (c.as_str-in-Ok.result.now, report_of_run _ _ _ _ _ _ one whole c.in-Ok.ensures.lines c.as_str-in-Ok.ensures.value, c.print.ensures.whole done)
 
 pub returns-in-Ok-clause-part_out : goal.returns-in-Ok-clause-part_out
 returns-in-Ok-clause-part_out g c =
     let one = one_word _ _ _ c.in-len1.len_at_least c.in-len1.len_below c.path-item.is c.as_str.ensures.value in
-    let whole = whole_read _ _ _ _ _ (sym c.is_err.ensures.value ∙ c.if-is_err.false) c.read_to_end.ensures.bytes c.new-document.ensures.items c.as_slice.ensures.value in
+    let whole = whole_read _ _ _ _ _ (sym c.is_err.ensures.value ∙ c.if-is_err.false) c.read_to_end.ensures.bytes c.new-document.ensures.items c.as_slice-document.ensures.value in
     λ three. inr (c.as_str-in-Ok.result.now, report_of_run _ _ _ _ _ _ one whole c.in-Ok.ensures.lines c.as_str-in-Ok.ensures.value, c.print.ensures.beginning)
 
 pub returns-in-Ok-clause-query_reported : goal.returns-in-Ok-clause-query_reported
@@ -27,7 +27,7 @@ returns-in-Ok-clause-query_reported g c = λ three. (codes "jsonpath: output fai
 
 pub returns-in-Ok-clause-query_last : goal.returns-in-Ok-clause-query_last
 returns-in-Ok-clause-query_last g c =
-    let whole = whole_read _ _ _ _ _ (sym c.is_err.ensures.value ∙ c.if-is_err.false) c.read_to_end.ensures.bytes c.new-document.ensures.items c.as_slice.ensures.value in
+    let whole = whole_read _ _ _ _ _ (sym c.is_err.ensures.value ∙ c.if-is_err.false) c.read_to_end.ensures.bytes c.new-document.ensures.items c.as_slice-document.ensures.value in
     λ three. of_known (λ bytes. (d : Data) × ReadsAs bytes d) _ _ whole (_, c.in-Ok.ensures.lines.reads)
 
 pub refuse-requires : goal.refuse-requires
@@ -49,7 +49,7 @@ returns-clause-path_reported g c = λ one.
 pub returns-clause-document_reported : goal.returns-clause-document_reported
 returns-clause-document_reported g c = λ two.
     let (document, is) = document_of c.in-Err.e (sym c.refuse.ensures.status ∙ two) in
-    let read = whole_read _ _ _ _ _ (sym c.is_err.ensures.value ∙ c.if-is_err.false) c.read_to_end.ensures.bytes c.new-document.ensures.items c.as_slice.ensures.value in (
+    let read = whole_read _ _ _ _ _ (sym c.is_err.ensures.value ∙ c.if-is_err.false) c.read_to_end.ensures.bytes c.new-document.ensures.items c.as_slice-document.ensures.value in (
       line_of (Document document),
       inl (
         document,
@@ -62,13 +62,13 @@ returns-clause-document_reported g c = λ two.
 pub returns-clause-query_reported : goal.returns-clause-query_reported
 returns-clause-query_reported g c = λ three.
     let (query, is) = query_of c.in-Err.e (sym c.refuse.ensures.status ∙ three) in
-    let whole = whole_read _ _ _ _ _ (sym c.is_err.ensures.value ∙ c.if-is_err.false) c.read_to_end.ensures.bytes c.new-document.ensures.items c.as_slice.ensures.value in (
+    let whole = whole_read _ _ _ _ _ (sym c.is_err.ensures.value ∙ c.if-is_err.false) c.read_to_end.ensures.bytes c.new-document.ensures.items c.as_slice-document.ensures.value in (
       line_of (Query query),
       inl (
         query,
         refl,
         λ pattern. (
-          c.as_slice.result.now,
+          c.as_slice-document.result.now,
           c.as_str.result.now,
           one_word _ _ _ c.in-len1.len_at_least c.in-len1.len_below c.path-item.is c.as_str.ensures.value,
           whole,
@@ -82,7 +82,7 @@ returns-clause-query_reported g c = λ three.
 pub returns-clause-query_last : goal.returns-clause-query_last
 returns-clause-query_last g c = λ three.
     let (query, is) = query_of c.in-Err.e (sym c.refuse.ensures.status ∙ three) in
-    let whole = whole_read _ _ _ _ _ (sym c.is_err.ensures.value ∙ c.if-is_err.false) c.read_to_end.ensures.bytes c.new-document.ensures.items c.as_slice.ensures.value in
+    let whole = whole_read _ _ _ _ _ (sym c.is_err.ensures.value ∙ c.if-is_err.false) c.read_to_end.ensures.bytes c.new-document.ensures.items c.as_slice-document.ensures.value in
     of_known (λ bytes. (d : Data) × ReadsAs bytes d) _ _ whole (c.report_under.ensures.query_last query (c.in-Err.is ∙ ap Err is))
 
 pub returns-then-is_err-clause-path_first : goal.returns-then-is_err-clause-path_first
