@@ -57,15 +57,17 @@ pub struct Output {
 }
 
 impl LineEnd {
+    ghost use Rattle.std.specs.Char.{encode_utf8};
     ghost use Rattle.jsonpath_lines.specs.Output.{end_text};
 
-    /// The end as text.
-    pub(crate) fn as_str(self) -> &'static str
-        ensures { result.now ≡ end_text self }
+    /// The end as a character.
+    #[inline(always)]
+    pub(crate) fn as_char(self) -> char
+        ensures { encode_utf8 result ≡ end_text self }
     {
         match self {
-            LineEnd::LineFeed => "\n",
-            LineEnd::Nul => "\0",
+            LineEnd::LineFeed => '\n',
+            LineEnd::Nul => '\0',
         }
     }
 }

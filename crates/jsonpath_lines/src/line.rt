@@ -68,7 +68,7 @@ impl LineWriter<'_> {
         // Each writer of text is called at one place alone, where it can be inlined.
         match self.output.form {
             Form::LocationAndValue | Form::Location => {
-                write!(text, "{}", node.location())?;
+                node.location().push_to(text)?;
                 if self.output.form == Form::Location {
                     return Ok(());
                 }
@@ -98,7 +98,7 @@ impl LineWriter<'_> {
     {
         push_head(text, self.head)?;
         self.push_text(text, node)?;
-        text.push_str(self.output.end.as_str())
+        text.push(self.output.end.as_char())
     }
 
     /// Appends what is written of a node, which may be later than the first.
@@ -142,7 +142,7 @@ impl LineWriter<'_> {
             (string_bytes array) (string_bytes shown)) }
     {
         array.push(']')?;
-        let (head, end) = (self.head, self.output.end.as_str());
+        let (head, end) = (self.head, self.output.end.as_char());
         let json = self.laid_out(array)?;
         format!(in self.alloc; "{head}{json}{end}")
     }
@@ -154,7 +154,7 @@ impl LineWriter<'_> {
         ensures { IfOk result (λ shown. IsClosedIn self.entry.output.form
             self.entry.output self.entry.head.now count (string_bytes text) (string_bytes shown)) }
     {
-        let (head, end) = (self.head, self.output.end.as_str());
+        let (head, end) = (self.head, self.output.end.as_char());
         match self.output.form {
             Form::Json => self.array_line(text),
             Form::Count => format!(in self.alloc; "{head}{count}{end}"),

@@ -9,6 +9,7 @@ ghost use Rattle.serde_json_path_nodes.specs.Views.{located};
 ghost use Rattle.jsonpath_lines.specs.Inside.{Appends, IsIndented, IsItem, IsLaid, path_string};
 
 use crate::forms::Layout;
+use itoa::Buffer;
 use json::{Pretty, Reader, Scratch};
 use serde_json::Value;
 use serde_json_path::LocatedNode;
@@ -38,7 +39,7 @@ fn push_printed(
     text.push_str(json.as_str())
 }
 
-/// Appends the JSON of a value, in one write where the value is held as an integer.
+/// Appends the JSON of a value, with few steps where the value is held as an integer.
 #[inline(always)]
 fn push_number(
     alloc: Global,
@@ -50,11 +51,11 @@ fn push_number(
         (string_bytes text.old) (string_bytes text.new)) }
 {
     if let Some(n) = value.as_u64() {
-        return write!(text, "{n}");
+        return text.push_str(Buffer::new().format(n));
     }
     if let Some(n) = value.as_i64() {
         if n < 0 {
-            return write!(text, "{n}");
+            return text.push_str(Buffer::new().format(n));
         }
     }
     push_printed(alloc, layout, text, value)

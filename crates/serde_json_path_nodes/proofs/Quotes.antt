@@ -17,7 +17,7 @@ plain_chars [] h = refl
 plain_chars (c ∷ cs) h = grind (arith, nat_tests, unwrap_or, plain_char, plain_after, plain_chars cs (plain_after (encode_utf8 c) (encode_utf8_all cs) h))
 
 -- a text whose bytes are plain prints itself
-plain_text : (text : List ℕ) → IsUtf8 text → NonePass is_escaped text → flat_map in_quotes (chars text) ≡ text
+pub plain_text : (text : List ℕ) → IsUtf8 text → NonePass is_escaped text → flat_map in_quotes (chars text) ≡ text
 plain_text text utf8 plain = grind (arith, nat_tests, encodes-chars, plain_chars)
 
 -- one byte more

@@ -6,7 +6,7 @@ pub use Rattle.serde_json_path_nodes.specs.Lists.{first_places, first_places_aft
 pub use Rattle.serde_json_path_nodes.specs.Location.{IsProper, Step, by_name, by_position}
 pub use Rattle.serde_json_path_nodes.specs.Same.{same_step, same_steps, same_steps_decides}
 pub use Rattle.serde_json_path_nodes.specs.Text.{escape_of, in_pointer, in_quotes, is_escaped, normal, normal_step, pointer}
-pub use Rattle.serde_json_path_nodes.specs.Views.{end_of, located, location_of, step_view}
+pub use Rattle.serde_json_path_nodes.specs.Views.{located, location_of, step_view}
 pub use Rattle.serde_json_path_nodes.specs.declared.located_node.LocatedNode.{LocatedNode}
 pub use Rattle.serde_json_path_nodes.specs.declared.path_element.PathElement.{PathElement}
 pub use Rattle.std.proofs.Common.{Bool, Bor, List, None, Option, [], ap, append-nil, append_assoc, arith, codes, cond, drop, encode_utf8, false, get_or, if◌then◌else◌, inl, inr, is_some, length, ltb, map, nat_eq, nat_lt, not, refl, rules, slice_get, string_bytes, subst, suc, sym, take, true, true≢false, unwrap_or, vec_len, zero, ℕ, ◌&&◌, ◌*◌, ◌++◌, ◌+◌, ◌-◌, ◌<◌, ◌==◌, ◌^◌, ◌||◌, ◌∙◌, ◌∷◌, ◌≡◌, ◌≢◌, ◌≤◌, ◌⊎◌}

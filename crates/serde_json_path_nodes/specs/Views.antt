@@ -1,5 +1,5 @@
 -- What contracts see of steps, located nodes and their lists.
-use Rattle.std.specs.Prelude.{ℕ, List, map, codes}
+use Rattle.std.specs.Prelude.{List, map}
 use Rattle.std.specs.Borrow.{Bor}
 use Rattle.std.specs.Slice.Iter.{iter_rest}
 use Rattle.serde_json.specs.Data.{Data}
@@ -8,8 +8,6 @@ use Rattle.serde_json.specs.declared.value.Value.{Value}
 use Rattle.serde_json_path_nodes.specs.Location.{Step, by_name, by_position, Located}
 use Rattle.serde_json_path_nodes.specs.declared.path_element.PathElement.{PathElement}
 use Rattle.serde_json_path_nodes.specs.declared.path_element.PathElement.TheVariants.{Name, Index}
-use Rattle.serde_json_path_nodes.specs.declared.normalized_path.Printed.{Printed}
-use Rattle.serde_json_path_nodes.specs.declared.normalized_path.Printed.TheVariants as printed
 use Rattle.serde_json_path_nodes.specs.declared.located_node.LocatedNode.{LocatedNode}
 use Rattle.serde_json_path_nodes.specs.declared.located_node_list.LocatedNodeList.{LocatedNodeList}
 use Rattle.serde_json_path_nodes.specs.declared.node_list.NodeList.{NodeList}
@@ -22,12 +20,6 @@ use Rattle.serde_json_path_nodes.specs.declared.iterators.Store.TheVariants as s
 abbrev pub step_view : PathElement → Step
 step_view (Name name) = by_name name.now
 step_view (Index position) = by_position position
-
--- what is printed at the end of a location after that
-abbrev pub end_of : Printed → List ℕ
-end_of printed.Root = codes "$"
-end_of printed.Name = codes "']"
-end_of printed.Index = codes "]"
 
 -- the value of a node
 abbrev pub node_value : Bor Value → Data

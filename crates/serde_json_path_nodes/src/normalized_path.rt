@@ -1,12 +1,13 @@
 //! Locations, as normalised paths.
 
-ghost use Rattle.std.specs.Prelude.{◌≡◌, ◌==◌, ◌↔◌, ◌++◌, length, map, slice_get, option_map, Some, IfOk, OnOk, IsTrue, string_bytes, codes};
+ghost use Rattle.std.specs.Prelude.{◌≡◌, ◌==◌, ◌↔◌, ◌++◌, length, map, slice_get, option_map, Some, IfOk, OnOk, IsTrue, string_bytes};
 ghost use Rattle.std.specs.List.{flat_map};
 ghost use Rattle.serde_json_path_nodes.specs.Text.{normal, pointer, in_pointer};
 
 use crate::iterators::PathElements;
 use crate::path_element::PathElement;
-use crate::quoted::write_inside;
+use crate::quoted::{Quoted, push_inside};
+use itoa::Buffer;
 use std::alloc::{AllocError, Global};
 use std::cmp::Ordering;
 use std::fmt;
@@ -84,7 +85,32 @@ impl<'b> NormalizedPath<'b> {
     pub fn to_text(&self, alloc: Global) -> Result<String, AllocError>
         ensures { IfOk result (λ text. string_bytes text ≡ normal self.now) }
     {
-        self.to_string(alloc)
+        let mut text = String::new(alloc);
+        self.push_to(&mut text)?;
+        Ok(text)
+    }
+
+    /// Appends the normalised path to a text (RFC 9535, section 2.7), in half the steps of a formatter.
+    ///
+    /// An error comes only where memory is refused.
+    pub fn push_to(&self, text: &mut String) -> Result<(), AllocError>
+        ensures { OnOk result
+            (string_bytes text.new ≡ string_bytes text.old ++ normal self.now) }
+    {
+        text.push('$')?;
+        for element in &self.steps {
+            text.push('[')?;
+            match *element {
+                PathElement::Name(name) => {
+                    text.push('\'')?;
+                    push_inside(text, name)?;
+                    text.push('\'')?;
+                }
+                PathElement::Index(position) => text.push_str(Buffer::new().format(position))?,
+            }
+            text.push(']')?;
+        }
+        Ok(())
     }
 
     /// The JSON pointer to the same node (RFC 6901, section 3), as `/store/book/0`; the empty text for the root.
@@ -98,7 +124,7 @@ impl<'b> NormalizedPath<'b> {
             text.push('/')?;
             match *element {
                 PathElement::Name(name) => push_in_pointer(&mut text, name)?,
-                PathElement::Index(position) => write!(text, "{position}")?,
+                PathElement::Index(position) => text.push_str(Buffer::new().format(position))?,
             }
         }
         Ok(text)
@@ -148,71 +174,14 @@ impl<'b> fmt::Display for NormalizedPath<'b> {
     ghost output = { λ location. Some (normal location) };
 
     fn fmt<W: fmt::Write>(&self, f: &mut fmt::Formatter<W>) -> fmt::Result {
-        // A bracket is closed by the write that opens the next one, since each write costs.
-        let mut last = Printed::Root;
+        f.write_str("$")?;
         for element in &self.steps {
             match *element {
-                PathElement::Name(name) => {
-                    f.write_str(last.before_name())?;
-                    write_inside(f, name)?;
-                    last = Printed::Name;
-                }
-                PathElement::Index(position) => {
-                    f.write_str(last.before_index())?;
-                    write!(f, "{position}")?;
-                    last = Printed::Index;
-                }
+                PathElement::Name(name) => write!(f, "[{}]", Quoted(name))?,
+                PathElement::Index(position) => write!(f, "[{position}]")?,
             }
         }
-        f.write_str(last.end())
-    }
-}
-
-/// What of a location was printed last. Its end is still to come.
-#[derive(Clone, Copy)]
-enum Printed {
-    /// No step.
-    Root,
-    /// A name, whose quote and bracket are open.
-    Name,
-    /// A position, whose bracket is open.
-    Index,
-}
-
-impl Printed {
-    ghost use Rattle.serde_json_path_nodes.specs.Views.{end_of};
-
-    /// The end of what was printed last.
-    fn end(self) -> &'static str
-        ensures { result.now ≡ end_of self }
-    {
-        match self {
-            Printed::Root => "$",
-            Printed::Name => "']",
-            Printed::Index => "]",
-        }
-    }
-
-    /// What is between that and a name.
-    fn before_name(self) -> &'static str
-        ensures { result.now ≡ end_of self ++ codes "['" }
-    {
-        match self {
-            Printed::Root => "$['",
-            Printed::Name => "']['",
-            Printed::Index => "]['",
-        }
-    }
-
-    /// What is between that and a position.
-    fn before_index(self) -> &'static str
-        ensures { result.now ≡ end_of self ++ codes "[" }
-    {
-        match self {
-            Printed::Root => "$[",
-            Printed::Name => "'][",
-            Printed::Index => "][",
-        }
+        Ok(())
     }
 }
 

@@ -1,12 +1,13 @@
 //! Texts as paths write them.
 
-ghost use Rattle.std.specs.Prelude.{◌≡◌, Some, take};
+ghost use Rattle.std.specs.Prelude.{◌≡◌, ◌++◌, OnOk, Some, string_bytes, take};
 ghost use Rattle.std.specs.Fmt.{WritesOnOk};
 ghost use Rattle.std.specs.List.{flat_map};
 ghost use Rattle.std.specs.Str.{chars, IsCharBoundary, NonePass};
 ghost use Rattle.serde_json_path_nodes.specs.Text.{in_quotes, is_escaped, quoted};
 
 use crate::escape::escaped;
+use std::alloc::AllocError;
 use std::fmt;
 use std::fmt::{Formatter, Write};
 
@@ -24,8 +25,31 @@ impl<'b> fmt::Display for Quoted<'b> {
     }
 }
 
+/// Appends what stands between the quotes. Most names have no character with an escape.
+pub(crate) fn push_inside(text: &mut String, name: &str) -> Result<(), AllocError>
+    ensures { OnOk result (string_bytes text.new
+        ≡ string_bytes text.old ++ flat_map in_quotes (chars name.now)) }
+{
+    if plain_len(name) == name.len() {
+        return text.push_str(name);
+    }
+    write!(text, "{}", Inside(name))
+}
+
+/// A text that prints what stands between its quotes.
+#[derive(Drop)]
+struct Inside<'b>(&'b str);
+
+impl<'b> fmt::Display for Inside<'b> {
+    ghost output = { λ name. Some (flat_map in_quotes (chars name.0.now)) };
+
+    fn fmt<W: Write>(&self, f: &mut Formatter<W>) -> fmt::Result {
+        write_inside(f, self.0)
+    }
+}
+
 /// Writes what stands between the quotes. Characters without an escape are written many at a time.
-pub(crate) fn write_inside<W: Write>(f: &mut Formatter<W>, text: &str) -> fmt::Result
+fn write_inside<W: Write>(f: &mut Formatter<W>, text: &str) -> fmt::Result
     ensures { WritesOnOk W.write_str_gives f.old result
         (flat_map in_quotes (chars text.now)) f.new }
 {

@@ -90,6 +90,12 @@ fn pointed(alloc: Global, steps: Steps) -> Came {
     let location = location(alloc, steps)?;
     let pointer = location.to_json_pointer(alloc)?;
     let node = document.pointer(pointer.as_str()).ok_or("no node")?;
+    let mut text = String::from_str(alloc, "at ")?;
+    location.push_to(&mut text)?;
+    let shown = format!(in alloc; "at {location}")?;
+    if text != shown || location.to_text(alloc)?.as_str() != &text[3..] {
+        return Err(Fail::new("a location has two texts"));
+    }
     Ok(format!(in alloc; "{location} ~ {pointer} ~ {:?}", node.as_u64())?)
 }
 
