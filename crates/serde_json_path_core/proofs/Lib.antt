@@ -8,3 +8,5 @@ pub mod Walks
 pub mod Sound
 -- steps of the code
 pub mod Steps
+-- whole numbers are compared by their billionths
+pub mod Whole

@@ -17,7 +17,7 @@ pub use Rattle.serde_json_path_syntax.specs.Calls.{OfEach, calls_from, calls_in_
 pub use Rattle.serde_json_path_syntax.specs.Flat.{and_at, and_in, ands_in, argument_at, argument_in, arguments_in, basic_at, basic_in, call_at, operand_at, held_view, or_at, ors_in, part_query, branch_at, branch_in, branches, branches_named, segment_at, segment_in, segment_kind_in, segment_kind_view, segments_at, segments_in}
 pub use Rattle.serde_json_path_syntax.specs.Kinds.{AreOfKind, IsOfKind, are_singular, each_is, is_and, is_argument, is_basic, is_call, is_comparable, is_or, is_query, is_segment, is_singular, is_tested, literal_fits, selector_ref_fits}
 pub use Rattle.serde_json_path_syntax.specs.Lists.{IsIn, IsInOrder}
-pub use Rattle.serde_json_path_syntax.specs.Literals.{number_amount, operator_view}
+pub use Rattle.serde_json_path_syntax.specs.Literals.{number_amount, operator_view, whole_amount}
 pub use Rattle.serde_json_path_syntax.specs.PartBounds.{parts_bound, selector_bound}
 pub use Rattle.serde_json_path_syntax.specs.Parts.{nodes_in, signatures_of, tree_of}
 pub use Rattle.serde_json_path_syntax.specs.SliceView.{slice_view}

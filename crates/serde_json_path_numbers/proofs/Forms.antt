@@ -1,5 +1,5 @@
 -- Numbers by what holds them; integers keep their order.
-use Rattle.serde_json_path_numbers.proofs.Words.{◌≡◌, true, T, arith, sym, ap, ◌∙◌, subst, to_z-of_z, to_z, of_z, Ordering, nat_tests, ℤ, nat_eq, int_lt, FitsSigned, w128, float_is_finite, Float, lt, eq, integer, IsOrder, held_number, is_exact, Integer, Double, IntegersKeepTheirOrder}
+use Rattle.serde_json_path_numbers.proofs.Words.{◌≡◌, true, T, arith, sym, ap, ◌∙◌, subst, to_z-of_z, to_z, of_z, Ordering, nat_tests, ℤ, nat_eq, int_eq, int_lt, FitsSigned, w128, float_is_finite, Float, lt, eq, integer, IsOrder, held_number, is_exact, Integer, Double, IntegersKeepTheirOrder}
 use Rattle.serde_json_path_numbers.specs.declared.exact_number.Form.{Form}
 use Rattle.serde_json_path_numbers.proofs.Floats.{sure, equality, IsTold, told}
 use lib.Signed.{lt_z_yes}
@@ -7,7 +7,7 @@ use lib.Signed.{lt_z_yes}
 pub in_range : (z : ℤ) → is_exact (Integer z) ≡ true → FitsSigned w128 z
 in_range z h = grind (arith, nat_tests)
 
-integers_less : (a b : ℤ) → int_lt a b ≡ lt (integer a) (integer b)
+pub integers_less : (a b : ℤ) → int_lt a b ≡ lt (integer a) (integer b)
 unfolding lt
 integers_less a b = grind (arith, nat_tests)
 
@@ -18,6 +18,9 @@ integers_equal a b h = grind (arith, nat_tests)
 pub finite_integer : (z : ℤ) → float_is_finite (integer z) ≡ true
 unfolding float_is_finite
 finite_integer z = grind (arith, nat_tests)
+
+pub integers_same : (a b : ℤ) → int_eq a b ≡ eq (integer a) (integer b)
+integers_same a b = grind (arith, nat_tests, integers_equal a b, equality.reflexive (integer a) (finite_integer a))
 
 pub order_kept : IntegersKeepTheirOrder
 order_kept = grind (arith, nat_tests, integers_equal, equality, finite_integer, lt_z_yes, integers_less, sure)

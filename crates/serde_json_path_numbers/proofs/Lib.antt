@@ -5,11 +5,13 @@
 -- Forms: numbers by what holds them; integers keep their order.
 -- Digits: digits written from the last to the first.
 -- Finite: numbers of literals are in range, and finite.
+-- Whole: a literal of whole billions of billionths is that integer.
 -- Words: the words of definitions and lemmas, from one place.
 mod Digits
 pub mod Finite
 pub mod Floats
-mod Forms
+pub mod Forms
 mod Orders
 mod Ratios
+pub mod Whole
 mod Words

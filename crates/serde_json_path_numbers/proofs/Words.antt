@@ -3,13 +3,15 @@ unfoldable pub use Rattle.std.specs.Float.{float_is_finite, round_with}
 unfoldable pub use Rattle.std.specs.Float.Ieee.{eq, fits, is_nan, le, lt, neg, odd, of_bits, to_unsigned, units}
 pub use Rattle.serde_json_path_numbers.specs.Inside.{IsOrder, held_number, is_exact}
 pub use Rattle.serde_json_path_numbers.specs.Laws.{EqualityIsEquivalence, IntegersKeepTheirOrder, IsExactlyOne, IsFinite, LessIsStrictOrder, NumbersAreFinite}
-pub use Rattle.serde_json_path_numbers.specs.Numbers.{AreEqualNumbers, IsInLiteralRange, IsLessNumber, integer, literal_double}
+pub use Rattle.serde_json_path_numbers.specs.Numbers.{AreEqualNumbers, IsInLiteralRange, IsLessNumber, integer, literal_double, literal_number}
 pub use Rattle.serde_json_path_numbers.specs.declared.exact_number.Form.TheVariants.{Double, Integer}
-pub use Rattle.std.proofs.Common.{Bool, Equal, Greater, Less, List, Ordering, T, [], add_comm, ap, append-nil, arith, div-add-mod', div-le_self, div-lt_iff_lt-mul, div-mul-le_self, div-one, drop, drop-cons, drop-set-lt, eq-eqb, eq-zero-or-pos, eqb→eq, false, get_or-set_same, inl, inr, is_eq, is_gt, is_lt, le-div_iff_mul-le, le-ltb, length, length-append, length-set, lit<, lt-ltb, ltb-false, ltb-true, min, mod-lt, mul-one, mul_assoc, nat_cmp, ne_eqb, of_z, pos_of_ne-zero, pow-add, pow-suc, refl, shl_lt, subst, suc, suc-mul, sym, to_z, to_z-of_z, true, true≢false, zero-le, ℕ, ◌%◌, ◌*◌, ◌++◌, ◌+◌, ◌-◌, ◌/◌, ◌<◌, ◌^◌, ◌∙◌, ◌∷◌, ◌≡◌, ◌≤◌, ◌⊎◌}
+pub use Rattle.std.proofs.Common.{Bool, Equal, Greater, Less, List, Ordering, T, [], add_comm, ap, append-nil, arith, div-add-mod', div-le_self, div-lt_iff_lt-mul, div-mul-le_self, div-one, drop, drop-cons, drop-set-lt, eq-eqb, eq-zero-or-pos, eqb-true, eqb→eq, false, get_or-set_same, inl, inr, is_eq, is_gt, is_lt, le-div_iff_mul-le, le-ltb, length, length-append, length-set, lit<, lt-ltb, ltb-false, ltb-true, min, mod-lt, mul-one, mul_assoc, nat_cmp, ne_eqb, of_z, pos_of_ne-zero, pow-add, pow-suc, refl, shl_lt, subst, suc, suc-mul, sym, to_z, to_z-of_z, true, true≢false, zero-le, ℕ, ◌%◌, ◌*◌, ◌++◌, ◌+◌, ◌-◌, ◌/◌, ◌<◌, ◌^◌, ◌∙◌, ◌∷◌, ◌≡◌, ◌≤◌, ◌⊎◌}
 pub use Rattle.std.proofs.lemmas.Bool.Decides.{nat_tests}
 pub use Rattle.std.proofs.lemmas.Float.{T_from_false, T_from_true, eq-not_lt, eq_flip, eq_trans, le_of_eq, le_of_not-lt, lt-or-eq, lt_irrefl, lt_of_le_of_lt, lt_of_lt_of_le, lt_of_not-le, lt_trans}
+pub use Rattle.std.proofs.lemmas.Int.{ints}
 pub use Rattle.std.specs.Float.{NotNan, minus_one, trunc, two_to}
 pub use Rattle.std.specs.Float.Ieee.{Float, Format, binary64, down, emax, fin, inf, low, nan, prec, round, up}
 pub use Rattle.std.specs.Float.Order.{lt_at}
 pub use Rattle.std.specs.Int.{w128}
-pub use Rattle.std.specs.Prelude.{FitsSigned, Some, int_div, int_lt, nat_eq, nat_lt, negsuc, pos, slice_set, unsigned_abs, ℤ}
+pub use Rattle.std.specs.Ordering.{int_eq}
+pub use Rattle.std.specs.Prelude.{FitsSigned, None, Some, int_div, int_lt, nat_eq, nat_lt, negsuc, pos, slice_set, unsigned_abs, ℤ, ◌*ℤ◌, ◌==◌}

@@ -26,4 +26,4 @@ pub use laws::{
     law_equality_of_numbers, law_integers_keep_their_order, law_numbers_are_finite,
     law_order_of_numbers,
 };
-pub use literal::{is_whole, literal_double};
+pub use literal::literal_double;

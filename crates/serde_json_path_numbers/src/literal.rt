@@ -17,7 +17,7 @@ const SHORT_ONE: i64 = 1_000_000_000;
 
 /// Whether so many billionths are a whole number.
 #[inline]
-pub fn is_whole(billionths: i128) -> bool
+fn is_whole(billionths: i128) -> bool
     ensures { result ≡ (unsigned_abs billionths % 1000000000 == 0) }
 {
     match i64::try_from(billionths) {

@@ -1,5 +1,5 @@
 -- Literals and comparison operators as the definitions see them.
-use Rattle.std.specs.Prelude.{ℤ, string_bytes}
+use Rattle.std.specs.Prelude.{◌%◌, ◌==◌, if◌then◌else◌, Option, None, Some, ℤ, string_bytes, unsigned_abs}
 use Rattle.serde_json_path_syntax.specs.Tree as tree
 use Rattle.serde_json_path_syntax.specs.Tree.{Literal, Operator, equal, not_equal, less, less_or_equal, greater, greater_or_equal}
 use Rattle.serde_json_path_syntax.specs.declared.literal.NumberLiteral.{NumberLiteral}
@@ -11,6 +11,10 @@ use Rattle.serde_json_path_syntax.specs.declared.operator.ComparisonOperator.The
 -- the billionths of a number literal
 abbrev pub number_amount : NumberLiteral → ℤ
 number_amount literal = literal.billionths
+
+-- billionths that are a number without a fraction
+abbrev pub whole_amount : ℤ → Option ℤ
+whole_amount b = if unsigned_abs b % 1000000000 == 0 then Some b else None
 
 abbrev pub literal_view : declared.Literal → Literal
 literal_view (String text) = tree.text (string_bytes text)

@@ -13,7 +13,7 @@ pub use Rattle.serde_json_path_syntax.specs.Inside.Openings.{opening_text}
 pub use Rattle.serde_json_path_syntax.specs.Inside.SameLaws.{same_trees-equiv}
 pub use Rattle.serde_json_path_syntax.specs.Kinds.{AreFitting, AreOfKind, IsOfKind, are_singular, basic_fits, operand_fits, each_is, fits, is_and, is_argument, is_basic, is_call, is_comparable, is_operand, is_or, is_query, is_segment, is_selector, is_singular, is_singular_segment, is_tested, literal_fits, segment_fits, selector_fits, selector_ref_fits}
 pub use Rattle.serde_json_path_syntax.specs.Lists.{IsIn, IsInOrder}
-pub use Rattle.serde_json_path_syntax.specs.Literals.{literal_view, number_amount, operator_view}
+pub use Rattle.serde_json_path_syntax.specs.Literals.{literal_view, number_amount, whole_amount, operator_view}
 pub use Rattle.serde_json_path_syntax.specs.PartBounds.{parts_bound, selector_bound}
 pub use Rattle.serde_json_path_syntax.specs.Parts.{AreAndPartsOf, AreArgumentsOf, AreOrPartsOf, ArePartsFor, ArePartsOf, AreSelectorsOf, HasNoParts, IsPart, KeepsParts, KeepsTrees, and_branches, argument_branch, argument_branches, calls_in, nodes_in, number_of, or_branches, segment_branches, selector_branches, signatures_of, tree_of}
 pub use Rattle.serde_json_path_syntax.specs.Branch.{Branch, a_basic, a_call, an_operand, a_query, a_segment, a_selector, an_and, an_or}

@@ -1,11 +1,11 @@
 //! Literals of filters (RFC 9535, section 2.3.5.1).
 
-ghost use Rattle.std.specs.Prelude.{◌≡◌, option_map};
-ghost use Rattle.serde_json_path_numbers.specs.Numbers as numbers;
+ghost use Rattle.std.specs.Prelude.{◌≡◌};
+ghost use Rattle.serde_json_path_numbers.specs.Numbers.{literal_double};
 ghost use Rattle.serde_json_path_syntax.specs.WellFormed.{IsLiteralAmount};
 
 use serde_json::Value;
-use serde_json_path_numbers::{ExactNumber, is_whole, literal_double};
+use serde_json_path_numbers::{ExactNumber, literal_double};
 use std::alloc::AllocError;
 
 /// One, in billionths.
@@ -23,16 +23,14 @@ const GREATEST: i128 = ((1 << 64) - 1) * ONE;
 #[derive(Clone, Copy, Debug)]
 pub struct NumberLiteral {
     pub(crate) billionths: i128,
-    // 0 for a whole number, which takes none: an `Option` would be moved with each literal.
-    double: f64,
+    double: Option<f64>,
     ghost range: { IsLiteralAmount billionths },
-    ghost nearest: { option_map (λ d. double) (numbers.literal_double billionths)
-        ≡ numbers.literal_double billionths },
+    ghost nearest: { double ≡ literal_double billionths },
 }
 
 impl NumberLiteral {
     ghost use Rattle.std.specs.Prelude.{◌↔◌, IsSome, IfSome, int_div, pos};
-    ghost use Rattle.serde_json_path_syntax.specs.Words.{number, of_integer, view, literal_number, exact_view, number_amount};
+    ghost use Rattle.serde_json_path_syntax.specs.Words.{number, of_integer, view, literal_number, exact_view, number_amount, whole_amount};
 
     /// The number of that many billionths, or `None` if it is out of range.
     pub fn from_billionths(billionths: i128) -> Option<NumberLiteral>
@@ -42,7 +40,7 @@ impl NumberLiteral {
         if LEAST <= billionths && billionths <= GREATEST {
             Some(NumberLiteral {
                 billionths,
-                double: literal_double(billionths).unwrap_or(0.0),
+                double: literal_double(billionths),
             })
         } else {
             None
@@ -56,18 +54,24 @@ impl NumberLiteral {
         self.billionths
     }
 
+    /// The number in billionths, or `None` if it has a fraction.
+    #[inline]
+    pub fn whole_billionths(&self) -> Option<i128>
+        ensures { result ≡ whole_amount (number_amount self.now) }
+    {
+        match self.double {
+            None => Some(self.billionths),
+            Some(_) => None,
+        }
+    }
+
     /// The number by which exact comparisons take it: its integer or, with a fraction, the double nearest to it (RFC 8259,
     /// section 6).
     #[inline]
     pub fn exact(&self) -> ExactNumber
         ensures { exact_view result ≡ literal_number (number_amount self.now) }
     {
-        let double = if is_whole(self.billionths) {
-            None
-        } else {
-            Some(self.double)
-        };
-        ExactNumber::of_literal(self.billionths, double)
+        ExactNumber::of_literal(self.billionths, self.double)
     }
 
     /// The whole part, rounded toward zero, as a document's number.

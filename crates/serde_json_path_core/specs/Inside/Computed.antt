@@ -1,6 +1,6 @@
 -- What a query selects, computed.
 use Rattle.std.specs.Prelude.{ℕ, ◌+◌, ◌-◌, nat_lt, ℤ, pos, negsuc, Option, Some, None, option_map, option_and_then, if◌then◌else◌, zero, suc, ◌/◌, ◌+ℤ◌, ◌-ℤ◌, int_lt, nat_abs, List, [], ◌∷◌, ◌++◌, map, flat_map, filter as keep, Bool, true, false, not, ◌&&◌, ◌||◌, option_to_list, bytes_eq}
-use Rattle.serde_json_path_core.specs.Imports.{Num, Data, array, null_data, boolean, number, string, object, Items, no_items, item, Members, no_members, member, put, items_len, Step, by_position, child_at, by_name, Located, eq, lt, document_number, beq, option_map_or, nat_cmp, int_eq, is_lt, insert_entry, slice_cmp, chars, get_item, as_integer, Query, query, Segments, no_segments, segment, SegmentKind, child, descendant, Segment, dot_name, dot_wildcard, long_hand, Selectors, no_selectors, selector, Selector, name, wildcard, index, slice, filter, Slice, LogicalOr, no_or, or, LogicalAnd, no_and, and, Basic, paren, relation, test, Operator, equal, not_equal, less, less_or_equal, greater, greater_or_equal, Operand, literal, queried, called, Call, call, Arguments, no_arguments, argument, Argument, operand, logical_argument, Kind, of_value, of_nodes, of_logical, Term, nodes, FunctionSet, Numbers, whole_numbers, all_numbers, logical}
+use Rattle.serde_json_path_core.specs.Imports.{Num, Data, array, null_data, boolean, number, string, object, Items, no_items, item, Members, no_members, member, put, items_len, Step, by_position, child_at, by_name, Located, eq, lt, document_number, beq, option_map_or, nat_cmp, int_eq, is_lt, insert_entry, slice_cmp, chars, get_item, as_integer, Query, query, Segments, no_segments, segment, SegmentKind, child, descendant, Segment, dot_name, dot_wildcard, long_hand, Selectors, no_selectors, selector, Selector, name, wildcard, index, slice, filter, Slice, LogicalOr, no_or, or, LogicalAnd, no_and, and, Basic, paren, relation, test, Operator, equal, not_equal, less, less_or_equal, greater, greater_or_equal, Operand, literal, queried, called, Call, call, Arguments, no_arguments, argument, Argument, operand, logical_argument, Kind, of_value, of_nodes, of_logical, Term, nodes, FunctionSet, Numbers, whole_numbers, all_numbers, logical, whole_amount}
 use Rattle.serde_json_path_core.specs.Slices.{step_of, bound_of}
 use Rattle.serde_json_path_functions.specs.Functions as functions
 use Rattle.serde_json_path_core.specs.Compared.{Compared, nothing, value, billionths, amount_of, exact_of, literal_compared, value_compared}
@@ -148,6 +148,11 @@ of_both _ _ _ = false
 abbrev pub same_number : Numbers → Num → Num → Bool
 same_number whole_numbers a b = of_both int_eq (as_integer a) (as_integer b)
 same_number all_numbers a b = eq (document_number a) (document_number b)
+
+-- the billionths of a side that is a whole number
+abbrev pub whole_of : Compared → Option ℤ
+whole_of (billionths amount) = whole_amount amount
+whole_of side = amount_of side
 
 -- two sides are numbers, one at least of a literal, and equal
 abbrev pub same_sides : Numbers → Compared → Compared → Bool

@@ -5,7 +5,7 @@ ghost use Rattle.serde_json_path_core.specs.Inside.Words.{eq, lt, nat_cmp, is_lt
 ghost use Rattle.serde_json_path_core.specs.Inside.Computed.{compare as comparison};
 
 use crate::filter::equality::{same_amounts, same_values};
-use crate::filter::side::{Side, amount_of, exact_of};
+use crate::filter::side::{Side, amount_of, exact_of, whole_of};
 use serde_json::Value;
 use serde_json_path_functions::{Functions, Numbers};
 use serde_json_path_numbers::ExactNumber;
@@ -57,20 +57,26 @@ fn is_equal(numbers: Numbers, left: Side, right: Side) -> bool
     }
 }
 
-/// Whether two sides are numbers, one at least of a literal, and equal.
+/// Whether two sides are numbers, one at least of a literal, and equal. Most are whole numbers, which are compared as such.
 #[inline(always)]
+#[tactic(auto, using(crate::proofs::Whole::equal))]
 fn equal_numbers(numbers: Numbers, left: Side, right: Side) -> bool
     ensures { result ≡ same_sides (numbers_view numbers)
         (side_view left.entry) (side_view right.entry) }
 {
     match numbers {
         Numbers::Whole => same_amounts(amount_of(left), amount_of(right)),
-        Numbers::All => equal_exactly(exact_of(left), exact_of(right)),
+        Numbers::All => {
+            let (whole, other) = (whole_of(left), whole_of(right));
+            if whole.is_some() && other.is_some() {
+                return same_amounts(whole, other);
+            }
+            equal_exactly(exact_of(left), exact_of(right))
+        }
     }
 }
 
 /// Whether two numbers are there, and equal.
-#[inline(always)]
 fn equal_exactly(left: Option<ExactNumber>, right: Option<ExactNumber>) -> bool
     ensures { result ≡ of_both eq (option_map exact_view left) (option_map exact_view right) }
 {
@@ -94,15 +100,22 @@ fn is_less(numbers: Numbers, left: Side, right: Side) -> bool
     }
 }
 
-/// Whether two sides are numbers, and the first is less.
+/// Whether two sides are numbers, and the first is less. Most are whole numbers, which are compared as such.
 #[inline(always)]
+#[tactic(auto, using(crate::proofs::Whole::rising))]
 fn rising_numbers(numbers: Numbers, left: Side, right: Side) -> bool
     ensures { result ≡ rising_sides (numbers_view numbers)
         (side_view left.entry) (side_view right.entry) }
 {
     match numbers {
         Numbers::Whole => rising_amounts(amount_of(left), amount_of(right)),
-        Numbers::All => rising_exactly(exact_of(left), exact_of(right)),
+        Numbers::All => {
+            let (whole, other) = (whole_of(left), whole_of(right));
+            if whole.is_some() && other.is_some() {
+                return rising_amounts(whole, other);
+            }
+            rising_exactly(exact_of(left), exact_of(right))
+        }
     }
 }
 
@@ -118,7 +131,6 @@ fn rising_amounts(left: Option<i128>, right: Option<i128>) -> bool
 }
 
 /// Whether two numbers are there, and the first is less.
-#[inline(always)]
 fn rising_exactly(left: Option<ExactNumber>, right: Option<ExactNumber>) -> bool
     ensures { result ≡ of_both lt (option_map exact_view left) (option_map exact_view right) }
 {

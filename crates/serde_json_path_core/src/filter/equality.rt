@@ -26,27 +26,26 @@ pub(crate) fn same_values(numbers: Numbers, left: &Value, right: &Value) -> bool
     }
 }
 
-/// Whether two numbers are equal.
+/// Whether two numbers are equal. Most are small integers, which are compared as such.
 #[inline(always)]
 fn same_numbers(numbers: Numbers, left: &Number, right: &Number) -> bool
     ensures { result
         ≡ same_number (numbers_view numbers) (number_view left.now) (number_view right.now) }
 {
-    match numbers {
-        Numbers::Whole => same_whole_numbers(left, right),
-        Numbers::All => ExactNumber::of_number(left).is_equal(ExactNumber::of_number(right)),
+    match (left.as_i64(), right.as_i64()) {
+        (Some(first), Some(second)) => first == second,
+        _ => same_numbers_by(numbers, left, right),
     }
 }
 
-/// Whether two numbers are held as integers and equal.
-#[inline(always)]
-fn same_whole_numbers(left: &Number, right: &Number) -> bool
+/// Whether two numbers are equal by a rule.
+fn same_numbers_by(numbers: Numbers, left: &Number, right: &Number) -> bool
     ensures { result
-        ≡ of_both int_eq (as_integer (number_view left.now)) (as_integer (number_view right.now)) }
+        ≡ same_number (numbers_view numbers) (number_view left.now) (number_view right.now) }
 {
-    match (left.as_i64(), right.as_i64()) {
-        (Some(first), Some(second)) => first == second,
-        _ => same_amounts(amount(left), amount(right)),
+    match numbers {
+        Numbers::Whole => same_amounts(amount(left), amount(right)),
+        Numbers::All => ExactNumber::of_number(left).is_equal(ExactNumber::of_number(right)),
     }
 }
 

@@ -1,7 +1,7 @@
 //! What the sides of a comparison stand for (RFC 9535, section 2.3.5.1).
 
 ghost use Rattle.std.specs.Prelude.{◌≡◌, Some, option_map, true};
-ghost use Rattle.serde_json_path_core.specs.Inside.Words.{number_view, view, kind_of_term, of_value, term_view, node_value, amount_of, exact_of, literal_compared, value_compared, exact_view, held_view, literal_fits, side_view};
+ghost use Rattle.serde_json_path_core.specs.Inside.Words.{number_view, view, kind_of_term, of_value, term_view, node_value, amount_of, exact_of, literal_compared, value_compared, exact_view, held_view, literal_fits, side_view, whole_of};
 ghost use Rattle.serde_json.specs.Data.{number as number_data};
 ghost use Rattle.serde_json_path_core.specs.Compared.{value as a_value};
 ghost use Rattle.serde_json_path_core.specs.Inside.Computed as computed;
@@ -81,6 +81,18 @@ pub(crate) fn amount_of(side: Side) -> Option<i128>
     match side {
         Side::Value(Value::Number(number)) => amount(number),
         Side::Number(literal) => Some(literal.billionths()),
+        Side::Value(_) | Side::Nothing => None,
+    }
+}
+
+/// The billionths of a whole number: of one that is held as an integer, or of a literal without a fraction.
+#[inline(always)]
+pub(crate) fn whole_of(side: Side) -> Option<i128>
+    ensures { result ≡ whole_of (side_view side.entry) }
+{
+    match side {
+        Side::Value(Value::Number(number)) => amount(number),
+        Side::Number(literal) => literal.whole_billionths(),
         Side::Value(_) | Side::Nothing => None,
     }
 }

@@ -36,6 +36,9 @@ fn told(alloc: Global, billionths: &str) -> Came {
     let number = literal(billionths)?;
     let whole = number.value().to_string(alloc)?;
     let billionths = number.billionths();
+    if number.whole_billionths() != (billionths % 1_000_000_000 == 0).then_some(billionths) {
+        return Err(Fail::new("a fraction is lost"));
+    }
     let may_be = Literal::Number(number).is_value();
     Ok(format!(in alloc; "{billionths}, {may_be}, {whole}")?)
 }
