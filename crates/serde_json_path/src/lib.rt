@@ -66,8 +66,9 @@ pub use serde_json_path_core::{
     AtMostOneError, ExactlyOneError, LocatedNode, LocatedNodeList, LocatedNodes, Locations,
     NodeList, Nodes, NormalizedPath, PathElement, PathElements, QueryError, Sink, Taken, Walk,
     functions, law_append, law_before_is_asymmetric, law_descendants_in_document_order,
-    law_each_document_has_a_height, law_equality_is_an_equivalence, law_less_or_equal_is_either,
-    law_not_equal_negates_equal, law_order_is_total, law_order_of_numbers, law_result_exists,
+    law_each_document_has_a_height, law_equality_is_an_equivalence, law_equality_of_numbers,
+    law_integers_keep_their_order, law_less_or_equal_is_either, law_not_equal_negates_equal,
+    law_numbers_are_finite, law_order_is_total, law_order_of_numbers, law_result_exists,
     law_result_is_unique, law_singular_query_selects_at_most_one, law_texts_tell_locations,
 };
 pub use serde_json_path_parser::{

@@ -35,7 +35,10 @@ pub use serde_json_path_nodes::{
     AtMostOneError, ExactlyOneError, LocatedNode, LocatedNodeList, LocatedNodes, Locations,
     NodeList, Nodes, NormalizedPath, PathElement, PathElements, law_texts_tell_locations,
 };
-pub use serde_json_path_numbers::law_order_of_numbers;
+pub use serde_json_path_numbers::{
+    law_equality_of_numbers, law_integers_keep_their_order, law_numbers_are_finite,
+    law_order_of_numbers,
+};
 pub use serde_json_path_syntax::{
     Checked, ComparisonOperator, Literal, NumberLiteral, Part, Parts, QueryKind, SegmentKind,
     Slice, SyntaxBuilder,

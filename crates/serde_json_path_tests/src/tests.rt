@@ -21,6 +21,7 @@ mod messages;
 mod names;
 mod nesting;
 mod normal_paths;
+mod number_laws;
 mod numbers;
 mod operators;
 mod paths;
