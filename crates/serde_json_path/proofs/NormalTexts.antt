@@ -85,5 +85,5 @@ normal_accepted signature steps proper written =
       reads = (x.characters, x.is_so, text);
       from_root = refl;
       typed = (segments_plain signature steps).0;
-      shallow = rw (segments_plain signature steps).1 (omega arith);
+      within_depth = rw (segments_plain signature steps).1 (omega arith);
     }

@@ -39,7 +39,7 @@ pub record IsNormal (location : List Step) : Type 0 where
   pub accepted : (signature : List ℕ → Option Signature) → IsAccepted signature (chars (normal location)) (tree_to location)
   pub only : (signature : List ℕ → Option Signature) (q : Query) → IsAccepted signature (chars (normal location)) q → q ≡ tree_to location
   -- that tree calls nothing, and nests nothing
-  pub silent : calls_of (tree_to location) ≡ []
+  pub no_calls : calls_of (tree_to location) ≡ []
   pub flat : depth (tree_to location) ≡ 0
   -- and its result is the node at the location alone
   pub selects : (F : FunctionSet) (top v : Data) → at top location ≡ Some v

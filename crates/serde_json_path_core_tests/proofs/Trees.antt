@@ -15,11 +15,11 @@ pub finished_without_calls : (calls : List (List ℕ × Signature)) (segs : tree
     → calls_in_segments segs ≡ []
     → segments_depth segs ≤ deepest
     → MayFinish calls (tree.query tree.root segs)
-finished_without_calls calls segs none typed silent shallow =
+finished_without_calls calls segs none typed silent within_depth =
     let finished : MayFinish [] (tree.query tree.root segs) = record {
       rooted = refl;
       typed = typed (signature_in []);
-      shallow = shallow;
+      within_depth = within_depth;
       called = λ f. (λ i. absurd i, λ i. absurd (subst (λ (cs : List tree.Call). IsIn f (names_of cs)) silent i));
       agreed = λ u i. absurd i;
     } in

@@ -33,11 +33,11 @@ operator_spells greater_or_equal = spell_ascii (codes ">=") (omega arith, (omega
 
 -- the characters of a function's name are ASCII
 function_name_ascii : (t : List ℕ) → AllByRecursion (λ c. is_function_char c ≡ true) t → AllByRecursion (λ c. c < 128) t
-function_name_ascii [] each = tt
-function_name_ascii (c ∷ t) each = (let first = each.0 in grind (arith, nat_tests, first), function_name_ascii t each.1)
+function_name_ascii [] passes = tt
+function_name_ascii (c ∷ t) passes = (let first = passes.0 in grind (arith, nat_tests, first), function_name_ascii t passes.1)
 
 function_name_spells : (t bytes : List ℕ) → IsFunctionName t bytes → Spells bytes t
-function_name_spells t bytes is = rw is.bytes_of (spell_ascii t (function_name_ascii t is.each))
+function_name_spells t bytes is = rw is.bytes_of (spell_ascii t (function_name_ascii t is.passes))
 
 -- ---- parts joined
 

@@ -71,8 +71,8 @@ module _ (signature : List ℕ → Option Signature) (begun grown whole : Syntax
 
   -- a query of these segments may be finished, where it is well-typed and not too deep
   pub finishes : IsTyped signature (query root segs) → depth (query root segs) ≤ deepest → MayFinish (calls_in whole) (query root segs)
-  finishes typed shallow =
-      may_finish signature (calls_in whole) (query root segs) refl typed shallow
+  finishes typed within_depth =
+      may_finish signature (calls_in whole) (query root segs) refl typed within_depth
       ((grows_kept grows keeps).names ∙ ap (λ us. names_in us ++ names_of (calls_in_segments segs)) silent) all_declared
 
 -- no part stands for no segment, and for nothing else

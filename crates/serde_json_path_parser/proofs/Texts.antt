@@ -167,7 +167,7 @@ pub first_gathered : (p : ℕ → Bool) (text : List ℕ) (index first : ℕ) (p
 first_gathered p text index first part low l u is fits e =
     let s = step_one text index first l u is low in
     let one : (index + 1) - index ≡ 1 = omega arith in
-    record { within = s.within; utf8 = s.utf8; taken = rw (one, e) s.left; each = rw (one, e) (fits, tt) }
+    record { within = s.within; utf8 = s.utf8; taken = rw (one, e) s.left; passes = rw (one, e) (fits, tt) }
 
 -- one character more
 pub more_gathered : (p : ℕ → Bool) (text : List ℕ) (index at c : ℕ) (part : List ℕ) → c < 128 → index ≤ at → at - index < length part → slice_get text at ≡ Some c
@@ -180,7 +180,7 @@ more_gathered p text index at c part low le l is fits h =
       within = s.within;
       utf8 = s.utf8;
       taken = rw count (h.taken ∙ ap (λ (r : List ℕ). take (at - index) part ++ r) s.left ∙ sym (append_assoc (take (at - index) part) (c ∷ []) _) ∙ ap (λ (r : List ℕ). r ++ chars (drop (at + 1) text)) (sym e));
-      each = rw (count, e) (all_more p (take (at - index) part) c h.each fits);
+      passes = rw (count, e) (all_more p (take (at - index) part) c h.passes fits);
     }
 
 -- a text with a part after it, and then the rest of the name
@@ -197,11 +197,11 @@ front_part cs part rest text h e =
 -- the same of a stretch
 pub name_stretched : (cs rest old new : List ℕ) (ok : Bool) → ok ≡ true → Stretched is_ascii_name_char cs rest old new ok
     → new ++ encode_utf8_all (front is_name_char rest) ≡ old ++ encode_utf8_all (front is_name_char cs)
-name_stretched cs rest old new ok done s = ap (λ (l : List ℕ). l ++ encode_utf8_all (front is_name_char rest)) (s.text done) ∙ front_part cs s.part rest old s.each s.taken
+name_stretched cs rest old new ok done s = ap (λ (l : List ℕ). l ++ encode_utf8_all (front is_name_char rest)) (s.text done) ∙ front_part cs s.part rest old s.passes s.taken
 
 -- what is after a name stays as a part of it is taken
 pub past_stretched : (cs rest old new : List ℕ) (ok : Bool) → Stretched is_ascii_name_char cs rest old new ok → past is_name_char rest ≡ past is_name_char cs
-past_stretched cs rest old new ok s = sym (ap (past is_name_char) s.taken ∙ past_through is_name_char s.part rest (all_in_name s.part s.each))
+past_stretched cs rest old new ok s = sym (ap (past is_name_char) s.taken ∙ past_through is_name_char s.part rest (all_in_name s.part s.passes))
 
 -- what is gathered is a stretch
 pub stretched : (p : ℕ → Bool) (text : List ℕ) (index end : ℕ) (part old new : List ℕ) (ok : Bool) → index < end → end - index ≤ length part → Gathered p text index end part
@@ -209,7 +209,7 @@ pub stretched : (p : ℕ → Bool) (text : List ℕ) (index end : ℕ) (part old
 stretched p text index end part old new ok some long h is = record {
   part = take (end - index) part;
   some = omega (arith, length-take-le (end - index) part long);
-  each = h.each;
+  passes = h.passes;
   taken = h.taken;
   text = λ e. is ∙ ap (λ b. if b then old ++ take (end - index) part else old) e;
 }

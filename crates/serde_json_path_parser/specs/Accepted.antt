@@ -9,4 +9,4 @@ pub record IsAccepted (signature : List ℕ → Option Signature) (text : List �
   pub reads : Reads q text
   pub from_root : query_kind q ≡ root
   pub typed : IsTyped signature q
-  pub shallow : depth q ≤ deepest
+  pub within_depth : depth q ≤ deepest

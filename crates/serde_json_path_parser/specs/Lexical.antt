@@ -73,7 +73,7 @@ is_name_char c = is_name_first c || is_digit c
 -- the text is a member name of these bytes
 pub record IsName (text bytes : List ℕ) : Type 0 where
   pub first : begins is_name_first text ≡ true
-  pub each : AllPass is_name_char text
+  pub passes : AllPass is_name_char text
   pub bytes_of : bytes ≡ encode_utf8_all text
 
 -- ---- function names (section 2.4)
@@ -86,7 +86,7 @@ is_function_char c = is_small_letter c || c ∈ "_" || is_digit c
 
 pub record IsFunctionName (text bytes : List ℕ) : Type 0 where
   pub first : begins is_small_letter text ≡ true
-  pub each : AllPass is_function_char text
+  pub passes : AllPass is_function_char text
   pub bytes_of : bytes ≡ text
 
 -- ---- integers (section 2.3.3.1)
@@ -99,7 +99,7 @@ value_from n (d ∷ ds) = value_from ((n * 10) + (d - code "0")) ds
 -- `0`, or digits that do not begin with it
 pub record IsDecimal (text : List ℕ) (n : ℕ) : Type 0 where
   pub first : begins is_digit text ≡ true
-  pub each : AllPass is_digit text
+  pub passes : AllPass is_digit text
   pub plain : (text ≡ codes "0") ⊎ (is_at "0" text ≡ false)
   pub value_of : n ≡ value_from 0 text
 

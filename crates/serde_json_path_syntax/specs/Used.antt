@@ -46,6 +46,6 @@ deepest = 128
 pub record MayFinish (calls : List (List ℕ × Signature)) (q : Query) : Type 0 where
   pub rooted : kind_of q ≡ root
   pub typed : IsTyped (signature_in calls) q
-  pub shallow : depth q ≤ deepest
+  pub within_depth : depth q ≤ deepest
   pub called : AreNamesOf calls q
   pub agreed : AreDeclared (signature_in calls) calls

@@ -215,7 +215,7 @@ impl SyntaxBuilder {
         self.push(Node::Basic(Basic::Test { negated, operand }))
     }
 
-    /// A literal as an operand.
+    /// A literal as an operand (RFC 9535, section 2.3.5.1).
     pub fn literal(&mut self, literal: Literal) -> Result<Part, AllocError>
         ensures made { IfOk result (λ part.
             IsPart self.new part (an_operand (tree.literal (literal_view literal)))) }
@@ -224,7 +224,7 @@ impl SyntaxBuilder {
         self.push(Node::Operand(Operand::Literal(literal.held())))
     }
 
-    /// A query as an operand.
+    /// A query as an operand (RFC 9535, section 2.3.5.1).
     pub fn queried(&mut self, query: Part) -> Result<Part, AllocError>
         requires { (q : tree.Query) × IsPart self.old query (a_query q) }
         ensures made { IfOk result (λ part. (q : tree.Query) → IsPart self.old query (a_query q)
@@ -244,7 +244,7 @@ impl SyntaxBuilder {
         is_singular(&self.arena, query)
     }
 
-    /// A call as an operand, as `length(@.a)`.
+    /// A call as an operand, as `length(@.a)` (RFC 9535, section 2.4).
     pub fn called(&mut self, call: Part) -> Result<Part, AllocError>
         requires { (c : tree.Call) × IsPart self.old call (a_call c) }
         ensures made { IfOk result (λ part. (c : tree.Call) → IsPart self.old call (a_call c)

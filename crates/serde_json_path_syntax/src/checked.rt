@@ -26,11 +26,11 @@ pub struct Checked {
     arena: Arena,
     query: Option<Part>,
     ghost within: { ForSome query (λ part. part.number < length arena.nodes.items) },
-    ghost is: { ForSome query (λ part. IsOfKind is_query arena.nodes.items part) },
+    ghost kind: { ForSome query (λ part. IsOfKind is_query arena.nodes.items part) },
     pub ghost rooted: { kind_of (query_at arena.nodes.items query) ≡ root },
     pub ghost typed: { ∥ IsTyped (signature_in (each_once (calls_among arena.nodes.items)))
         (query_at arena.nodes.items query) ∥₁ },
-    ghost shallow: { depth (query_at arena.nodes.items query) ≤ deepest },
+    ghost within_depth: { depth (query_at arena.nodes.items query) ≤ deepest },
     pub ghost called: { ∥ AreCalled (each_once (calls_among arena.nodes.items))
         (query_at arena.nodes.items query) ∥₁ },
     ghost agreed: { AreDeclared (signature_in (calls_among arena.nodes.items))

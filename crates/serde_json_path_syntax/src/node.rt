@@ -59,20 +59,27 @@ pub enum Selector {
 /// An operand of `&&`.
 #[derive(Clone, Copy)]
 pub enum Basic {
-    /// A logical expression in parentheses, with `!` before them where it is negated.
+    /// A logical expression in parentheses.
     Paren {
+        /// Whether `!` stands before the parentheses.
         negated: bool,
+        /// The expression.
         inner: Part,
     },
     /// A comparison of two operands.
     Relation {
+        /// The operand before the operator.
         left: Part,
+        /// The operator.
         operator: ComparisonOperator,
+        /// The operand after it.
         right: Part,
     },
-    /// A test of an operand, with `!` before it where it is negated.
+    /// A test of an operand.
     Test {
+        /// Whether `!` stands before the operand.
         negated: bool,
+        /// The operand: a query or a call.
         operand: Part,
     },
 }

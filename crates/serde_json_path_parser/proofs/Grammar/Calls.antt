@@ -313,31 +313,31 @@ module _ (signature : List ℕ → Option Signature) (n : ℕ) (deeper : Deeper)
 
     arguments_again : (start : List ℕ) (kinds : List Kind) (a : Argument) (more : Arguments) (t others : List ℕ) → AreTypedArguments signature (argument a more) kinds → arguments_depth (argument a more) ≤ n
         → ReadsArgument a t → ReadMoreArguments more others → read_some_arguments signature deeper (byte_count start) kinds (t ++ (others ++ closing)) ≡ Ok (argument a more, past_blanks rest)
-    arguments_again start [] a more t others typed shallow is are = absurd typed
-    arguments_again start (kind ∷ kinds) a no_arguments t others typed shallow is are =
+    arguments_again start [] a more t others typed within_depth is are = absurd typed
+    arguments_again start (kind ∷ kinds) a no_arguments t others typed within_depth is are =
         let read : read_argument signature deeper (t ++ (others ++ closing)) ≡ Ok (a, 41 ∷ rest) =
-        argument_again signature n deeper laws t a (others ++ closing) (argument_good signature n a kind typed.0 (omega (arith, shallow)), is) (follows no_arguments others are)
+        argument_again signature n deeper laws t a (others ++ closing) (argument_good signature n a kind typed.0 (omega (arith, within_depth)), is) (follows no_arguments others are)
         ∙ ap (λ (l : List ℕ). Ok (a, l)) (ap (λ (l : List ℕ). past_blanks (l ++ closing)) are ∙ at_closing) in
         rw (read, typed_suits signature a kind typed.0, typed.1) refl
-    arguments_again start (kind ∷ kinds) a (argument b more) t others typed shallow is (s, c, d, (j, i, blanks, after, sign), next, are, e) =
+    arguments_again start (kind ∷ kinds) a (argument b more) t others typed within_depth is (s, c, d, (j, i, blanks, after, sign), next, are, e) =
         let read : read_argument signature deeper (t ++ (others ++ closing)) ≡ Ok (a, 44 ∷ (i ++ (c ++ (d ++ closing)))) =
-        argument_again signature n deeper laws t a (others ++ closing) (argument_good signature n a kind typed.0 (omega (arith, shallow)), is) (follows (argument b more) others (s, c, d, (j, i, blanks, after, sign), next, are, e))
+        argument_again signature n deeper laws t a (others ++ closing) (argument_good signature n a kind typed.0 (omega (arith, within_depth)), is) (follows (argument b more) others (s, c, d, (j, i, blanks, after, sign), next, are, e))
         ∙ ap (λ (l : List ℕ). Ok (a, l)) (at_sign (codes ",") others s j i c d closing (λ cs. refl) blanks sign e) in
         let onward : past_blanks (i ++ (c ++ (d ++ closing))) ≡ c ++ (d ++ closing) = past_run is_blank i (c ++ (d ++ closing)) after (no_blank_begins (c ++ (d ++ closing)) (argument_begins signature n deeper laws c b (d ++ closing) next)) in
-        rw (read, typed_suits signature a kind typed.0, onward, arguments_again start kinds b more c d typed.1 (omega (arith, shallow)) next are) refl
+        rw (read, typed_suits signature a kind typed.0, onward, arguments_again start kinds b more c d typed.1 (omega (arith, within_depth)) next are) refl
 
     -- after `(` and blanks
     parameters_again : (start : List ℕ) (kinds : List Kind) (args : Arguments) (t : List ℕ) → AreTypedArguments signature args kinds → arguments_depth args ≤ n → ReadArguments args t
         → read_arguments signature deeper (byte_count start) kinds (past_blanks (t ++ closing)) ≡ Ok (args, past_blanks rest)
-    parameters_again start kinds no_arguments t typed shallow is =
+    parameters_again start kinds no_arguments t typed within_depth is =
         let here : past_blanks (t ++ closing) ≡ 41 ∷ rest = ap (λ (l : List ℕ). past_blanks (l ++ closing)) is ∙ at_closing in
         rw (here, typed) refl
-    parameters_again start kinds (argument a more) t typed shallow (b, others, is, are, e) =
+    parameters_again start kinds (argument a more) t typed within_depth (b, others, is, are, e) =
         let whole : t ++ closing ≡ b ++ (others ++ closing) = ap (λ (l : List ℕ). l ++ closing) e ∙ append_assoc b others closing in
         let begun : begins begins_expression (b ++ (others ++ closing)) ≡ true = argument_begins signature n deeper laws b a (others ++ closing) is in
         let here : past_blanks (t ++ closing) ≡ b ++ (others ++ closing) = ap past_blanks whole ∙ past_run is_blank [] (b ++ (others ++ closing)) tt (no_blank_begins (b ++ (others ++ closing)) begun) in
         let closes_not : is_at ")" (b ++ (others ++ closing)) ≡ false = begins_differs begins_expression 41 (b ++ (others ++ closing)) refl begun in
-        rw (here, closes_not) (arguments_again start kinds a more b others typed shallow is are)
+        rw (here, closes_not) (arguments_again start kinds a more b others typed within_depth is are)
 
   -- ---- calls
 

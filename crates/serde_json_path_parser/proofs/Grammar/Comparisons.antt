@@ -11,7 +11,7 @@ use Rattle.serde_json_path_parser.proofs.Grammar.Strings.{string_outcome, string
 
 -- a word that begins with a letter is a function name
 word_is_name : (cs : List ℕ) → begins is_small_letter cs ≡ true → IsFunctionName (word cs) (word cs)
-word_is_name cs e = record { first = front_begins is_function_char is_small_letter cs (λ c h. rw h refl) e; each = front_each is_function_char cs; bytes_of = refl }
+word_is_name cs e = record { first = front_begins is_function_char is_small_letter cs (λ c h. rw h refl) e; passes = front_each is_function_char cs; bytes_of = refl }
 
 module _ (signature : List ℕ → Option Signature) (n : ℕ) (deeper : Deeper) (laws : DeeperLaws signature n deeper) where
   -- ---- what a reading gives
@@ -77,10 +77,10 @@ ends_no_name c e = let capital : (nat_le 65 c && nat_le c 90) ≡ false = grind 
 
 -- a word is not a call where no `(` follows
 word_alone : (w rest : List ℕ) → AllPass is_function_char w → Follows ends_operand rest → (word (w ++ rest) ≡ w) × (past_word (w ++ rest) ≡ rest) × (is_at "(" (past_word (w ++ rest)) ≡ false)
-word_alone w rest each follows =
+word_alone w rest passes follows =
     let none = none_after is_function_char rest (λ c e. grind (arith, e)) (λ c e. rw (ends_no_letter c e, ends_no_digit c e) (grind (arith, e))) follows in
-    let passed : past_word (w ++ rest) ≡ rest = past_run is_function_char w rest each none in
-    (front_all is_function_char w rest each none, passed, ap (is_at "(") passed ∙ none_after (λ c. c == 40) rest (λ c e. grind (arith, e)) (λ c e. grind (arith, e)) follows)
+    let passed : past_word (w ++ rest) ≡ rest = past_run is_function_char w rest passes none in
+    (front_all is_function_char w rest passes none, passed, ap (is_at "(") passed ∙ none_after (λ c. c == 40) rest (λ c e. grind (arith, e)) (λ c e. grind (arith, e)) follows)
 
 module _ (signature : List ℕ → Option Signature) (n : ℕ) (deeper : Deeper) (laws : DeeperLaws signature n deeper) where
   -- ---- queries and calls
@@ -97,8 +97,8 @@ module _ (signature : List ℕ → Option Signature) (n : ℕ) (deeper : Deeper)
   named_call_again t (call f args) rest good (m, j, a, k, name, before, are, closing, e) =
       let inside = 40 ∷ ((j ++ (a ++ (k ++ 41 ∷ []))) ++ rest) in
       let first : begins is_small_letter (m ++ inside) ≡ true = begins_front is_small_letter true m inside (some_begun is_small_letter m name.first) name.first in
-      let after_it : past_word (m ++ inside) ≡ inside = past_run is_function_char m inside name.each refl in
-      let its_word : word (m ++ inside) ≡ f = front_all is_function_char m inside name.each refl ∙ sym name.bytes_of in
+      let after_it : past_word (m ++ inside) ≡ inside = past_run is_function_char m inside name.passes refl in
+      let its_word : word (m ++ inside) ≡ f = front_all is_function_char m inside name.passes refl ∙ sym name.bytes_of in
       let read = laws.call_again (m ++ inside) f args j a k rest good before are closing in
       rw (e, append_assoc m (40 ∷ (j ++ (a ++ (k ++ 41 ∷ [])))) rest) (rw (first, after_it) refl, rw (read_named_call, its_word, after_it) read)
 
@@ -115,8 +115,8 @@ module _ (signature : List ℕ → Option Signature) (n : ℕ) (deeper : Deeper)
 
   word_again : (w rest : List ℕ) (l : Literal) → AllPass is_function_char w → begins is_small_letter (w ++ rest) ≡ true
       → ((cs : List ℕ) → word cs ≡ w → read_literal_word cs ≡ Ok (literal l, past_blanks (past_word cs))) → Follows ends_operand rest → read (w ++ rest) ≡ Ok (literal l, past_blanks rest)
-  word_again w rest l each letter at follows =
-      let h = word_alone w rest each follows in
+  word_again w rest l passes letter at follows =
+      let h = word_alone w rest passes follows in
       at_letter (w ++ rest) letter ∙ rw (letter, h.2) (at (w ++ rest) h.0) ∙ ap (λ (after : List ℕ). Ok (literal l, past_blanks after)) h.1
 
   quoted_again : (quote : ℕ) (cs bytes rest : List ℕ) → IsQuote quote → read_string quote cs ≡ Ok (bytes, rest) → read (quote ∷ cs) ≡ Ok (literal (text bytes), past_blanks rest)

@@ -22,7 +22,7 @@ decimal_read cs first = record {
   text = front is_digit cs;
   is_so = record {
     first = front_begins is_digit is_digit cs (λ c d. d) (begins_where is_first_digit is_digit true cs first_is_digit first);
-    each = front_each is_digit cs;
+    passes = front_each is_digit cs;
     plain = inr (front_begins_not is_digit (λ c. c == 48) cs (begins_differs is_first_digit 48 cs refl first));
     value_of = refl;
   };
@@ -47,7 +47,7 @@ positive_is : (text : List ℕ) (n : ℕ) → IsDecimal text n → n ≤ largest
 positive_is text n d most = (d, (omega (arith, ints, most), omega (arith, ints, most)))
 
 pub zero_is : IsDecimal (48 ∷ []) 0
-zero_is = record { first = refl; each = (refl, tt); plain = inl refl; value_of = refl }
+zero_is = record { first = refl; passes = (refl, tt); plain = inl refl; value_of = refl }
 
 pub int_outcome : (cs : List ℕ) → Outcome IsInt Plain cs (read_int cs)
 int_outcome cs =
@@ -60,7 +60,7 @@ int_outcome cs =
 digits_again : (start t : List ℕ) (n : ℕ) (rest : List ℕ) → IsDecimal t n → n ≤ largest → begins is_digit rest ≡ false → read_digits (byte_count start) (t ++ rest) ≡ Ok (n, rest)
 digits_again start t n rest d most e =
     let in_range : nat_le (value_from 0 t) largest ≡ true = grind (arith, most, d.value_of) in
-    rw (front_all is_digit t rest d.each e, past_run is_digit t rest d.each e, in_range) (ap (λ (k : ℕ). Ok (k, rest)) (sym d.value_of))
+    rw (front_all is_digit t rest d.passes e, past_run is_digit t rest d.passes e, in_range) (ap (λ (k : ℕ). Ok (k, rest)) (sym d.value_of))
 
 pub first_digit : (t rest : List ℕ) → begins is_digit t ≡ true → is_at "0" t ≡ false → begins is_first_digit (t ++ rest) ≡ true
 first_digit [] rest d z = absurd cc
@@ -155,12 +155,12 @@ whole_again start t n rest d e = elim d.plain [
       ap (λ (l : List ℕ). read_whole (byte_count start) (l ++ rest)) z ∙ ap (λ (k : ℕ). Ok (k, rest)) (sym none)
   | inr z ↦
       let first = first_digit t rest d.first z in
-      rw (begins_differs is_first_digit 48 (t ++ rest) refl first, first, front_all is_digit t rest d.each e, past_run is_digit t rest d.each e) (ap (λ (k : ℕ). Ok (k, rest)) (sym d.value_of))
+      rw (begins_differs is_first_digit 48 (t ++ rest) refl first, first, front_all is_digit t rest d.passes e, past_run is_digit t rest d.passes e) (ap (λ (k : ℕ). Ok (k, rest)) (sym d.value_of))
 ]
 
 digits_begin : (digits rest : List ℕ) → 1 ≤ length digits → AllPass is_digit digits → begins is_digit (digits ++ rest) ≡ true
-digits_begin [] rest some each = absurd (omega (arith, some))
-digits_begin (c ∷ digits) rest some each = each.0
+digits_begin [] rest some passes = absurd (omega (arith, some))
+digits_begin (c ∷ digits) rest some passes = passes.0
 
 fraction_again : (start t : List ℕ) (n : ℕ) (rest : List ℕ) → IsFraction t n → begins goes_on rest ≡ false → read_fraction (byte_count start) (t ++ rest) ≡ Ok (n, rest)
 unfolding read_fraction
@@ -235,20 +235,20 @@ counted cs rest before after e b a =
 
 -- each digit is at most nine
 value_below : (n : ℕ) (ds : List ℕ) → AllPass is_digit ds → value_from n ds < (n + 1) * 10 ^ length ds
-value_below n [] each = omega arith
-value_below n (d ∷ ds) each =
-    let digit = each.0 in
+value_below n [] passes = omega arith
+value_below n (d ∷ ds) passes =
+    let digit = passes.0 in
     let nine : d - 48 ≤ 9 = grind (arith, digit) in
     let next : n * 10 + (d - 48) + 1 ≤ (n + 1) * 10 = omega (arith, nine) in
-    let below = value_below (n * 10 + (d - 48)) ds each.1 in
+    let below = value_below (n * 10 + (d - 48)) ds passes.1 in
     let grown = mul-le-mul_right (10 ^ length ds) next in
     let more : 10 ^ suc (length ds) ≡ 10 * 10 ^ length ds = pow-succ' 10 (length ds) in
     rw more (omega (arith, below, grown))
 
 -- a fraction is less than one
 pub fraction_below : (ds : List ℕ) → AllPass is_digit ds → length ds ≤ 9 → fraction_of ds < 1000000000
-fraction_below ds each few =
-    let below = value_below 0 ds each in
+fraction_below ds passes few =
+    let below = value_below 0 ds passes in
     let some : 0 < 10 ^ (9 - length ds) = one-le-pow (9 - length ds) 10 (omega arith) in
     let grown : value_from 0 ds * 10 ^ (9 - length ds) < 10 ^ length ds * 10 ^ (9 - length ds) = mul-lt-mul_of_pos_right (omega (arith, below)) some in
     let nine : length ds + (9 - length ds) ≡ 9 = omega (arith, few) in
@@ -256,16 +256,16 @@ fraction_below ds each few =
     omega (arith, grown, whole)
 
 value_few : (ds : List ℕ) → AllPass is_digit ds → length ds ≤ 9 → value_from 0 ds < 1000000000
-value_few ds each few =
+value_few ds passes few =
     let some : 0 < 10 ^ (9 - length ds) = one-le-pow (9 - length ds) 10 (omega arith) in
-    omega (arith, fraction_below ds each few, le-mul_of_pos_right (value_from 0 ds) some)
+    omega (arith, fraction_below ds passes few, le-mul_of_pos_right (value_from 0 ds) some)
 
 -- a fraction by the number of its digits and by how many they are
 pub fraction_is : (ds : List ℕ) (value power count : ℕ) → AllPass is_digit ds → count ≡ length ds → count ≤ 9 → value ≡ min (value_from 0 ds) (2 ^ 128 - 1) → power ≡ 10 ^ (9 - count)
     → value * power ≡ fraction_of ds
-fraction_is ds value power count each c few v p =
+fraction_is ds value power count passes c few v p =
     let within : length ds ≤ 9 = omega (arith, c, few) in
-    let same : value ≡ value_from 0 ds = omega (arith, v, value_few ds each within) in
+    let same : value ≡ value_from 0 ds = omega (arith, v, value_few ds passes within) in
     let scale : power ≡ 10 ^ (9 - length ds) = p ∙ ap (λ (k : ℕ). 10 ^ (9 - k)) c in
     rw (same, scale) refl
 

@@ -104,13 +104,13 @@ boundary text before rest left u split is =
 
 -- what is read is accepted
 accepted : (signature : List ℕ → Option Signature) (cs a : List ℕ) (segs : Segments) → cs ≡ 36 ∷ a → AreSegmentsText signature deepest a segs → IsAccepted signature cs (query root segs)
-accepted signature cs a segs e h = record { reads = (a, h.1, e); from_root = refl; typed = h.0.0; shallow = h.0.1 }
+accepted signature cs a segs e h = record { reads = (a, h.1, e); from_root = refl; typed = h.0.0; within_depth = h.0.1 }
 
 -- an accepted tree is what is read
 accepted_read : (signature : List ℕ → Option Signature) (cs : List ℕ) (q : Query) → IsAccepted signature cs q
     → (segs : Segments) × (q ≡ query root segs) × (read_path signature cs ≡ Ok segs)
 accepted_read signature cs (query current segs) h = let e : current ≡ root = h.from_root in absurd cc
-accepted_read signature cs (query root segs) h = let r = h.reads in (segs, refl, path_again signature cs r.0 segs ((h.typed, h.shallow), r.1) r.2)
+accepted_read signature cs (query root segs) h = let r = h.reads in (segs, refl, path_again signature cs r.0 segs ((h.typed, h.within_depth), r.1) r.2)
 
 -- a text is accepted with one tree at most
 pub one_tree_at_most : OneTreeAtMost

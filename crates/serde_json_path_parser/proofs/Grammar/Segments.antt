@@ -130,12 +130,12 @@ module _ (read_filter : List ℕ → Parsed Selector) where
 name_outcome : (at : Context) (cs : List ℕ) → Outcome IsName Plain cs (read_name at cs)
 name_outcome at cs = guarded BadMemberName at refl (λ e. gives _ (record {
   text = front is_name_char cs;
-  is_so = record { first = front_begins is_name_char is_name_first cs (λ c h. rw h refl) e; each = front_each is_name_char cs; bytes_of = refl };
+  is_so = record { first = front_begins is_name_char is_name_first cs (λ c h. rw h refl) e; passes = front_each is_name_char cs; bytes_of = refl };
   split = whole is_name_char cs;
 }))
 
 name_again : (here : Context) (t n rest : List ℕ) → IsName t n → begins is_name_char rest ≡ false → read_name here (t ++ rest) ≡ Ok (n, rest)
-name_again here t n rest h e = rw (begins_front is_name_first true t rest (some_begun is_name_first t h.first) h.first, front_all is_name_char t rest h.each e, past_run is_name_char t rest h.each e, ← h.bytes_of) refl
+name_again here t n rest h e = rw (begins_front is_name_first true t rest (some_begun is_name_first t h.first) h.first, front_all is_name_char t rest h.passes e, past_run is_name_char t rest h.passes e, ← h.bytes_of) refl
 
 -- a name begins with no character that may not begin it
 name_begins_not : (k : ℕ) (t n rest : List ℕ) → is_name_first k ≡ false → IsName t n → begins (λ c. c == k) (t ++ rest) ≡ false

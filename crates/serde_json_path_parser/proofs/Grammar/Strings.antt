@@ -188,19 +188,19 @@ module _ (quote : ℕ) (is : IsQuote quote) where
   -- the same over characters that stand for themselves
   over_plain : (part before rest : List ℕ) (total : Parsed (List ℕ)) → AllPass (is_ascii_plain quote) part
       → with_text quote before (pieces (part ++ rest)) ≡ total → with_text quote (before ++ part) (pieces rest) ≡ total
-  over_plain [] before rest total each h = ap (λ (l : List ℕ). with_text quote l (pieces rest)) (append-nil before) ∙ h
-  over_plain (c ∷ part) before rest total each h =
-      let is_one = (ascii_that (is_plain quote) c each.0).1 in
+  over_plain [] before rest total passes h = ap (λ (l : List ℕ). with_text quote l (pieces rest)) (append-nil before) ∙ h
+  over_plain (c ∷ part) before rest total passes h =
+      let is_one = (ascii_that (is_plain quote) c passes.0).1 in
       let inside : is_inside quote c ≡ true = (and_parts (nat_le 0x20 c && not (c ∈ "\\")) (is_inside quote c) is_one).1 in
       let one = goes_on before c (c ∷ (part ++ rest)) (part ++ rest) total inside (piece_again quote is (c ∷ []) c (part ++ rest) (plain c is_one)) h in
-      let ascii : encode_utf8 c ≡ c ∷ [] = encode_ascii c ((ascii_that (is_plain quote) c each.0).0) in
-      let more = over_plain part (before ++ c ∷ []) rest total each.1 (subst (λ (l : List ℕ). with_text quote (before ++ l) (pieces (part ++ rest)) ≡ total) ascii one) in
+      let ascii : encode_utf8 c ≡ c ∷ [] = encode_ascii c ((ascii_that (is_plain quote) c passes.0).0) in
+      let more = over_plain part (before ++ c ∷ []) rest total passes.1 (subst (λ (l : List ℕ). with_text quote (before ++ l) (pieces (part ++ rest)) ≡ total) ascii one) in
       ap (λ (l : List ℕ). with_text quote l (pieces rest)) (sym (append_assoc before (c ∷ []) part)) ∙ more
 
   pub goes_on_far : (before cs rest new : List ℕ) (total : Parsed (List ℕ)) (ok : Bool) → ok ≡ true → Stretched (is_ascii_plain quote) cs rest before new ok
       → with_text quote before (pieces cs) ≡ total → with_text quote new (pieces rest) ≡ total
   goes_on_far before cs rest new total ok done s h =
-      ap (λ (l : List ℕ). with_text quote l (pieces rest)) (s.text done) ∙ over_plain s.part before rest total s.each (sym (ap (λ (l : List ℕ). with_text quote before (pieces l)) s.taken) ∙ h)
+      ap (λ (l : List ℕ). with_text quote l (pieces rest)) (s.text done) ∙ over_plain s.part before rest total s.passes (sym (ap (λ (l : List ℕ). with_text quote before (pieces l)) s.taken) ∙ h)
 
   pub is_done : (before cs : List ℕ) (total : Parsed (List ℕ)) → begins (is_inside quote) cs ≡ false → with_text quote before (pieces cs) ≡ total
       → total ≡ cond (begins (λ c. c == quote) cs) (Ok (before, drop 1 cs)) (Err (refusal ExpectedEndingQuote LongHand cs))

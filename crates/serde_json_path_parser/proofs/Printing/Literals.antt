@@ -41,8 +41,8 @@ digits_numeral n some =
     let digits = digits_of 10 n in
     let below = all_below_base_digits_of 10 n (omega arith) in
     let first = begins_digit digits below (first_digits_of 10 n (omega arith) some) in
-    let each = each_digit digits below in
-    (record { first = first.0; each = each.0; plain = inr first.1; value_of = sym (digits_value 0 digits ∙ number_digits_of 10 n (omega arith)) }, spell_ascii _ each.1)
+    let passes = each_digit digits below in
+    (record { first = first.0; passes = passes.0; plain = inr first.1; value_of = sym (digits_value 0 digits ∙ number_digits_of 10 n (omega arith)) }, spell_ascii _ passes.1)
 
 -- a position as it is printed in a location
 in_decimal_is : (n : ℕ) → IsNumeral n (in_decimal n)
@@ -107,12 +107,12 @@ one_less places rest few h =
 -- the digits that are printed of it, and the number that they write after those of n
 record Writes (n places rest : ℕ) (digits : List ℕ) : Type 0 where
   few : length digits ≤ places
-  each : AllPass is_digit digits
+  passes : AllPass is_digit digits
   low : AllByRecursion (λ c. c < 128) digits
   value : value_from n digits * 10 ^ (9 - length digits) ≡ n * 1000000000 + rest
 
 nothing_written : (n places rest : ℕ) → rest ≡ 0 → Writes n places rest []
-nothing_written n places rest none = record { few = omega arith; each = tt; low = tt; value = omega (arith, none) }
+nothing_written n places rest none = record { few = omega arith; passes = tt; low = tt; value = omega (arith, none) }
 
 shifted : (value power ten n rest : ℕ) → ten ≡ 10 * power → value * ten ≡ (n * 10 + rest / 100000000) * 1000000000 + (rest % 100000000) * 10
     → value * power ≡ n * 1000000000 + rest
@@ -129,7 +129,7 @@ one_written n places rest digits few small h =
     let ten : 10 ^ (9 - length digits) ≡ 10 * 10 ^ (9 - suc (length digits)) = ap (λ (k : ℕ). 10 ^ k) next ∙ pow-succ' 10 (9 - suc (length digits)) in
     record {
       few = omega (arith, h.few);
-      each = (digit_is first small, h.each);
+      passes = (digit_is first small, h.passes);
       low = (omega (arith, small), h.low);
       value = rw same (shifted (value_from (n * 10 + first) digits) (10 ^ (9 - suc (length digits))) (10 ^ (9 - length digits)) n rest ten h.value);
     }
@@ -161,7 +161,7 @@ fraction_is rest range = elim (eqb_tells rest 0) [
       let first : rest / 100000000 < 10 = omega (arith, range) in
       let value : rest ≡ fraction_of digits = omega (arith, w.value) in
       subst (λ t. IsFraction t rest × Spells t t) (sym (unless (rest == 0) [] (46 ∷ digits) some.0))
-      (inr (digits, refl, w.each, some_digit rest some.0 first, w.few, value), spell_ascii (46 ∷ digits) (omega arith, w.low))
+      (inr (digits, refl, w.passes, some_digit rest some.0 first, w.few, value), spell_ascii (46 ∷ digits) (omega arith, w.low))
 ]
 
 -- ---- number literals

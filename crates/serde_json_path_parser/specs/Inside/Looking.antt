@@ -66,13 +66,13 @@ pub record Gathered (p : ℕ → Bool) (text : List ℕ) (index end : ℕ) (part
   pub within : end ≤ length text
   pub utf8 : is_utf8 (drop end text) ≡ true
   pub taken : chars (drop index text) ≡ take (end - index) part ++ chars (drop end text)
-  pub each : AllPass p (take (end - index) part)
+  pub passes : AllPass p (take (end - index) part)
 
 -- Of the characters from an index on, the first ones were taken, each of which passes a test, and
 -- appended to a text unless memory is out; the others are those from an end on.
 pub record Stretched (p : ℕ → Bool) (characters others old new : List ℕ) (ok : Bool) : Type 0 where
   pub part : List ℕ
   pub some : 1 ≤ length part
-  pub each : AllPass p part
+  pub passes : AllPass p part
   pub taken : characters ≡ part ++ others
   pub text : ok ≡ true → new ≡ old ++ part

@@ -13,7 +13,7 @@ accepted_again : PrintedTextReadsBack → (signature : List ℕ → Option Signa
     → IsAccepted signature (chars text) q → IsAccepted signature (chars printed) q
 accepted_again law signature text printed q utf8 same h =
     subst (λ t. IsAccepted signature (chars t) q) (sym same)
-    (record { reads = law text q utf8 h.reads; from_root = h.from_root; typed = h.typed; shallow = h.shallow })
+    (record { reads = law text q utf8 h.reads; from_root = h.from_root; typed = h.typed; within_depth = h.within_depth })
 
 pub unreachable-requires : goal.unreachable-requires
 unreachable-requires g c =
