@@ -24,8 +24,7 @@
 //! # Ok::<(), Box<dyn std::error::Error>>(())
 //! ```
 //!
-//! Numbers of a document that are not held as integers are found and printed, but compare with nothing, unless a path is
-//! compiled [with all numbers](Numbers::All).
+//! Comparisons take all numbers, by their exact value, unless a path is compiled for [whole ones alone](Numbers::Whole).
 //!
 //! # Threads
 //!

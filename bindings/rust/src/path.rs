@@ -16,17 +16,17 @@ use std::str::FromStr;
 /// use jsonpath::{Document, JsonPath, Numbers};
 ///
 /// let document = Document::parse(b"[8, 8.95, 1e1]")?;
-/// let whole = JsonPath::parse("$[?@ < 9]")?;
-/// let all = JsonPath::parse_with("$[?@ < 9]", Numbers::All)?;
+/// let whole = JsonPath::parse_with("$[?@ < 9]", Numbers::Whole)?;
+/// let all = JsonPath::parse("$[?@ < 9]")?;
 /// assert_eq!((whole.count(&document)?, all.count(&document)?), (1, 2));
 /// # Ok::<(), Box<dyn std::error::Error>>(())
 /// ```
 #[derive(Clone, Copy, Debug, Default, PartialEq, Eq, Hash)]
 pub enum Numbers {
     /// Those that are held as 64-bit integers; any other (8.95, 4.0) equals nothing, and is neither less nor greater.
-    #[default]
     Whole = 0,
     /// All, by their exact value, as the RFC compares them.
+    #[default]
     All = 1,
 }
 
@@ -62,7 +62,7 @@ pub struct JsonPath {
 }
 
 impl JsonPath {
-    /// Compiles a path, or says why a text is none. Its comparisons take whole numbers.
+    /// Compiles a path, or says why a text is none. Its comparisons take all numbers.
     ///
     /// ```
     /// use jsonpath::JsonPath;
@@ -72,7 +72,7 @@ impl JsonPath {
     /// assert_eq!(error.to_string(), "at position 4, in long-hand segment, expected closing ']'");
     /// ```
     pub fn parse(text: &str) -> Result<JsonPath, ParseError> {
-        JsonPath::parse_with(text, Numbers::Whole)
+        JsonPath::parse_with(text, Numbers::All)
     }
 
     /// Compiles a path whose comparisons take numbers so.
@@ -80,8 +80,8 @@ impl JsonPath {
     /// ```
     /// use jsonpath::{JsonPath, Numbers};
     ///
-    /// let cheap = JsonPath::parse_with("$[?@.price < 10]", Numbers::All)?;
-    /// assert_eq!(cheap.query_bytes(br#"[{"price": 8.95}]"#)?.len(), 1);
+    /// let cheap = JsonPath::parse_with("$[?@.price < 10]", Numbers::Whole)?;
+    /// assert_eq!(cheap.query_bytes(br#"[{"price": 8.95}, {"price": 8}]"#)?.len(), 1);
     /// # Ok::<(), Box<dyn std::error::Error>>(())
     /// ```
     pub fn parse_with(text: &str, numbers: Numbers) -> Result<JsonPath, ParseError> {
@@ -117,7 +117,7 @@ impl JsonPath {
     ///
     /// ```
     /// # use jsonpath::{JsonPath, Numbers};
-    /// assert_eq!(JsonPath::parse("$")?.numbers(), Numbers::Whole);
+    /// assert_eq!(JsonPath::parse("$")?.numbers(), Numbers::All);
     /// # Ok::<(), jsonpath::ParseError>(())
     /// ```
     pub fn numbers(&self) -> Numbers {

@@ -9,7 +9,7 @@ ghost use Rattle.serde_json_path_nodes.specs.Location.{Located};
 ghost use Rattle.serde_json_path_functions.specs.Functions.{Fits};
 ghost use Rattle.serde_json_path_functions.specs.Patterns.{before_builtin, builtin_functions};
 ghost use Rattle.serde_json_path_core.specs.Selects.{Selects};
-ghost use Rattle.serde_json_path.specs.Paths.{path_signatures, path_tree};
+ghost use Rattle.serde_json_path.specs.Paths.{path_signatures, path_tree, with_rule_of};
 
 use serde_json::Value;
 use serde_json_path::functions::Builtin;
@@ -49,7 +49,8 @@ enum Failure {
 fn holds(alloc: Global, path: &JsonPath, document: &Value) -> Result<bool, QueryError>
     requires { Fits (before_builtin builtin_functions) (path_signatures path.now) }
     ensures { IfOk result (λ holds. (nodes : List Located)
-        × Selects (before_builtin builtin_functions) (path_tree path.now) (view document.now) nodes
+        × Selects (with_rule_of path.now (before_builtin builtin_functions)) (path_tree path.now)
+        (view document.now) nodes
         × (holds ≡ not (length nodes == 0))) }
 {
     let mut walk = path.walk(alloc, document, &Builtin)?;

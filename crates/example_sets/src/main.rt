@@ -9,9 +9,7 @@ ghost use Rattle.example_sets.specs.Prefixes.{begins_with};
 
 use serde_json::Value;
 use serde_json_path::functions::FunctionArgType::{Logical, Value as AValue};
-use serde_json_path::functions::{
-    FunctionValue, Functions, LogicalType, Numbers, Signature, ValueType,
-};
+use serde_json_path::functions::{FunctionValue, Functions, LogicalType, Signature, ValueType};
 use serde_json_path::{JsonPath, ParseError, QueryError};
 use std::alloc::Global;
 use std::io;
@@ -48,10 +46,6 @@ impl Functions for Prefixes {
             "starts_with" => Signature::new(&[AValue, AValue], Logical),
             _ => None,
         }
-    }
-
-    fn numbers(&self) -> Numbers {
-        Numbers::Whole
     }
 
     fn call<'b>(

@@ -5,7 +5,7 @@ ghost use Rattle.serde_json.specs.View.{view};
 ghost use Rattle.serde_json_path_nodes.specs.Location.{Located};
 ghost use Rattle.serde_json_path_functions.specs.Functions.{Fits};
 ghost use Rattle.serde_json_path_core.specs.Selects.{OnlyMemoryOrPattern, Selects};
-ghost use Rattle.serde_json_path.specs.Paths.{path_signatures, path_tree};
+ghost use Rattle.serde_json_path.specs.Paths.{path_signatures, path_tree, with_rule_of};
 ghost use Rattle.jsonpath_lines.specs.Output.{AreLines, chosen};
 
 use jsonpath_lines::{Output, write_nodes};
@@ -34,7 +34,7 @@ fn join(text: &mut String, more: String) -> Result<(), AllocError>
 /// `regex` reads, otherwise it is `Memory`.
 ///
 /// ```text
-/// push_answer(alloc, &output, "", &path, &AllNumbers(Builtin), &document, &mut text)?
+/// push_answer(alloc, &output, "", &path, &Builtin, &document, &mut text)?
 /// ```
 pub fn push_answer<F: Functions>(
     alloc: Global,
@@ -47,13 +47,14 @@ pub fn push_answer<F: Functions>(
 ) -> Result<bool, QueryError>
     requires { Fits (F.set functions.now) (path_signatures path.now) }
     ensures lines { IfOk result (λ selected. (nodes : List Located) × (shown : List ℕ)
-        × Selects (F.set functions.now) (path_tree path.now) (view document.now) nodes
+        × Selects (with_rule_of path.now (F.set functions.now)) (path_tree path.now)
+        (view document.now) nodes
         × AreLines output.now head.now nodes shown
         × (string_bytes text.new ≡ string_bytes text.old ++ shown)
         × ((selected ≡ false) ↔ (chosen output.now nodes ≡ []))) }
     ensures unchanged { IfErr result (λ e. string_bytes text.new ≡ string_bytes text.old) }
-    ensures refused { OnlyMemoryOrPattern (F.set functions.now) (path_tree path.now)
-        (view document.now) result }
+    ensures refused { OnlyMemoryOrPattern (with_rule_of path.now (F.set functions.now))
+        (path_tree path.now) (view document.now) result }
 {
     let walk = path.walk_under(alloc, document, functions)?;
     let written = write_nodes(alloc, output, head, String::new(alloc), walk)?;

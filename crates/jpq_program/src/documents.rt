@@ -1,8 +1,5 @@
 //! The documents, what is shown of each, and what is reported.
 
-ghost use Rattle.serde_json_path_functions.specs.Functions.{FunctionSet};
-ghost use Rattle.serde_json_path.specs.Fitting.{TakesBuiltin, TakesBuiltin-prop};
-
 use crate::answers::push_answer;
 use crate::colours::push_colored;
 use crate::inputs::Inputs;
@@ -12,17 +9,17 @@ use jsonpath_document::{DocumentError, read_document};
 use jsonpath_lines::{Form, Output};
 use serde_json::Value;
 use serde_json_path::QueryError;
-use serde_json_path::functions::Functions;
+use serde_json_path::functions::CachedPatterns;
 use std::alloc::{AllocError, Global};
 use std::io;
 use std::io::{BufRead, BufReader, Read, Write};
 
 /// What is asked of each document.
 #[derive(Drop)]
-pub(crate) struct Answering<'a, F: Functions> {
+pub(crate) struct Answering<'a> {
     pub(crate) alloc: Global,
     pub(crate) paths: &'a [AskedPath],
-    pub(crate) functions: &'a F,
+    pub(crate) functions: CachedPatterns<'a>,
     pub(crate) output: Output,
     /// Whether lines begin with the file's name.
     pub(crate) names_files: bool,
@@ -32,7 +29,6 @@ pub(crate) struct Answering<'a, F: Functions> {
     pub(crate) strict: bool,
     /// Whether lines have colours.
     pub(crate) colored: bool,
-    ghost takes: { TakesBuiltin (F.set functions.now) } by { TakesBuiltin-prop (F.set functions.now) },
 }
 
 /// The name of an input, as messages and lines begin with it.
@@ -40,7 +36,7 @@ fn shown_name(name: &str) -> &str {
     if name == "-" { "standard input" } else { name }
 }
 
-impl<F: Functions> Answering<'_, F> {
+impl Answering<'_> {
     /// What each line of a path's answer begins with: the file's name if there are several, then the path's number if there
     /// are several, and a tab after each.
     fn head(&self, name: &str, number: usize) -> Result<String, AllocError> {
@@ -67,7 +63,7 @@ impl<F: Functions> Answering<'_, F> {
             &self.output,
             head,
             &path.path,
-            self.functions,
+            &self.functions,
             document,
             &mut plain,
         )?;

@@ -8,7 +8,6 @@
 pub mod answers;
 mod caret;
 mod colours;
-mod counted;
 mod documents;
 mod empty_answer;
 pub mod inputs;

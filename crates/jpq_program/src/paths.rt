@@ -7,7 +7,7 @@ use crate::inputs::Inputs;
 use crate::refusal::push_refusal;
 use crate::streams::{Stop, Streams};
 use jpq_options::options::{Options, paths_in};
-use serde_json_path::{JsonPath, ParseErrorKind};
+use serde_json_path::{JsonPath, Numbers, ParseErrorKind};
 use serde_json_path_hints::hint;
 use std::alloc::{AllocError, Global};
 use std::io::{Read, Write};
@@ -27,6 +27,8 @@ struct PathReading {
     several: bool,
     /// Whether a refusal has a hint.
     hints: bool,
+    /// How the comparisons of paths take numbers.
+    numbers: Numbers,
 }
 
 impl PathReading {
@@ -47,7 +49,10 @@ impl PathReading {
         streams: &mut Streams<'_, W, E>,
     ) -> Result<Option<AskedPath>, Stop> {
         let e = match JsonPath::parse(self.alloc, text) {
-            Ok(path) => return Ok(Some(AskedPath { path })),
+            Ok(path) => {
+                let path = path.with_numbers(self.numbers);
+                return Ok(Some(AskedPath { path }));
+            }
             Err(e) => e,
         };
         if e.kind() == ParseErrorKind::NoMemory {
@@ -102,6 +107,15 @@ fn paths_text<I: Inputs, W: Write, E: Write>(
     }
 }
 
+/// How comparisons take numbers, as the options say.
+fn numbers_of(options: &Options<'_>) -> Numbers {
+    if options.whole_numbers {
+        Numbers::Whole
+    } else {
+        Numbers::All
+    }
+}
+
 /// The paths that are asked for: those of the words, then those of the file.
 pub(crate) fn asked_paths<I: Inputs, W: Write, E: Write>(
     alloc: Global,
@@ -116,6 +130,7 @@ pub(crate) fn asked_paths<I: Inputs, W: Write, E: Write>(
         alloc,
         several: in_words.saturating_add(lines.len()) > 1,
         hints: !options.silent,
+        numbers: numbers_of(options),
     };
     let mut paths = Vec::new(alloc);
     reading.parse_all(&options.paths, 1, &mut paths, streams)?;

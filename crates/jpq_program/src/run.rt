@@ -1,13 +1,10 @@
 //! The program over its inputs and two writers.
 
 ghost use Rattle.std.specs.Prelude.{◌≡◌, ◌≤◌, ◌⊎◌, Err, map, string_bytes};
-ghost use Rattle.serde_json_path_functions.specs.Functions.{FunctionSet};
 ghost use Rattle.jpq_options.specs.Options.{AsksFor};
 ghost use Rattle.jpq_options.specs.declared.options.Request as input;
-ghost use Rattle.serde_json_path.specs.Fitting.{TakesBuiltin};
 ghost use Rattle.jpq_program.specs.Query.{IsStatusOf};
 
-use crate::counted::Counted;
 use crate::documents::Answering;
 use crate::empty_answer::reason_of;
 use crate::inputs::Inputs;
@@ -15,9 +12,8 @@ use crate::paths::{AskedPath, asked_paths};
 use crate::streams::{OUTPUT_FAILED, REFUSED, SELECTED, Stop, Streams, WRONG_USE};
 use jpq_options::options::{Color, Options, Request, read};
 use jsonpath_lines::Output;
-use serde_json_path::functions::{CachedPatterns, Functions, Numbers, PatternStore, Ruled};
+use serde_json_path::functions::{CachedPatterns, PatternStore};
 use std::alloc::Global;
-use std::cell::Cell;
 use std::io::Write;
 use std::slice;
 
@@ -50,25 +46,6 @@ fn hint_at_nothing<W: Write, E: Write>(
     Ok(())
 }
 
-/// Tells how many times a comparison met a number that is not held as an integer, if any did.
-fn tell_floats<W: Write, E: Write>(
-    alloc: Global,
-    floats: usize,
-    streams: &mut Streams<'_, W, E>,
-) -> Result<(), Stop> {
-    let message = match floats {
-        0 => return Ok(()),
-        1 => format!(in alloc;
-            "jpq: 1 number that was compared is not held as an integer: it equals nothing and is not ordered\n"
-        )?,
-        n => format!(in alloc;
-            "jpq: {n} numbers that were compared are not held as integers: they equal nothing and are not ordered\n"
-        )?,
-    };
-    streams.tell(message.as_str());
-    Ok(())
-}
-
 /// What is shown, and how, as the options say.
 fn output_of(options: &Options<'_>) -> Output {
     Output {
@@ -77,15 +54,6 @@ fn output_of(options: &Options<'_>) -> Output {
         end: options.end,
         unique: options.unique,
         most: options.most,
-    }
-}
-
-/// How comparisons take numbers, as the options say.
-fn numbers_of(options: &Options<'_>) -> Numbers {
-    if options.whole_numbers {
-        Numbers::Whole
-    } else {
-        Numbers::All
     }
 }
 
@@ -98,22 +66,20 @@ fn is_colored(options: &Options<'_>, is_terminal: bool) -> bool {
     }
 }
 
-/// Answers all documents under a function set.
-fn answer_under<'x, F: Functions, I: Inputs, W: Write, E: Write>(
+/// Answers all documents.
+fn answer_documents<I: Inputs, W: Write, E: Write>(
     alloc: Global,
     options: &Options<'_>,
     colored: bool,
-    paths: &'x [AskedPath],
-    functions: &'x F,
+    paths: &[AskedPath],
     inputs: &mut I,
     streams: &mut Streams<'_, W, E>,
-) -> Result<(), Stop>
-    requires { TakesBuiltin (F.set functions.now) }
-{
+) -> Result<(), Stop> {
+    let store = PatternStore::new();
     let answering = Answering {
         alloc,
         paths,
-        functions,
+        functions: CachedPatterns::new(alloc, &store),
         output: output_of(options),
         names_files: options.files.len() > 1,
         lines: options.lines,
@@ -124,29 +90,6 @@ fn answer_under<'x, F: Functions, I: Inputs, W: Write, E: Write>(
         return answering.answer_all(&["-"], inputs, streams);
     }
     answering.answer_all(&options.files, inputs, streams)
-}
-
-/// Answers all documents by the rule for numbers that is asked for, and returns how many times a comparison met a number that
-/// is not held as an integer.
-fn answer_documents<I: Inputs, W: Write, E: Write>(
-    alloc: Global,
-    options: &Options<'_>,
-    colored: bool,
-    paths: &[AskedPath],
-    inputs: &mut I,
-    streams: &mut Streams<'_, W, E>,
-) -> Result<usize, Stop> {
-    let store = PatternStore::new();
-    let ruled = Ruled {
-        functions: CachedPatterns::new(alloc, &store),
-        numbers: numbers_of(options),
-    };
-    let functions = Counted {
-        functions: ruled,
-        floats: Cell::new(0),
-    };
-    answer_under(alloc, options, colored, paths, &functions, inputs, streams)?;
-    Ok(functions.floats.get())
 }
 
 /// Runs with options: reads the paths, then checks them or answers the documents.
@@ -161,10 +104,7 @@ fn run_with<I: Inputs, W: Write, E: Write>(
     if options.check {
         return check(alloc, &paths, streams);
     }
-    let floats = answer_documents(alloc, options, colored, &paths, inputs, streams)?;
-    if options.whole_numbers && !options.silent {
-        tell_floats(alloc, floats, streams)?;
-    }
+    answer_documents(alloc, options, colored, &paths, inputs, streams)?;
     if streams.outcome.selected || streams.outcome.refused || options.silent {
         return Ok(());
     }

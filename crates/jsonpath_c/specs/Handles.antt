@@ -1,6 +1,6 @@
 -- What handles hold, and what calls answer of it.
 use Rattle.std.specs.Prelude.{◌≡◌, ◌≢◌, ◌==◌, ◌≤◌, ◌<◌, ◌+◌, ◌++◌, ◌⊎◌, ◌↔◌, if◌then◌else◌, ℕ, pos, Bool, true, false, List, [], ◌∷◌, Option, None, length, map, slice_get}
-use Rattle.jsonpath_c.specs.Words.{float_zero, sum_by, MatchOption, chars, Data, view, path_tree, CallsByPattern, Selects, FunctionSet, Numbers, whole_numbers, all_numbers, with_rule, builtin_functions, numbers_view, first_places, Located, Step, by_name, by_position, at, normal, pointer, KeptNode, kept, location_of, NodeInfo, Null, False, True, Integer, Unsigned, Double, String, Array, Object, IsAccepted, IsLine, IsLineOfEach, compact_lines, Form, LocationAndValue, Location, Value}
+use Rattle.jsonpath_c.specs.Words.{float_zero, sum_by, MatchOption, chars, Data, view, path_rule, path_tree, with_rule_of, CallsByPattern, Selects, FunctionSet, Numbers, whole_numbers, all_numbers, builtin_functions, first_places, Located, Step, by_name, by_position, at, normal, pointer, KeptNode, kept, location_of, NodeInfo, Null, False, True, Integer, Unsigned, Double, String, Array, Object, IsAccepted, IsLine, IsLineOfEach, compact_lines, Form, LocationAndValue, Location, Value}
 use Rattle.jsonpath_c.specs.Exports.{IsPut, FindsNoRoom}
 use Rattle.jsonpath_c.specs.declared.compiled.Compiled.{Compiled}
 use Rattle.jsonpath_c.specs.declared.handle.document.Document.{Document}
@@ -35,12 +35,12 @@ rule_of number = if number == 0 then whole_numbers else all_numbers
 
 -- the functions under which a compiled path runs
 abbrev pub functions_of : Compiled → FunctionSet
-functions_of c = with_rule (numbers_view c.numbers) builtin_functions
+functions_of c = with_rule_of c.path builtin_functions
 
 -- a path's handle holds the path that a text is, by the rule that a number names
 abbrev pub HoldsPathOf : List ℕ → ℕ → Option Compiled → Type 0
 HoldsPathOf text numbers handle = MatchOption handle ⊥ (λ c.
-    IsAccepted builtin_functions.signature (chars text) (path_tree c.path) × (numbers_view c.numbers ≡ rule_of numbers))
+    IsAccepted builtin_functions.signature (chars text) (path_tree c.path) × (path_rule c.path ≡ rule_of numbers))
 
 -- ---- paths and documents
 

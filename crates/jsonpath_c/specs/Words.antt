@@ -11,11 +11,11 @@ pub use Rattle.nullable_box.specs.Held.{held}
 pub use Rattle.serde_json.specs.Data.{Data, string}
 pub use Rattle.serde_json.specs.View.{view}
 pub use Rattle.serde_json_path.specs.Fitting.{FitsBuiltin, FitsBuiltin-prop}
-pub use Rattle.serde_json_path.specs.Paths.{path_signatures, path_tree, path_view}
+pub use Rattle.serde_json_path.specs.Paths.{path_rule, path_signatures, path_tree, path_view, with_rule_of}
 pub use Rattle.serde_json_path_core.specs.PatternCalls.{CallsByPattern}
 pub use Rattle.serde_json_path_core.specs.Selects.{OnlyMemoryOrPattern, Selects}
 pub use Rattle.serde_json_path_core.specs.Walks.{document_of, query_of, rest, set_of}
-pub use Rattle.serde_json_path_functions.specs.Functions.{FunctionSet, Numbers, all_numbers, whole_numbers, with_rule}
+pub use Rattle.serde_json_path_functions.specs.Functions.{FunctionSet, Numbers, all_numbers, whole_numbers}
 pub use Rattle.serde_json_path_functions.specs.Patterns.{builtin_functions}
 pub use Rattle.serde_json_path_functions.specs.Terms.{numbers_view}
 pub use Rattle.serde_json_path_functions.specs.declared.error.QueryError.TheVariants.{Memory}

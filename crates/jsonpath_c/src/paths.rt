@@ -11,8 +11,7 @@ use crate::output::put;
 use crate::refusal::{Refusal, put_refusal};
 use crate::status::{DONE, EMPTY_HANDLE, NO_MEMORY, NOT_UTF8};
 use nullable_box::{Handle, take_both};
-use serde_json_path::JsonPath;
-use serde_json_path::functions::Numbers;
+use serde_json_path::{JsonPath, Numbers};
 use std::alloc::Global;
 
 /// The rule for numbers that a number names.
@@ -43,10 +42,10 @@ pub extern "C" fn jsonpath_path_new(
         return NOT_UTF8;
     };
     let parsed = match JsonPath::parse(alloc, text) {
-        Ok(parsed) => parsed,
+        Ok(parsed) => parsed.with_numbers(rule(numbers)),
         Err(e) => return put_refusal(&e, refusal),
     };
-    match Box::new(alloc, Compiled::new(parsed, rule(numbers))) {
+    match Box::new(alloc, Compiled::new(parsed)) {
         Ok(compiled) => {
             path.put(alloc, compiled);
             DONE

@@ -6,7 +6,7 @@ ghost use Rattle.jsonpath_c.specs.Handles.{SelectsFrom, functions_of};
 
 use crate::compiled::Compiled;
 use crate::handle::document::Document;
-use serde_json_path::functions::{CachedPatterns, PatternStore, Ruled};
+use serde_json_path::functions::{CachedPatterns, PatternStore};
 use serde_json_path::{QueryError, Walk};
 use std::alloc::Global;
 
@@ -16,16 +16,13 @@ pub(crate) fn walk<'a>(
     path: &'a Compiled,
     document: &'a Document,
     store: &'a PatternStore,
-) -> Result<Walk<'a, 'a, Ruled<CachedPatterns<'a>>>, QueryError>
+) -> Result<Walk<'a, 'a, CachedPatterns<'a>>, QueryError>
     ensures selects { IfOk result (λ walk. SelectsFrom path.now document.now (rest walk)) }
     ensures query { IfOk result (λ walk. query_of walk ≡ path_tree path.now.path) }
     ensures set { IfOk result (λ walk. set_of walk ≡ functions_of path.now) }
     ensures document { IfOk result (λ walk. document_of walk ≡ view document.now.value) }
     ensures refused { IfErr result (λ e. e ≡ Memory) }
 {
-    let functions = Ruled {
-        functions: CachedPatterns::new(alloc, store),
-        numbers: path.numbers,
-    };
+    let functions = CachedPatterns::new(alloc, store);
     path.path.walk_under(alloc, &document.value, functions)
 }

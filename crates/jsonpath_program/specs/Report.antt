@@ -5,7 +5,7 @@ use Rattle.serde_json.specs.Data.{Data}
 use Rattle.serde_json_path_nodes.specs.Location.{Located}
 use Rattle.serde_json_path_syntax.specs.Tree as tree
 use Rattle.std.specs.declared.alloc.Global.{Global}
-use Rattle.serde_json_path_functions.specs.Functions.{FunctionSet}
+use Rattle.serde_json_path_functions.specs.Functions.{FunctionSet, whole_numbers, with_rule}
 use Rattle.serde_json_path_functions.specs.declared.error.QueryError.{QueryError}
 use Rattle.serde_json_path_functions.specs.declared.error.QueryError.TheVariants.{Pattern}
 use Rattle.serde_json_path_core.specs.PatternCalls.{CallsByPattern}
@@ -35,19 +35,21 @@ refusal_of _ = refusal.NotJson
 abbrev pub IsNoPath : FunctionSet → List ℕ → Type 0
 IsNoPath F path = (q : tree.Query) → IsAccepted F.signature (chars path) q → ⊥
 
--- the text is a path of which some call goes by a pattern that `regex` reads, on a document that the bytes read as
+-- the text is a path of which some call goes by a pattern that `regex` reads, on a document that the bytes read as;
+-- comparisons take whole numbers
 abbrev pub CallsByPatternOn : FunctionSet → List ℕ → List ℕ → Type 0
 CallsByPatternOn F path document =
-    (q : tree.Query) × (d : Data) × IsAccepted F.signature (chars path) q × ReadsAs document d × CallsByPattern F d q
+    (q : tree.Query) × (d : Data) × IsAccepted F.signature (chars path) q × ReadsAs document d × CallsByPattern (with_rule whole_numbers F) d q
 
--- The text is what a form shows, compactly, of the path's result on the document, under the set's functions.
+-- The text is what a form shows, compactly, of the path's result on the document, under the set's functions. Comparisons
+-- take whole numbers.
 pub record IsReportIn (form : Form) (F : FunctionSet) (path document text : List ℕ) : Type 0 where
   pub query : tree.Query
   pub value : Data
   pub nodes : List Located
   pub accepted : IsAccepted F.signature (chars path) query
   pub reads : ReadsAs document value
-  pub selects : Selects F query value nodes
+  pub selects : Selects (with_rule whole_numbers F) query value nodes
   pub lines : AreLines (compact_lines form) [] nodes text
 
 -- the same with both the location and the value of each node

@@ -4,11 +4,11 @@ ghost use Rattle.std.specs.Prelude.{◌≡◌, [], List, IfOk, string_bytes};
 ghost use Rattle.serde_json.specs.Data.{Data};
 ghost use Rattle.serde_json.specs.View.{view};
 ghost use Rattle.serde_json_path_nodes.specs.Location.{Located};
-ghost use Rattle.serde_json_path_functions.specs.Functions.{Fits};
+ghost use Rattle.serde_json_path_functions.specs.Functions.{Fits, with_rule};
 ghost use Rattle.serde_json_path_functions.specs.Patterns.{before_builtin};
 ghost use Rattle.serde_json_path_core.specs.Selects.{OnlyMemoryOrPattern, Selects};
 ghost use Rattle.serde_json_path.specs.Paths.{path_view};
-ghost use Rattle.serde_json_path_syntax.specs.Parts.{signatures_of, tree_of};
+ghost use Rattle.serde_json_path_syntax.specs.Parts.{rule_of, signatures_of, tree_of};
 ghost use Rattle.serde_json_path_parser.specs.Parse.{IsParseOf};
 ghost use Rattle.serde_json_path_parser.specs.Reported.{ReportsFirst};
 ghost use Rattle.serde_json_path_parser.specs.declared.error.ParseError as path_error;
@@ -103,9 +103,10 @@ fn selected<F: Functions + Drop>(
     requires fits { Fits (F.set functions) (signatures_of path.now) }
     ensures lines { IfOk result (λ text. (nodes : List Located)
         × AreLines (compact_lines form) [] nodes (string_bytes text)
-        × Selects (F.set functions) (tree_of path.now) (view document.now) nodes) }
-    ensures refused { OnlyMemoryOrPattern (F.set functions) (tree_of path.now)
-        (view document.now) result }
+        × Selects (with_rule (rule_of path.now) (F.set functions)) (tree_of path.now)
+        (view document.now) nodes) }
+    ensures refused { OnlyMemoryOrPattern (with_rule (rule_of path.now) (F.set functions))
+        (tree_of path.now) (view document.now) result }
 {
     let walk = walk(alloc, path, document, functions)?;
     Ok(write_nodes(alloc, &Output::compact_lines(form), "", text, walk)?.text)
@@ -115,7 +116,7 @@ fn selected<F: Functions + Drop>(
 /// and a line feed.
 ///
 /// The path is read first, then the document, and then the query runs. Filters may call the functions of a set as well as
-/// the built-in ones. If both define a name, the set's function is used.
+/// the built-in ones. If both define a name, the set's function is used. Comparisons take whole numbers.
 ///
 /// ```text
 /// report(alloc, "$.foo.bar[0]", b"{\"foo\":{\"bar\":[\"baz\",42]}}", &Builtin)

@@ -1,4 +1,4 @@
--- Paths that fit the built-in functions, and sets that take them all.
+-- Paths that fit the built-in functions.
 use Rattle.std.specs.Prelude.{ℕ, List, [], ◌∷◌}
 use Rattle.std.specs.Coded.{×_prop, Unit-prop}
 use Rattle.std.proofs.Props.{props}
@@ -9,18 +9,10 @@ use Rattle.serde_json_path_functions.specs.Patterns.{builtin_functions}
 abbrev pub FitsBuiltin : List (List ℕ × Signature) → Type 0
 FitsBuiltin = Fits builtin_functions
 
--- each path that fits the built-in functions fits the set
-abbrev pub TakesBuiltin : FunctionSet → Type 0
-TakesBuiltin F = (used : List (List ℕ × Signature)) → FitsBuiltin used → Fits F used
-
--- ---- each is shown in one way only, as the fields of structs want
-
+-- this is shown in one way only, as the fields of structs want
 Fits-prop : (F : FunctionSet) (used : List (List ℕ × Signature)) → IsProp (Fits F used)
 Fits-prop F [] = Unit-prop
 Fits-prop F (u ∷ more) = ×_prop (hlevel props) (Fits-prop F more)
 
 pub FitsBuiltin-prop : (used : List (List ℕ × Signature)) → IsProp (FitsBuiltin used)
 FitsBuiltin-prop = Fits-prop builtin_functions
-
-pub TakesBuiltin-prop : (F : FunctionSet) → IsProp (TakesBuiltin F)
-TakesBuiltin-prop F = hlevel (Fits-prop F)

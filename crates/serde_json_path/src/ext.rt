@@ -7,7 +7,7 @@ ghost use Rattle.serde_json_path_nodes.specs.Views.{node_values};
 ghost use Rattle.serde_json_path_core.specs.Selects.{OnlyMemoryOrPattern, SelectsValues};
 ghost use Rattle.serde_json_path_functions.specs.Functions.{Fits};
 ghost use Rattle.serde_json_path_functions.specs.Patterns.{builtin_functions};
-ghost use Rattle.serde_json_path.specs.Paths.{path_signatures, path_tree};
+ghost use Rattle.serde_json_path.specs.Paths.{path_signatures, path_tree, with_rule_of};
 
 use crate::path::JsonPath;
 use serde_json::Value;
@@ -30,10 +30,10 @@ pub trait JsonPathExt {
     fn json_path<'b>(&'b self, alloc: Global, path: &JsonPath) -> Result<NodeList<'b>, QueryError>
         requires { Fits builtin_functions (path_signatures path.now) }
         ensures selects { IfOk result (λ list.
-            SelectsValues builtin_functions (path_tree path.now) (document self.now)
-            (node_values list)) }
-        ensures refused { OnlyMemoryOrPattern builtin_functions (path_tree path.now)
-            (document self.now) result };
+            SelectsValues (with_rule_of path.now builtin_functions) (path_tree path.now)
+            (document self.now) (node_values list)) }
+        ensures refused { OnlyMemoryOrPattern (with_rule_of path.now builtin_functions)
+            (path_tree path.now) (document self.now) result };
 }
 
 impl JsonPathExt for Value {

@@ -32,7 +32,7 @@
 //!
 //! Filters, parentheses and calls may be nested 128 deep. Indexes go up to 2^53 - 1. Number literals have at most nine digits
 //! of a fraction and no exponent. A number of a document that is not held as an integer equals nothing and is not ordered,
-//! unless the function set says otherwise, as [`functions::AllNumbers`] does.
+//! unless the path takes all numbers ([`JsonPath::with_numbers`]).
 //!
 //! # Untrusted input
 //!
@@ -64,8 +64,8 @@ pub use laws::{law_locations_are_proper, law_normal, law_set_before_itself};
 pub use path::JsonPath;
 pub use serde_json_path_core::{
     AtMostOneError, ExactlyOneError, LocatedNode, LocatedNodeList, LocatedNodes, Locations,
-    NodeList, Nodes, NormalizedPath, PathElement, PathElements, QueryError, Sink, Taken, Walk,
-    functions, law_append, law_before_is_asymmetric, law_descendants_in_document_order,
+    NodeList, Nodes, NormalizedPath, Numbers, PathElement, PathElements, QueryError, Sink, Taken,
+    Walk, functions, law_append, law_before_is_asymmetric, law_descendants_in_document_order,
     law_each_document_has_a_height, law_equality_is_an_equivalence, law_equality_of_numbers,
     law_integers_keep_their_order, law_less_or_equal_is_either, law_not_equal_negates_equal,
     law_numbers_are_finite, law_order_is_total, law_order_of_numbers, law_result_exists,

@@ -4,22 +4,23 @@ ghost use Rattle.std.specs.Prelude.{◌≡◌, [], IfOk, IfErr, IsTrue, ◌↔�
 ghost use Rattle.serde_json.specs.View.{view};
 ghost use Rattle.serde_json_path_nodes.specs.Views.{located_nodes, node_values};
 ghost use Rattle.serde_json_path_syntax.specs.Tree.{query, root, no_segments};
-ghost use Rattle.serde_json_path_syntax.specs.Parts.{tree_of, signatures_of};
+ghost use Rattle.serde_json_path_syntax.specs.Parts.{tree_of, signatures_of, rule_of};
 ghost use Rattle.serde_json_path_core.specs.Selects.{OnlyMemoryOrPattern, Selects, SelectsValues};
 ghost use Rattle.serde_json_path_core.specs.Walks.{rest, query_of, set_of, document_of};
-ghost use Rattle.serde_json_path_functions.specs.Functions.{Fits};
+ghost use Rattle.serde_json_path_functions.specs.Functions.{Fits, whole_numbers};
 ghost use Rattle.serde_json_path_functions.specs.Patterns.{before_builtin, builtin_functions};
+ghost use Rattle.serde_json_path_functions.specs.Terms.{numbers_view};
 ghost use Rattle.serde_json_path_functions.specs.declared.error.QueryError.TheVariants.{Memory};
 
 use crate::source::parse_source;
 use serde_json::Value;
 use serde_json_path_core::functions::{Both, Builtin, CachedPatterns, Functions, PatternStore};
-use serde_json_path_core::{Checked, QueryError, Walk, evaluate, evaluate_located, walk};
+use serde_json_path_core::{Checked, Numbers, QueryError, Walk, evaluate, evaluate_located, walk};
 use serde_json_path_nodes::{LocatedNodeList, NodeList};
 use serde_json_path_parser::{ParseError, TextSource};
 use std::alloc::{AllocError, Global};
 
-/// A JSONPath (RFC 9535).
+/// A JSONPath (RFC 9535), and how its comparisons take numbers.
 ///
 /// ```text
 /// let path = JsonPath::parse(alloc, "$.foo.bar[0]")?;
@@ -35,20 +36,22 @@ pub struct JsonPath {
 impl JsonPath {
     ghost use Rattle.serde_json_path_parser.specs.Parse.{IsParseOf};
     ghost use Rattle.serde_json_path_parser.specs.Reported.{ReportsFirst};
-    ghost use Rattle.serde_json_path.specs.Paths.{path_tree, path_signatures, path_view};
+    ghost use Rattle.serde_json_path.specs.Paths.{path_tree, path_signatures, path_rule, path_view, with_rule_of};
 
     /// The path `$`, which selects the document itself. It calls nothing, so it fits every function set. It allocates nothing.
     pub fn new(alloc: Global) -> JsonPath
         ensures tree { path_tree result ≡ query root no_segments }
         ensures no_calls { path_signatures result ≡ [] }
         ensures fits { Fits builtin_functions (path_signatures result) }
+        ensures rule { path_rule result ≡ whole_numbers }
     {
         JsonPath {
             checked: Checked::new(alloc),
         }
     }
 
-    /// Parses a path (RFC 9535, section 2.1) whose filters call the built-in functions.
+    /// Parses a path (RFC 9535, section 2.1) whose filters call the built-in functions. Its comparisons take whole numbers
+    /// alone, unless [`JsonPath::with_numbers`] says otherwise.
     ///
     /// An error says why and where ([`ParseError`]). Any error other than `NoMemory` means that the text is not a path.
     ///
@@ -95,12 +98,35 @@ impl JsonPath {
         parse_source(alloc, &mut source, functions)
     }
 
-    /// A copy of the path, with the signatures that it keeps, so it fits the same function sets.
+    /// The same path, whose comparisons take numbers by that rule (RFC 9535, section 2.3.5.2.2).
+    ///
+    /// ```text
+    /// let path = JsonPath::parse(alloc, "$[?@.price > 9.99]")?.with_numbers(Numbers::All);
+    /// ```
+    pub fn with_numbers(self, numbers: Numbers) -> JsonPath
+        ensures tree { path_tree result ≡ path_tree self }
+        ensures used { path_signatures result ≡ path_signatures self }
+        ensures rule { path_rule result ≡ numbers_view numbers }
+    {
+        JsonPath {
+            checked: self.checked.with_numbers(numbers),
+        }
+    }
+
+    /// How the comparisons of the path take numbers.
+    pub fn numbers(&self) -> Numbers
+        ensures { numbers_view result ≡ path_rule self.now }
+    {
+        self.checked.numbers()
+    }
+
+    /// A copy of the path, with the signatures that it keeps, so it fits the same function sets, and with its rule for numbers.
     ///
     /// An error comes only where memory is refused.
     pub fn try_clone(&self, alloc: Global) -> Result<JsonPath, AllocError>
         ensures tree { IfOk result (λ copy. path_tree copy ≡ path_tree self.now) }
         ensures used { IfOk result (λ copy. path_signatures copy ≡ path_signatures self.now) }
+        ensures rule { IfOk result (λ copy. path_rule copy ≡ path_rule self.now) }
     {
         Ok(JsonPath {
             checked: self.checked.try_clone(alloc)?,
@@ -116,10 +142,11 @@ impl JsonPath {
         self.checked.fits(&Both(functions, Builtin))
     }
 
-    /// The syntax tree of the path, with the signatures that it keeps.
+    /// The syntax tree of the path, with the signatures and the rule for numbers that it keeps.
     pub fn tree(&self) -> &Checked
         ensures tree { tree_of result.now ≡ path_tree self.now }
         ensures used { signatures_of result.now ≡ path_signatures self.now }
+        ensures rule { rule_of result.now ≡ path_rule self.now }
     {
         &self.checked
     }
@@ -136,9 +163,10 @@ impl JsonPath {
     ) -> Result<LocatedNodeList<'b>, QueryError>
         requires { Fits builtin_functions (path_signatures self.now) }
         ensures selects { IfOk result (λ list.
-            Selects builtin_functions (path_tree self.now) (view value.now) (located_nodes list)) }
-        ensures refused { OnlyMemoryOrPattern builtin_functions (path_tree self.now)
-            (view value.now) result }
+            Selects (with_rule_of self.now builtin_functions) (path_tree self.now)
+            (view value.now) (located_nodes list)) }
+        ensures refused { OnlyMemoryOrPattern (with_rule_of self.now builtin_functions)
+            (path_tree self.now) (view value.now) result }
     {
         let store = PatternStore::new();
         let builtin = CachedPatterns::new(alloc, &store);
@@ -156,10 +184,11 @@ impl JsonPath {
     ) -> Result<LocatedNodeList<'b>, QueryError>
         requires { Fits (before_builtin (F.set functions.now)) (path_signatures self.now) }
         ensures selects { IfOk result (λ list.
-            Selects (before_builtin (F.set functions.now)) (path_tree self.now) (view value.now)
-            (located_nodes list)) }
-        ensures refused { OnlyMemoryOrPattern (before_builtin (F.set functions.now))
-            (path_tree self.now) (view value.now) result }
+            Selects (with_rule_of self.now (before_builtin (F.set functions.now)))
+            (path_tree self.now) (view value.now) (located_nodes list)) }
+        ensures refused { OnlyMemoryOrPattern
+            (with_rule_of self.now (before_builtin (F.set functions.now))) (path_tree self.now)
+            (view value.now) result }
     {
         let store = PatternStore::new();
         let builtin = CachedPatterns::new(alloc, &store);
@@ -176,10 +205,10 @@ impl JsonPath {
     pub fn query<'b>(&self, alloc: Global, value: &'b Value) -> Result<NodeList<'b>, QueryError>
         requires { Fits builtin_functions (path_signatures self.now) }
         ensures selects { IfOk result (λ list.
-            SelectsValues builtin_functions (path_tree self.now) (view value.now)
-            (node_values list)) }
-        ensures refused { OnlyMemoryOrPattern builtin_functions (path_tree self.now)
-            (view value.now) result }
+            SelectsValues (with_rule_of self.now builtin_functions) (path_tree self.now)
+            (view value.now) (node_values list)) }
+        ensures refused { OnlyMemoryOrPattern (with_rule_of self.now builtin_functions)
+            (path_tree self.now) (view value.now) result }
     {
         let store = PatternStore::new();
         let builtin = CachedPatterns::new(alloc, &store);
@@ -196,10 +225,11 @@ impl JsonPath {
     ) -> Result<NodeList<'b>, QueryError>
         requires { Fits (before_builtin (F.set functions.now)) (path_signatures self.now) }
         ensures selects { IfOk result (λ list.
-            SelectsValues (before_builtin (F.set functions.now)) (path_tree self.now)
-            (view value.now) (node_values list)) }
-        ensures refused { OnlyMemoryOrPattern (before_builtin (F.set functions.now))
-            (path_tree self.now) (view value.now) result }
+            SelectsValues (with_rule_of self.now (before_builtin (F.set functions.now)))
+            (path_tree self.now) (view value.now) (node_values list)) }
+        ensures refused { OnlyMemoryOrPattern
+            (with_rule_of self.now (before_builtin (F.set functions.now))) (path_tree self.now)
+            (view value.now) result }
     {
         let store = PatternStore::new();
         let builtin = CachedPatterns::new(alloc, &store);
@@ -224,10 +254,11 @@ impl JsonPath {
     ) -> Result<Walk<'q, 'b, Both<&'q F, Builtin>>, QueryError>
         requires { Fits (before_builtin (F.set functions.now)) (path_signatures self.now) }
         ensures selects { IfOk result (λ walk.
-            Selects (before_builtin (F.set functions.now)) (path_tree self.now) (view value.now)
-            (rest walk)) }
+            Selects (with_rule_of self.now (before_builtin (F.set functions.now)))
+            (path_tree self.now) (view value.now) (rest walk)) }
         ensures query { IfOk result (λ walk. query_of walk ≡ path_tree self.now) }
-        ensures set { IfOk result (λ walk. set_of walk ≡ before_builtin (F.set functions.now)) }
+        ensures set { IfOk result (λ walk. set_of walk
+            ≡ with_rule_of self.now (before_builtin (F.set functions.now))) }
         ensures document { IfOk result (λ walk. document_of walk ≡ view value.now) }
         ensures refused { IfErr result (λ e. e ≡ Memory) }
     {
@@ -250,9 +281,11 @@ impl JsonPath {
     ) -> Result<Walk<'q, 'b, F>, QueryError>
         requires { Fits (F.set functions) (path_signatures self.now) }
         ensures selects { IfOk result (λ walk.
-            Selects (F.set functions) (path_tree self.now) (view value.now) (rest walk)) }
+            Selects (with_rule_of self.now (F.set functions)) (path_tree self.now)
+            (view value.now) (rest walk)) }
         ensures query { IfOk result (λ walk. query_of walk ≡ path_tree self.now) }
-        ensures set { IfOk result (λ walk. set_of walk ≡ F.set functions) }
+        ensures set { IfOk result (λ walk.
+            set_of walk ≡ with_rule_of self.now (F.set functions)) }
         ensures document { IfOk result (λ walk. document_of walk ≡ view value.now) }
         ensures refused { IfErr result (λ e. e ≡ Memory) }
     {

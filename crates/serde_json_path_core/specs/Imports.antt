@@ -4,7 +4,7 @@ pub use Rattle.serde_json.specs.Events.{items_len}
 pub use Rattle.serde_json.specs.Find.{as_array, as_integer, get, get_item, get_member, of_integer}
 pub use Rattle.serde_json.specs.View.{items_view, members_view, number_view, view, view_step}
 pub use Rattle.serde_json.specs.declared.value.Value.{Value}
-pub use Rattle.serde_json_path_functions.specs.Functions.{Fits, FunctionSet, KeepsTypes, Kind, Numbers, Signature, Term, all_numbers, kind_of_term, logical, nodes, of_logical, of_nodes, of_value, value, whole_numbers}
+pub use Rattle.serde_json_path_functions.specs.Functions.{Fits, FunctionSet, KeepsTypes, Kind, Numbers, Signature, Term, all_numbers, kind_of_term, logical, nodes, of_logical, of_nodes, of_value, value, whole_numbers, with_rule}
 pub use Rattle.serde_json_path_functions.specs.Patterns.{MayRefuse}
 pub use Rattle.serde_json_path_functions.specs.Terms.{kind_view, numbers_view, term_view}
 pub use Rattle.serde_json_path_functions.specs.declared.error.QueryError.{QueryError}
@@ -19,7 +19,7 @@ pub use Rattle.serde_json_path_syntax.specs.Kinds.{AreOfKind, IsOfKind, are_sing
 pub use Rattle.serde_json_path_syntax.specs.Lists.{IsIn, IsInOrder}
 pub use Rattle.serde_json_path_syntax.specs.Literals.{number_amount, operator_view, whole_amount}
 pub use Rattle.serde_json_path_syntax.specs.PartBounds.{parts_bound, selector_bound}
-pub use Rattle.serde_json_path_syntax.specs.Parts.{nodes_in, signatures_of, tree_of}
+pub use Rattle.serde_json_path_syntax.specs.Parts.{nodes_in, rule_of, signatures_of, tree_of}
 pub use Rattle.serde_json_path_syntax.specs.SliceView.{slice_view}
 pub use Rattle.serde_json_path_syntax.specs.Stages.{Stage, selector_view, selectors_list, selectors_of, stage_at, stage_of, stages, stages_at}
 pub use Rattle.serde_json_path_syntax.specs.Tree.{AreSingular, Argument, Arguments, Basic, Call, Operand, IsSingular, IsSingularSegment, Literal, LogicalAnd, LogicalOr, Operator, Query, QueryKind, Segment, SegmentKind, Segments, Selector, Selectors, Slice, and, argument, call, called, child, current, descendant, dot_name, dot_wildcard, equal, filter, greater, greater_or_equal, index, kind_of, less, less_or_equal, literal, logical_argument, long_hand, name, no_and, no_arguments, no_or, no_segments, no_selectors, not_equal, or, paren, query, operand, relation, root, segment, segments_of, selector, queried, slice, test, text, truth, wildcard}

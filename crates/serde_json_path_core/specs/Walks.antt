@@ -1,16 +1,16 @@
 -- Walks as contracts see them.
 use Rattle.std.specs.Prelude.{ℕ, List, length}
-use Rattle.serde_json_path_core.specs.Imports.{Data, view, Located, Query, segments_of, FunctionSet, tree_of, stages}
+use Rattle.serde_json_path_core.specs.Imports.{Data, view, Located, Query, segments_of, FunctionSet, with_rule, rule_of, tree_of, stages}
 use Rattle.serde_json_path_core.specs.Inside.Views.{frames_view}
 use Rattle.serde_json_path_core.specs.Inside.Rest.{rest_of, work}
 use Rattle.serde_json_path_core.specs.declared.evaluation.walks.Walk.{Walk}
 
--- the query, the function set and the document
+-- the query, the function set with the query's rule for numbers, and the document
 abbrev pub query_of : {F : Type 0} {g : _} → Walk F g → Query
 query_of w = tree_of w.scope.query.now
 
 abbrev pub set_of : {F : Type 0} {g : _} → Walk F g → FunctionSet
-set_of {F} {g} w = g.set w.scope.functions
+set_of {F} {g} w = with_rule (rule_of w.scope.query.now) (g.set w.scope.functions)
 
 abbrev pub document_of : {F : Type 0} {g : _} → Walk F g → Data
 document_of w = view w.scope.root.now

@@ -13,12 +13,12 @@ pub(crate) mod walks;
 ghost use Rattle.std.specs.Prelude.{◌≡◌, IfOk, IfErr};
 ghost use Rattle.serde_json.specs.View.{view};
 ghost use Rattle.serde_json_path_nodes.specs.Views.{located_nodes, node_values};
-ghost use Rattle.serde_json_path_functions.specs.Functions.{Fits};
+ghost use Rattle.serde_json_path_functions.specs.Functions.{Fits, with_rule};
 ghost use Rattle.serde_json_path_core.specs.Derivation.{start_of};
 ghost use Rattle.serde_json_path_syntax.specs.Flat.{query_kind_view};
 ghost use Rattle.serde_json_path_core.specs.Selects.{OnlyMemoryOrPattern, Selects, SelectsValues};
 ghost use Rattle.serde_json_path_core.specs.Walks.{rest, query_of, set_of, document_of};
-ghost use Rattle.serde_json_path_syntax.specs.Parts.{signatures_of, tree_of};
+ghost use Rattle.serde_json_path_syntax.specs.Parts.{rule_of, signatures_of, tree_of};
 ghost use Rattle.serde_json_path_functions.specs.declared.error.QueryError.TheVariants.{Memory};
 
 use crate::evaluation::frame::first_frames;
@@ -42,7 +42,7 @@ pub(crate) fn start<'b>(kind: QueryKind, node: &'b Value, root: &'b Value) -> &'
 }
 
 /// A walk over what the query selects in the document, node by node (RFC 9535, sections 2.1.2 and 2.5), under a function
-/// set that the query fits, which the walk keeps.
+/// set that the query fits, which the walk keeps. Comparisons take numbers by the query's rule.
 ///
 /// The nodes and the names of their locations borrow the document. An error comes only where memory is refused.
 ///
@@ -62,9 +62,11 @@ pub fn walk<'q, 'b, F: Functions + Drop>(
 ) -> Result<Walk<'q, 'b, F>, QueryError>
     requires { Fits (F.set functions) (signatures_of query.now) }
     ensures selects { IfOk result (λ walk.
-        Selects (F.set functions) (tree_of query.now) (view document.now) (rest walk)) }
+        Selects (with_rule (rule_of query.now) (F.set functions)) (tree_of query.now)
+        (view document.now) (rest walk)) }
     ensures query { IfOk result (λ walk. query_of walk ≡ tree_of query.now) }
-    ensures set { IfOk result (λ walk. set_of walk ≡ F.set functions) }
+    ensures set { IfOk result (λ walk.
+        set_of walk ≡ with_rule (rule_of query.now) (F.set functions)) }
     ensures document { IfOk result (λ walk. document_of walk ≡ view document.now) }
     ensures refused { IfErr result (λ e. e ≡ Memory) }
 {
@@ -96,9 +98,10 @@ pub fn evaluate_located<'b, F: Functions + Drop>(
 ) -> Result<LocatedNodeList<'b>, QueryError>
     requires { Fits (F.set functions) (signatures_of query.now) }
     ensures selects { IfOk result (λ list.
-        Selects (F.set functions) (tree_of query.now) (view document.now) (located_nodes list)) }
-    ensures refused { OnlyMemoryOrPattern (F.set functions) (tree_of query.now)
-        (view document.now) result }
+        Selects (with_rule (rule_of query.now) (F.set functions)) (tree_of query.now)
+        (view document.now) (located_nodes list)) }
+    ensures refused { OnlyMemoryOrPattern (with_rule (rule_of query.now) (F.set functions))
+        (tree_of query.now) (view document.now) result }
 {
     walk(alloc, query, document, functions)?.collect()
 }
@@ -113,10 +116,10 @@ pub fn evaluate<'b, F: Functions + Drop>(
 ) -> Result<NodeList<'b>, QueryError>
     requires { Fits (F.set functions) (signatures_of query.now) }
     ensures selects { IfOk result (λ list.
-        SelectsValues (F.set functions) (tree_of query.now) (view document.now)
-        (node_values list)) }
-    ensures refused { OnlyMemoryOrPattern (F.set functions) (tree_of query.now)
-        (view document.now) result }
+        SelectsValues (with_rule (rule_of query.now) (F.set functions)) (tree_of query.now)
+        (view document.now) (node_values list)) }
+    ensures refused { OnlyMemoryOrPattern (with_rule (rule_of query.now) (F.set functions))
+        (tree_of query.now) (view document.now) result }
 {
     let scope = Scope {
         alloc,

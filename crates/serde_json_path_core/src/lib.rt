@@ -30,7 +30,7 @@ pub use laws::{
     law_singular_query_selects_at_most_one,
 };
 pub use serde_json_path_functions as functions;
-pub use serde_json_path_functions::QueryError;
+pub use serde_json_path_functions::{Numbers, QueryError};
 pub use serde_json_path_nodes::{
     AtMostOneError, ExactlyOneError, LocatedNode, LocatedNodeList, LocatedNodes, Locations,
     NodeList, Nodes, NormalizedPath, PathElement, PathElements, law_texts_tell_locations,

@@ -3,8 +3,8 @@
 use serde_json::Value;
 use serde_json_path_functions::FunctionArgType::{Logical, Nodelist};
 use serde_json_path_functions::{
-    Builtin, FunctionArgType, FunctionValue, Functions, LogicalType, Numbers, QueryError,
-    Signature, ValueType,
+    Builtin, FunctionArgType, FunctionValue, Functions, LogicalType, QueryError, Signature,
+    ValueType,
 };
 use std::alloc::Global;
 use std::cell::Cell;
@@ -32,10 +32,6 @@ impl Functions for Overriding {
             "memory" => Signature::new(&[], Logical),
             _ => None,
         }
-    }
-
-    fn numbers(&self) -> Numbers {
-        Numbers::Whole
     }
 
     fn call<'b>(
@@ -101,10 +97,6 @@ impl Functions for Own {
             "eight" => Signature::new(&[FunctionArgType::Value; 8], Logical),
             _ => None,
         }
-    }
-
-    fn numbers(&self) -> Numbers {
-        Numbers::Whole
     }
 
     fn call<'b>(

@@ -25,13 +25,14 @@ pub data Matching : Type 0 where
   whole_text : Matching
   any_part : Matching
 
--- how comparisons take the numbers of documents: those held as integers alone, or all of them
+-- how the comparisons of a query take the numbers of documents: those held as integers alone, or all of them
 pub data Numbers : Type 0 where
   whole_numbers : Numbers
   all_numbers : Numbers
 
--- A function set: the signature of each name that it declares, the meaning of a name at its arguments, which names stand
--- for the built-in `match` or `search`, and how comparisons take numbers. Names are the bytes of their characters.
+-- A function set: the signature of each name that it declares, the meaning of a name at its arguments, and which names stand
+-- for the built-in `match` or `search`. Names are the bytes of their characters. In `numbers` clauses put the rule by which
+-- the comparisons of a query take numbers (`with_rule`); what a set says there itself counts for nothing.
 pub record FunctionSet : Type 0 where
   pub signature : List ℕ → Option Signature
   pub meaning : List ℕ → List Term → Term
@@ -66,7 +67,7 @@ KeepsTypes F =
     (name : List ℕ) (s : Signature) → F.signature name ≡ Some s
     → (length s.params ≤ 8) × ((ts : List Term) → map kind_of_term ts ≡ s.params → kind_of_term (F.meaning name ts) ≡ s.result)
 
--- ---- two sets, one before the other: the names of the first, then the other names of the second; numbers as the first takes them
+-- ---- two sets, one before the other: the names of the first, then the other names of the second
 
 abbrev pub first_signature : Option Signature → Option Signature → Option Signature
 first_signature None other = other
@@ -85,13 +86,9 @@ both A B = record {
   numbers = A.numbers;
 }
 
--- the functions of a set, where comparisons take numbers by a rule
+-- the functions of a set, for a query whose comparisons take numbers by a rule
 abbrev pub with_rule : Numbers → FunctionSet → FunctionSet
 with_rule rule F = record F { numbers = rule }
-
--- the same functions, where comparisons take all numbers
-abbrev pub with_all_numbers : FunctionSet → FunctionSet
-with_all_numbers F = with_rule all_numbers F
 
 -- ---- the built-in functions
 

@@ -1,15 +1,12 @@
 //! One function set before another.
 
 use crate::error::QueryError;
-use crate::numbers::Numbers;
 use crate::set::Functions;
 use crate::signature::Signature;
 use crate::types::FunctionValue;
-use serde_json::Value;
 use std::alloc::Global;
 
-/// The functions of the first set, and then those of the second whose names the first does not declare. Comparisons take
-/// numbers as the first set says, and both are told what is compared.
+/// The functions of the first set, and then those of the second whose names the first does not declare.
 ///
 /// A `Both<&F, Builtin>` puts your own functions before the built-in ones, and replaces those of the same name:
 ///
@@ -40,15 +37,6 @@ impl<A: Functions, B: Functions> Functions for Both<A, B> {
 
     fn declares(&self, name: &str) -> bool {
         self.0.declares(name) || self.1.declares(name)
-    }
-
-    fn numbers(&self) -> Numbers {
-        self.0.numbers()
-    }
-
-    fn compared(&self, value: &Value) {
-        self.0.compared(value);
-        self.1.compared(value)
     }
 
     fn call<'b>(

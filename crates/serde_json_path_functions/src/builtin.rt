@@ -10,7 +10,6 @@ ghost use Rattle.serde_json_path_functions.specs.Functions as spec;
 ghost use Rattle.serde_json_path_functions.specs.declared.error.QueryError.TheVariants.{Pattern};
 
 use crate::error::QueryError;
-use crate::numbers::Numbers;
 use crate::patterns::{FindsPatterns, Matching, ReadPattern};
 use crate::set::Functions;
 use crate::signature::Signature;
@@ -217,10 +216,6 @@ impl Functions for Builtin {
 
     fn declares(&self, name: &str) -> bool {
         named(name).is_some()
-    }
-
-    fn numbers(&self) -> Numbers {
-        Numbers::Whole
     }
 
     fn call<'b>(

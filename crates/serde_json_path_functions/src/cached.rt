@@ -9,7 +9,6 @@ ghost use Rattle.serde_json_path_functions.specs.declared.error.QueryError.TheVa
 
 use crate::builtin::{Builtin, answer_by};
 use crate::error::QueryError;
-use crate::numbers::Numbers;
 use crate::patterns::{FindsPatterns, Matching, PatternMatcher, ReadPattern};
 use crate::set::Functions;
 use crate::signature::Signature;
@@ -219,10 +218,6 @@ impl<'p> Functions for CachedPatterns<'p> {
 
     fn declares(&self, name: &str) -> bool {
         Builtin.declares(name)
-    }
-
-    fn numbers(&self) -> Numbers {
-        Builtin.numbers()
     }
 
     fn call<'b>(

@@ -2,9 +2,8 @@
 //!
 //! [`Functions`] is the trait of a function set: it declares names with their [`Signature`]s, and answers their calls.
 //! [`Builtin`] is the set of `length`, `count`, `value`, `match` and `search`, and [`CachedPatterns`] the same with the patterns
-//! that it has read; [`Both`] puts one set before another, [`AllNumbers`] has comparisons take all numbers, and [`Ruled`]
-//! has them take numbers by a rule that is chosen while a program runs.
-//! Arguments and answers are [`FunctionValue`]s.
+//! that it has read; [`Both`] puts one set before another. Arguments and answers are [`FunctionValue`]s. By which rule
+//! comparisons take numbers ([`Numbers`]), a query says.
 //!
 //! ```text
 //! let functions = Both(&own, Builtin);
@@ -32,7 +31,7 @@ pub use both::Both;
 pub use builtin::Builtin;
 pub use cached::{CachedPatterns, PatternStore};
 pub use error::QueryError;
-pub use numbers::{AllNumbers, Numbers, Ruled};
+pub use numbers::Numbers;
 pub use set::Functions;
 pub use signature::Signature;
 pub use types::{FunctionArgType, FunctionValue, LogicalType, NodesType, ValueType};

@@ -3,20 +3,19 @@
 ghost use Rattle.std.specs.Prelude.{◌≡◌, IfOk, Err, is_some, map, option_map};
 ghost use Rattle.serde_json_path_functions.specs.Functions.{FunctionSet, Takes, Gives, KeepsTypes};
 ghost use Rattle.serde_json_path_functions.specs.Patterns.{KeepsPatterns, MayRefuse};
-ghost use Rattle.serde_json_path_functions.specs.Terms.{numbers_view, term_view, signature_view};
+ghost use Rattle.serde_json_path_functions.specs.Terms.{term_view, signature_view};
 ghost use Rattle.serde_json_path_functions.specs.declared.error.QueryError.TheVariants.{Pattern};
 
 use crate::error::QueryError;
-use crate::numbers::Numbers;
 use crate::signature::Signature;
 use crate::types::FunctionValue;
-use serde_json::Value;
 use std::alloc::Global;
 
 /// A set of functions, which filters call by name (RFC 9535, section 2.4).
 ///
 /// An implementation states once what it declares and what its names mean (`set`), and that does not change. When a call
-/// succeeds, its answer is the stated meaning of the name at the arguments.
+/// succeeds, its answer is the stated meaning of the name at the arguments. What it states of numbers counts for nothing: a
+/// query says how its comparisons take them.
 pub trait Functions {
     /// The set that contracts see.
     ghost set: { Self → FunctionSet };
@@ -37,14 +36,6 @@ pub trait Functions {
     {
         self.signature(name).is_some()
     }
-
-    /// How comparisons take the numbers of documents. With the built-in functions alone it is `Numbers::Whole`.
-    fn numbers(&self) -> Numbers
-        ensures { numbers_view result ≡ (set self.now).numbers };
-
-    /// Told of each value that a comparison takes for one of its sides, each time. A number of the path is not told. It does
-    /// nothing, unless a set counts or records what is compared.
-    fn compared(&self, _value: &Value) {}
 
     /// The answer of a declared name to arguments of the declared types.
     ///
@@ -78,14 +69,6 @@ impl<F: Functions> Functions for &F {
 
     fn declares(&self, name: &str) -> bool {
         (**self).declares(name)
-    }
-
-    fn numbers(&self) -> Numbers {
-        (**self).numbers()
-    }
-
-    fn compared(&self, value: &Value) {
-        (**self).compared(value)
     }
 
     fn call<'b>(

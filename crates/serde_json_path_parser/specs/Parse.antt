@@ -1,7 +1,7 @@
 -- Acceptance: which texts a parse accepts, each with which tree, and what it may refuse for want of
 -- memory.
 use Rattle.std.specs.Prelude.{◌≡◌, ◌≢◌, ℕ, ◌<◌, ◌⊎◌, Bool, false, List, ◌++◌, length, codes, Option, Result, IfOk, IfErr, IsErrAnd}
-use Rattle.serde_json_path_parser.specs.Imports.{result_map_both, chars, Checked, tree_of, signatures_of, Query, AreCalled, Signature}
+use Rattle.serde_json_path_parser.specs.Imports.{result_map_both, chars, Checked, tree_of, signatures_of, rule_of, Query, AreCalled, Signature, Numbers, whole_numbers}
 use Rattle.serde_json_path_parser.specs.declared.error.ParseErrorKind.TheVariants.{NoMemory}
 use Rattle.serde_json_path_parser.specs.declared.error.ParseError.{ParseError}
 use Rattle.serde_json_path_parser.specs.Lexical.{◌∈◌, begins, is_blank, IsBlank, opens}
@@ -19,10 +19,11 @@ NeedsNoMemory text =
     ⊎ ((blanks rest : List ℕ) × (text ≡ codes "$" ++ (blanks ++ rest)) × IsBlank blanks
     × (begins is_blank rest ≡ false) × (begins opens rest ≡ false))
 
--- a tree, and the names that it calls, each with its signature
+-- a tree, the names that it calls, each with its signature, and the rule by which its comparisons take numbers
 pub record ParsedQuery : Type 0 where
   pub tree : Query
   pub signatures : List (List ℕ × Signature)
+  pub rule : Numbers
 
 -- What a parse answers of a text, which is given by the bytes of its UTF-8.
 pub record IsParse (signature : List ℕ → Option Signature) (text : List ℕ) (answer : Result ParsedQuery ParseError) : Type 0 where
@@ -30,6 +31,8 @@ pub record IsParse (signature : List ℕ → Option Signature) (text : List ℕ)
   pub accepted : IfOk answer (λ read. IsAccepted signature (chars text) read.tree)
   -- it keeps the names that it calls, each once, and no other
   pub kept : IfOk answer (λ read. AreCalled read.signatures read.tree)
+  -- its comparisons take whole numbers
+  pub whole : IfOk answer (λ read. read.rule ≡ whole_numbers)
   -- and is accepted with no other tree
   pub only : IfOk answer (λ read. (q : Query) → IsAccepted signature (chars text) q → q ≡ read.tree)
   -- a refusal, unless memory was refused, means that the text is accepted with no tree
@@ -50,4 +53,4 @@ IsParseOf view signature text result = IsParse signature text (result_map_both v
 
 -- a finished query, seen so
 abbrev pub checked_view : Checked → ParsedQuery
-checked_view checked = record { tree = tree_of checked; signatures = signatures_of checked }
+checked_view checked = record { tree = tree_of checked; signatures = signatures_of checked; rule = rule_of checked }

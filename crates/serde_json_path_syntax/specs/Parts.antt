@@ -1,7 +1,8 @@
 -- The parts that a builder has made and the finished tree, as contracts see them.
 use Rattle.std.specs.Prelude.{◌≡◌, ◌<◌, ℕ, List, [], ◌∷◌, length}
 use Rattle.serde_json_path_syntax.specs.Tree.{Query, Segments, no_segments, segment, Selectors, no_selectors, selector, LogicalOr, no_or, or, LogicalAnd, no_and, and, Arguments, no_arguments, argument, Argument, operand, logical_argument}
-use Rattle.serde_json_path_functions.specs.Functions.{Signature}
+use Rattle.serde_json_path_functions.specs.Functions.{Numbers, Signature}
+use Rattle.serde_json_path_functions.specs.Terms.{numbers_view}
 use Rattle.serde_json_path_syntax.specs.Used.{each_once}
 use Rattle.serde_json_path_syntax.specs.Branch.{Branch, a_segment, a_selector, an_or, an_and, a_basic, an_operand}
 use Rattle.serde_json_path_syntax.specs.Flat.{calls_among, branch_at, query_at}
@@ -101,3 +102,7 @@ signatures_of checked = each_once (calls_among (nodes_in checked))
 -- the tree of a finished query
 abbrev pub tree_of : Checked → Query
 tree_of checked = query_at (nodes_in checked) checked.query
+
+-- the rule by which its comparisons take numbers
+abbrev pub rule_of : Checked → Numbers
+rule_of checked = numbers_view checked.numbers

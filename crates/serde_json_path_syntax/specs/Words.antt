@@ -2,7 +2,7 @@
 pub use Rattle.serde_json.specs.Data.{number}
 pub use Rattle.serde_json.specs.Find.{of_integer}
 pub use Rattle.serde_json.specs.View.{view}
-pub use Rattle.serde_json_path_functions.specs.Functions.{Fits, FunctionSet, Kind, Signature, of_logical, of_nodes, of_value}
+pub use Rattle.serde_json_path_functions.specs.Functions.{Fits, FunctionSet, Kind, Signature, of_logical, of_nodes, of_value, whole_numbers}
 pub use Rattle.serde_json_path_functions.specs.Terms.{signature_view}
 pub use Rattle.serde_json_path_numbers.specs.Numbers.{literal_number}
 pub use Rattle.serde_json_path_numbers.specs.Views.{exact_view}
@@ -15,7 +15,7 @@ pub use Rattle.serde_json_path_syntax.specs.Kinds.{AreFitting, AreOfKind, IsOfKi
 pub use Rattle.serde_json_path_syntax.specs.Lists.{IsIn, IsInOrder}
 pub use Rattle.serde_json_path_syntax.specs.Literals.{literal_view, number_amount, whole_amount, operator_view}
 pub use Rattle.serde_json_path_syntax.specs.PartBounds.{parts_bound, selector_bound}
-pub use Rattle.serde_json_path_syntax.specs.Parts.{AreAndPartsOf, AreArgumentsOf, AreOrPartsOf, ArePartsFor, ArePartsOf, AreSelectorsOf, HasNoParts, IsPart, KeepsParts, KeepsTrees, and_branches, argument_branch, argument_branches, calls_in, nodes_in, number_of, or_branches, segment_branches, selector_branches, signatures_of, tree_of}
+pub use Rattle.serde_json_path_syntax.specs.Parts.{AreAndPartsOf, AreArgumentsOf, AreOrPartsOf, ArePartsFor, ArePartsOf, AreSelectorsOf, HasNoParts, IsPart, KeepsParts, KeepsTrees, and_branches, argument_branch, argument_branches, calls_in, nodes_in, number_of, or_branches, rule_of, segment_branches, selector_branches, signatures_of, tree_of}
 pub use Rattle.serde_json_path_syntax.specs.Branch.{Branch, a_basic, a_call, an_operand, a_query, a_segment, a_selector, an_and, an_or}
 pub use Rattle.serde_json_path_syntax.specs.SliceView.{slice_view}
 pub use Rattle.serde_json_path_syntax.specs.Stages.{selectors_list}

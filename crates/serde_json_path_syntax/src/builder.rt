@@ -26,7 +26,7 @@ pub struct SyntaxBuilder {
 
 impl SyntaxBuilder {
     ghost use Rattle.std.specs.Prelude.{true, ◌≡◌, ◌↔◌, ◌++◌, ◌∷◌, [], IfOk, OnErr, OnOk, IsTrue, string_bytes, length};
-    ghost use Rattle.serde_json_path_syntax.specs.Words.{literal_view, operator_view, a_query, a_segment, a_selector, an_or, an_and, a_basic, an_operand, a_call, IsOptionalInteger, called_by, query_kind_view, segment_kind_view, NamesBelow, parts_in, branch_of, branches, fits, slice_view, HasNoParts, IsPart, ArePartsOf, AreSelectorsOf, AreOrPartsOf, AreAndPartsOf, AreArgumentsOf, KeepsParts, KeepsTrees, calls_in, tree_of, signatures_of, MayFinish, each_once, signature_view};
+    ghost use Rattle.serde_json_path_syntax.specs.Words.{literal_view, operator_view, a_query, a_segment, a_selector, an_or, an_and, a_basic, an_operand, a_call, IsOptionalInteger, called_by, query_kind_view, segment_kind_view, NamesBelow, parts_in, branch_of, branches, fits, slice_view, HasNoParts, IsPart, ArePartsOf, AreSelectorsOf, AreOrPartsOf, AreAndPartsOf, AreArgumentsOf, KeepsParts, KeepsTrees, calls_in, tree_of, rule_of, signatures_of, whole_numbers, MayFinish, each_once, signature_view};
     ghost use Rattle.serde_json_path_syntax.specs.Tree as tree;
 
     /// A builder with no parts. Takes no memory.
@@ -303,6 +303,7 @@ impl SyntaxBuilder {
         requires { (q : tree.Query) × IsPart self part (a_query q) × MayFinish (calls_in self) q }
         ensures tree { (q : tree.Query) → IsPart self part (a_query q) → tree_of result ≡ q }
         ensures used { signatures_of result ≡ each_once (calls_in self) }
+        ensures rule { rule_of result ≡ whole_numbers }
     {
         Checked::of(self.arena, part)
     }

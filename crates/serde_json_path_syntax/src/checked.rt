@@ -14,17 +14,18 @@ ghost use Rattle.serde_json_path_syntax.specs.Stages.{selector_view, stage_at};
 use crate::arena::Arena;
 use crate::node::{Node, Part, QueryKind, Segment, SegmentKind, Selector};
 use crate::selector_ref::SelectorRef;
-use serde_json_path_functions::{FunctionArgType, Functions};
+use serde_json_path_functions::{FunctionArgType, Functions, Numbers};
 use std::alloc::{AllocError, Global};
 
 /// A well-typed query from the document's root.
 ///
-/// Contracts see it as its syntax tree and the signatures of the functions that it calls. Those of its parts see the nodes
-/// of which the tree is made.
+/// Contracts see it as its syntax tree, the signatures of the functions that it calls, and the rule by which its comparisons
+/// take numbers. Those of its parts see the nodes of which the tree is made.
 #[derive(Drop)]
 pub struct Checked {
     arena: Arena,
     query: Option<Part>,
+    numbers: Numbers,
     ghost within: { ForSome query (λ part. part.number < length arena.nodes.items) },
     ghost kind: { ForSome query (λ part. IsOfKind is_query arena.nodes.items part) },
     pub ghost rooted: { kind_of (query_at arena.nodes.items query) ≡ root },
@@ -39,19 +40,21 @@ pub struct Checked {
 
 impl Checked {
     ghost use Rattle.std.specs.Prelude.{ℕ, List, true, map, Some, IfOk, string_bytes};
-    ghost use Rattle.serde_json_path_syntax.specs.Words.{AreOfKind, IsOfKind, fits, is_and, is_argument, is_basic, is_call, is_or, is_query, is_segment, is_selector, selector_ref_fits, IsIn, child, query, no_segments, segments_of, FunctionSet, Signature, arguments_of, name_of, MayFinish, or_at, ors_in, and_at, ands_in, call_at, arguments_in, part_query, segment_kind_view, branch_at, branch_of, branches, branches_named, segments_at, selector_at, selectors_at, NamesBelow, selectors_list, query_text, nodes_in, number_of, tree_of, signatures_of, parts_bound, selector_bound};
+    ghost use Rattle.serde_json_path_syntax.specs.Words.{AreOfKind, IsOfKind, fits, is_and, is_argument, is_basic, is_call, is_or, is_query, is_segment, is_selector, selector_ref_fits, IsIn, child, query, no_segments, segments_of, FunctionSet, Signature, arguments_of, name_of, MayFinish, or_at, ors_in, and_at, ands_in, call_at, arguments_in, part_query, segment_kind_view, branch_at, branch_of, branches, branches_named, segments_at, selector_at, selectors_at, NamesBelow, selectors_list, query_text, nodes_in, number_of, tree_of, rule_of, signatures_of, whole_numbers, parts_bound, selector_bound};
     ghost use Rattle.serde_json_path_syntax.specs.Tree as tree;
-    ghost use Rattle.serde_json_path_functions.specs.Terms.{kind_view};
+    ghost use Rattle.serde_json_path_functions.specs.Terms.{kind_view, numbers_view};
     ghost use Rattle.serde_json_path_syntax.specs.Flat.{query_kind_view};
 
     /// The query `$`. Takes no memory.
     pub fn new(alloc: Global) -> Checked
         ensures tree { tree_of result ≡ query root no_segments }
         ensures used { signatures_of result ≡ [] }
+        ensures rule { rule_of result ≡ whole_numbers }
     {
         Checked {
             arena: Arena::new(alloc),
             query: None,
+            numbers: Numbers::Whole,
         }
     }
 
@@ -63,25 +66,47 @@ impl Checked {
             (part_query arena.nodes.items part) }
         ensures tree { tree_of result ≡ part_query arena.nodes.items part }
         ensures used { signatures_of result ≡ each_once (calls_among arena.nodes.items) }
+        ensures rule { rule_of result ≡ whole_numbers }
     {
         Checked {
             arena,
             query: Some(part),
+            numbers: Numbers::Whole,
         }
     }
 
-    /// A copy of the query, with the signatures that it keeps.
+    /// A copy of the query, with the signatures and the rule for numbers that it keeps.
     ///
     /// An error comes only where memory is refused.
     pub fn try_clone(&self, alloc: Global) -> Result<Checked, AllocError>
         ensures tree { IfOk result (λ copy. tree_of copy ≡ tree_of self.now) }
         ensures used { IfOk result (λ copy. signatures_of copy ≡ signatures_of self.now) }
+        ensures rule { IfOk result (λ copy. rule_of copy ≡ rule_of self.now) }
     {
         let arena = self.arena.try_clone(alloc)?;
         Ok(Checked {
             arena,
             query: self.query,
+            numbers: self.numbers,
         })
+    }
+
+    /// The same query, whose comparisons take numbers by that rule.
+    pub fn with_numbers(mut self, numbers: Numbers) -> Checked
+        ensures tree { tree_of result ≡ tree_of self }
+        ensures used { signatures_of result ≡ signatures_of self }
+        ensures rule { rule_of result ≡ numbers_view numbers }
+    {
+        self.numbers = numbers;
+        self
+    }
+
+    /// How its comparisons take numbers: as whole ones, unless `with_numbers` says otherwise.
+    #[inline]
+    pub fn numbers(&self) -> Numbers
+        ensures { numbers_view result ≡ rule_of self.now }
+    {
+        self.numbers
     }
 
     /// The path as text, as Display prints it, in one growing text.

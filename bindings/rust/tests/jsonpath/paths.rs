@@ -77,18 +77,20 @@ fn numbers_go_by_the_rule_of_the_path() {
     for (text, document, whole, all) in NUMBERS {
         let document = Document::parse(document.as_bytes()).unwrap();
         let path = path(text);
-        let path_of_all = JsonPath::parse_with(text, Numbers::All).unwrap();
-        assert_eq!(path.count(&document), Ok(*whole), "{text}");
-        assert_eq!(path_of_all.count(&document), Ok(*all), "{text}");
-        assert_eq!(path_of_all.clone().count(&document), Ok(*all), "{text}");
-        assert_eq!(path, path_of_all, "{text}");
-        let rules = [path.numbers(), path_of_all.numbers()];
-        assert_eq!(rules, [Numbers::Whole, Numbers::All]);
+        let path_of_whole = JsonPath::parse_with(text, Numbers::Whole).unwrap();
+        assert_eq!(path.count(&document), Ok(*all), "{text}");
+        assert_eq!(path_of_whole.count(&document), Ok(*whole), "{text}");
+        assert_eq!(path_of_whole.clone().count(&document), Ok(*whole), "{text}");
+        assert_eq!(path, path_of_whole, "{text}");
+        let rules = [path.numbers(), path_of_whole.numbers()];
+        assert_eq!(rules, [Numbers::All, Numbers::Whole]);
     }
 }
 
 #[test]
 fn one_shot_calls_take_numbers_as_the_path_does() {
-    let path = JsonPath::parse_with("$[?@ < 9]", Numbers::All).unwrap();
-    assert_eq!(path.query_bytes(b"[8.95]").unwrap().as_str(), "8.95\n");
+    let path = JsonPath::parse_with("$[?@ < 9]", Numbers::Whole).unwrap();
+    assert_eq!(path.query_bytes(b"[8.95, 8]").unwrap().as_str(), "8\n");
+    let path = JsonPath::parse("$[?@ < 9]").unwrap();
+    assert_eq!(path.query_bytes(b"[8.95, 8]").unwrap().as_str(), "8.95\n8\n");
 }

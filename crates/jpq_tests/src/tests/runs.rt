@@ -12,7 +12,7 @@ const RUNS: &[&str] = &[
     "$.foo.bar[0] ~ {\"foo\":{\"bar\":[\"baz\",42]}} -> 0: $['foo']['bar'][0]\t\"baz\"~",
     "$.foo ~ {} -> 1: ",
     r#"-v  $..book[?@.price < 10].title  book.json -> 0: "Sayings of the Century"~"Moby Dick"~"#,
-    "-s  --whole-numbers  -v  $..book[?@.price < 10].title  book.json -> 1: ",
+    "--whole-numbers  -v  $..book[?@.price < 10].title  book.json -> 1: ",
     "-v  $[?@ == 100] ~ [1e2] -> 0: 100.0~",
     // Forms.
     "-r  $..title  book.json -> 0: Sayings of the Century~Sword of Honour~Moby Dick~",
@@ -64,18 +64,11 @@ const TOLD: &[&str] = &[
     "-v  $[?@.a == '.length'] ~ [] -> 1: ",
     r#"-v  $[?@.a == "['*']"] ~ [] -> 1: "#,
     "-v  $.lengths['count']['*', 'a'] ~ [] -> 1: ",
-    "--whole-numbers  -v  $..book[?@.price < 10].title  book.json -> 1: , told jpq: 3 numbers..~",
-    "--whole-numbers  -c  -e  $[?@ == 1 || @ == 2]  -e  $[?1 != @]  -e  $[*]  - ~ [1,1.5,\"a\",[2.5]] -> 0: 1\t1~2\t3~3\t4~, told jpq: 3 numbers..~",
-    "--whole-numbers  -c  $[?@[0] == @[1]] ~ [[1,1],[1.5,1.5],[1]] -> 0: 1~, told jpq: 2 numbers..~",
-    r#"--whole-numbers  -c  $[?@ == 1] ~ [1,{"a":1.5}] -> 0: 1~"#,
-    "-s  --whole-numbers  -c  $[?@ == 1] ~ [1,1.5] -> 0: 1~",
-    "-c  $[?@ == 1] ~ [1,1.5] -> 0: 1~",
+    "--whole-numbers  -c  -e  $[?@ == 1 || @ == 2]  -e  $[?1 != @]  -e  $[*]  - ~ [1,1.5,\"a\",[2.5]] -> 0: 1\t1~2\t3~3\t4~",
+    "--whole-numbers  -c  $[?@[0] == @[1]] ~ [[1,1],[1.5,1.5],[1]] -> 0: 1~",
+    "-c  $[?@[0] == @[1]] ~ [[1,1],[1.5,1.5],[1]] -> 0: 2~",
     r#"-s  -v  $.items.length ~ {"items":[1]} -> 1: "#,
 ];
-
-/// What is told of numbers, which stands as `..` in a row.
-const NOT_HELD: &str =
-    " that were compared are not held as integers: they equal nothing and are not ordered";
 
 /// The status and what is written, and what is told, if anything is, as in a row.
 fn of_run(alloc: Global, given: &str) -> Came {
@@ -83,8 +76,7 @@ fn of_run(alloc: Global, given: &str) -> Came {
     let ran = run_line(alloc, line, standard)?;
     let before = if ran.err.is_empty() { "" } else { ", told " };
     let text = format!(in alloc; "{}: {}{before}{}", ran.status, ran.out, ran.err)?;
-    let text = text.replace(alloc, "\n", "~")?;
-    Ok(text.replace(alloc, NOT_HELD, "..")?)
+    Ok(text.replace(alloc, "\n", "~")?)
 }
 
 #[test]

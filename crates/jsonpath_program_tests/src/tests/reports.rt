@@ -2,7 +2,7 @@
 
 use jsonpath_lines::Form;
 use jsonpath_program::report::{report, report_in, report_under};
-use serde_json_path::functions::{Builtin, Functions, Numbers, Ruled};
+use serde_json_path::functions::{Builtin, Functions};
 use serde_json_path_core_tests::{BOOKSTORE, Came, Own, fields, hold_rows, nested};
 use std::alloc::Global;
 use std::test::Fail;
@@ -27,6 +27,8 @@ const LINES: &[&str] = &[
     "$..baz ~ {\"foo\":{\"bar\":{\"baz\":1},\"baz\":2},\"baz\":3} -> $['baz']\t3\n$['foo']['baz']\t2\n$['foo']['bar']['baz']\t1\n",
     "$[?@.a == @.b] ~ [{},{\"a\":1},{\"a\":1,\"b\":1}] -> $[0]\t{}\n$[2]\t{\"a\":1,\"b\":1}\n",
     "$[?@.a[?@ > $.min]] ~ {\"min\":3,\"x\":{\"a\":[1,5]},\"y\":{\"a\":[2]}} -> $['x']\t{\"a\":[1,5]}\n",
+    "$[?@ == 1.5] ~ [1.5,1] -> ",
+    "$[?@ < 2] ~ [1.5,1] -> $[1]\t1\n",
 ];
 
 /// A path, and the lines of its report of [`READINGS`].
@@ -94,26 +96,6 @@ fn halves(alloc: Global, given: &str) -> Came {
 #[test]
 fn locations_alone_and_values_alone(rt: HostRuntime) -> Result<(), Fail> {
     hold_rows(&rt, HALVES, halves)
-}
-
-/// A path, a document, and the lines of their report where comparisons take whole numbers, and where they take all.
-const RULES: &[&str] = &[
-    "$[?@ == 1.5] ~ [1.5,1] ->  ~ $[0]\t1.5\n",
-    "$[?@ < 2] ~ [1.5,1] -> $[1]\t1\n ~ $[0]\t1.5\n$[1]\t1\n",
-    "$[?length(@) == 1] ~ [[1.5],1] -> $[0]\t[1.5]\n ~ $[0]\t[1.5]\n",
-];
-
-/// The report of a path and a document under each rule for numbers.
-fn by_rules(alloc: Global, given: &str) -> Came {
-    let functions = Builtin;
-    let [whole, all] = [Numbers::Whole, Numbers::All].map(|numbers| Ruled { functions, numbers });
-    let (whole, all) = (of_row(alloc, &whole, given)?, of_row(alloc, &all, given)?);
-    Ok(format!(in alloc; "{whole} ~ {all}")?)
-}
-
-#[test]
-fn lines_by_each_rule_for_numbers(rt: HostRuntime) -> Result<(), Fail> {
-    hold_rows(&rt, RULES, by_rules)
 }
 
 /// A path, a document, and the text of the refusal.

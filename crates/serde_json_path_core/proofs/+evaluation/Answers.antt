@@ -3,7 +3,7 @@ use Rattle.serde_json_path_core.specs.declared.child.Child.{Child}
 use Rattle.serde_json_path_core.specs.Inside.Evaluates.{IsKept}
 use Rattle.serde_json_path_core.specs.Inside.Computed as computed
 use Rattle.serde_json_path_core.specs.Inside.Rest as advances
-use Rattle.serde_json_path_core.proofs.Steps.Answered.{given-all, answered, by_pattern, if_refused}
+use Rattle.serde_json_path_core.proofs.Steps.Answered.{given-all, answered, answered-kind, by_pattern, if_refused}
 use Rattle.serde_json_path_core.proofs.Steps.Lookups.{found-none, found-some}
 use Rattle.serde_json_path_core.proofs.Walks.Frames.{at_selector, ends-trans, passes-over, passes-skipped, at-onward, at-downward, done}
 use Rattle.serde_json_path_core.proofs.Walks.Stacks.{rest-started}
@@ -410,6 +410,11 @@ filter::call::answer-loop-argument-preserved g t c =
       typed = grind (arith, common_steps);
       means = grind (arith, common_steps);
     }
+
+pub filter::call::answer-returns-clause-kind : goal.filter::call::answer-returns-clause-kind
+filter::call::answer-returns-clause-kind g t c =
+    let scope = c.args.scope.now in
+    answered-kind (set_of scope) (call_at (nodes_of scope) c.args.call) c.called_name-name.result.now c.call.result c.called_name-name.ensures c.call.ensures.typed_answer
 
 pub filter::call::answer-returns-clause-computes : goal.filter::call::answer-returns-clause-computes
 filter::call::answer-returns-clause-computes g t c =

@@ -1,5 +1,6 @@
 -- A call of a set answers what is computed, and is refused for its pattern only where it goes by one.
-use Rattle.serde_json_path_core.proofs.Words.{◌≡◌, ◌⊎◌, ℕ, List, [], ◌∷◌, ◌++◌, length, map, inl, inr, Result, Ok, Err, IfOk, IfErr, refl, sym, ap, subst, ◌∙◌, append-nil, Data, Query, Call, call, Term, FunctionSet, term_view, params_of, IsTypedCall, AreTypedArguments, CallsByPattern, StandsIn, IsSound, arguments_of, calls_from, name_of, answer, arguments, Branch, arguments_in, branches_named, Part, kind_view}
+use Rattle.serde_json_path_core.proofs.Words.{◌≡◌, ◌⊎◌, ℕ, List, [], ◌∷◌, ◌++◌, length, map, inl, inr, Option, Some, None, option_map, Result, Ok, Err, IfOk, IfErr, refl, sym, ap, subst, ◌∙◌, append-nil, Data, Query, Call, call, Term, FunctionSet, Signature, kind_of_term, result_kind, term_view, params_of, IsTypedCall, AreTypedArguments, CallsByPattern, StandsIn, IsSound, arguments_of, calls_from, name_of, answer, arguments, Branch, arguments_in, branches_named, Part, kind_view}
+use Rattle.serde_json_path_functions.specs.Functions.{Gives}
 use Rattle.serde_json_path_functions.specs.Patterns.{MayRefuse}
 use Rattle.serde_json_path_functions.specs.declared.error.QueryError.{QueryError}
 use Rattle.serde_json_path_functions.specs.declared.error.QueryError.TheVariants.{Pattern}
@@ -8,6 +9,17 @@ use Rattle.serde_json_path_functions.specs.declared.types.FunctionValue.{Functio
 use Rattle.serde_json_path_core.proofs.Sound.{own-call}
 use Rattle.serde_json_path_core.proofs.Meaning.AnswerKinds.{answered-typed, taken-typed}
 use Rattle.serde_json_path_core.proofs.Meaning.Derived.{arguments_right}
+
+-- a term that a signature gives is of its result's type
+given-kind : (s : Option Signature) (t : Term) → Gives s t → Some (kind_of_term t) ≡ option_map (λ (s : Signature). s.result) s
+given-kind None t gives = absurd gives
+given-kind (Some s) t gives = ap Some gives
+
+-- and so is a call's answer
+pub answered-kind : {E : Type 0} (F : FunctionSet) (c : Call) (name : List ℕ) (r : Result FunctionValue E) → name ≡ name_of c
+    → IfOk r (λ a. Gives (F.signature name) (term_view a)) → IfOk r (λ a. Some (kind_of_term (term_view a)) ≡ result_kind F.signature c)
+answered-kind F (call f args) name (Ok a) e gives = given-kind (F.signature f) (term_view a) (subst (λ n. Gives (F.signature n) (term_view a)) e gives)
+answered-kind F _ name (Err x) e gives = tt
 
 module _ (F : FunctionSet) (top : Data) where
   -- where no argument is left, or no parameter, nothing is left to give

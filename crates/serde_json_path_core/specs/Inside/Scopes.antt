@@ -1,6 +1,6 @@
 -- What all parts of an evaluation share, and what it asks of the query.
 use Rattle.std.specs.Prelude.{ℕ, List, Option}
-use Rattle.serde_json_path_core.specs.Imports.{Signature, FunctionSet, Query, Call, OfEach, calls_of, IsIn, Data, view, nodes_in, tree_of, Node}
+use Rattle.serde_json_path_core.specs.Imports.{Signature, FunctionSet, with_rule, rule_of, Query, Call, OfEach, calls_of, IsIn, Data, view, nodes_in, tree_of, Node}
 use Rattle.serde_json_path_core.specs.PatternCalls.{CallsByPattern}
 use Rattle.serde_json_path_core.specs.declared.evaluation.scope.Scope.{Scope}
 
@@ -28,9 +28,9 @@ query_of scope = tree_of scope.query.now
 abbrev pub top_of : {F : Type 0} {g : _} → Scope F g → Data
 top_of scope = view scope.root.now
 
--- the function set
+-- the function set, with the query's rule for numbers
 abbrev pub set_of : {F : Type 0} {g : _} → Scope F g → FunctionSet
-set_of {F} {g} scope = g.set scope.functions
+set_of {F} {g} scope = with_rule (rule_of scope.query.now) (g.set scope.functions)
 
 -- some call of the query goes by a pattern that `regex` reads
 abbrev pub MayRefuse : {F : Type 0} {g : _} → Scope F g → Type 0

@@ -7,20 +7,9 @@ ghost use Rattle.serde_json_path_core.specs.Inside.Computed.{compare as comparis
 use crate::filter::equality::{same_amounts, same_values};
 use crate::filter::side::{Side, amount_of, exact_of, whole_of};
 use serde_json::Value;
-use serde_json_path_functions::{Functions, Numbers};
+use serde_json_path_functions::Numbers;
 use serde_json_path_numbers::ExactNumber;
 use serde_json_path_syntax::ComparisonOperator;
-
-/// Tells a set the values that two sides stand for.
-#[inline(always)]
-pub(crate) fn tell_sides<F: Functions>(functions: &F, left: Side, right: Side) {
-    if let Side::Value(value) = left {
-        functions.compared(value);
-    }
-    if let Side::Value(value) = right {
-        functions.compared(value);
-    }
-}
 
 /// Whether a comparison of two sides holds.
 #[inline(always)]

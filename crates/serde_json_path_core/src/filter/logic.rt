@@ -6,7 +6,7 @@ ghost use Rattle.serde_json_path_core.specs.Inside.Computed as computed;
 
 use crate::evaluation::scope::Scope;
 use crate::filter::call::{answer, answer_holds};
-use crate::filter::compare::{compare_sides, tell_sides};
+use crate::filter::compare::compare_sides;
 use crate::filter::comparison::{Comparison, SideForm, form_of, plain_side};
 use crate::filter::query::first;
 use crate::filter::side::{Side, side_of_answer};
@@ -246,8 +246,7 @@ fn compares_with<'b, F: Functions>(
     match right {
         SideForm::Plain(right) => {
             let right = plain_side(scope, right, current);
-            tell_sides(&scope.functions, left, right);
-            Ok(compare_sides(scope.functions.numbers(), operator, left, right))
+            Ok(compare_sides(scope.query.numbers(), operator, left, right))
         }
         SideForm::Called(right) => compares_with_answer(scope, left, operator, right, current),
     }
@@ -270,6 +269,5 @@ fn compares_with_answer<'b, F: Functions>(
 {
     let answer = answer(scope, call, current)?;
     let right = side_of_answer(&answer);
-    tell_sides(&scope.functions, left, right);
-    Ok(compare_sides(scope.functions.numbers(), operator, left, right))
+    Ok(compare_sides(scope.query.numbers(), operator, left, right))
 }

@@ -1,5 +1,5 @@
 -- Whole paths, and the promises of a parse.
-use Rattle.serde_json_path_parser.proofs.Words.{◌==◌, encode_utf8_all, all_scalars, chars, IsUtf8, IsCharBoundary, append-nil, length-append, nil_from_length, eqb-true, SegmentKind, Segments, Segment, deepest, Signature, ParseErrorKind, ExpectedRoot, UndefinedFunction, TextAfterPath, NoMemory, IsUndeclared, is_at, begins, Parsed, refusal, opens_next, read_segments, segment_list, opens_after_root, level, read_path, encodes-chars, encodes-append, scalars-chars, IsCharBoundary-at_seam, ◌&&◌, take-append_seam, drop-append_seam, IsCharBoundary-start, chars-encodes, Query, query, root, current, greatest_usize, Refusal, Failure, tree_of, signatures_of, opens, AreCalled, Reports, reported, Fails, IsRefused, IsWithin, error_of, is_dollar, NeedsNoMemory, ParsedQuery, IsParse, checked_view, eq-eqb, length-le-encodes, ◌≡◌, ◌≢◌, ℕ, ◌≤◌, ◌↔◌, true, false, true≢false, List, [], ◌∷◌, ◌++◌, length, drop, Option, Ok, refl, sym, ap, subst, ◌∙◌, arith, ◌+◌, ◌-◌, inl, inr, ◌<◌, take, Some, Err, read_filter, Memory, Refused, is_blank, read_next_segment}
+use Rattle.serde_json_path_parser.proofs.Words.{◌==◌, encode_utf8_all, all_scalars, chars, IsUtf8, IsCharBoundary, append-nil, length-append, nil_from_length, eqb-true, SegmentKind, Segments, Segment, deepest, Signature, ParseErrorKind, ExpectedRoot, UndefinedFunction, TextAfterPath, NoMemory, IsUndeclared, is_at, begins, Parsed, refusal, opens_next, read_segments, segment_list, opens_after_root, level, read_path, encodes-chars, encodes-append, scalars-chars, IsCharBoundary-at_seam, ◌&&◌, take-append_seam, drop-append_seam, IsCharBoundary-start, chars-encodes, Query, query, root, current, greatest_usize, Refusal, Failure, tree_of, rule_of, whole_numbers, signatures_of, opens, AreCalled, Reports, reported, Fails, IsRefused, IsWithin, error_of, is_dollar, NeedsNoMemory, ParsedQuery, IsParse, checked_view, eq-eqb, length-le-encodes, ◌≡◌, ◌≢◌, ℕ, ◌≤◌, ◌↔◌, true, false, true≢false, List, [], ◌∷◌, ◌++◌, length, drop, Option, Ok, refl, sym, ap, subst, ◌∙◌, arith, ◌+◌, ◌-◌, inl, inr, ◌<◌, take, Some, Err, read_filter, Memory, Refused, is_blank, read_next_segment}
 use Rattle.serde_json_path_parser.specs.declared.error.Context.TheVariants as context
 use Rattle.serde_json_path_parser.proofs.Grammar.LogicalForms.{AreSegmentsText}
 use Rattle.serde_json_path_parser.proofs.Grammar.Calls.{level_laws}
@@ -183,6 +183,7 @@ module _ (signature : List ℕ → Option Signature) (text : List ℕ) (u : IsUt
   unstored stores = record {
     accepted = tt;
     kept = tt;
+    whole = tt;
     only = tt;
     refused = λ other. absurd (other refl);
     memory = λ e. refl;
@@ -193,12 +194,13 @@ module _ (signature : List ℕ → Option Signature) (text : List ℕ) (u : IsUt
   pub too_long : length text ≡ greatest_usize → IsParse signature text (Err (error_of Memory 0))
   too_long long = unstored (λ less none. omega (arith, long))
 
-  pub parsed : (short : length text < greatest_usize) (segs : Segments) (checked : Checked) → tree_of checked ≡ query root segs → AreCalled (signatures_of checked) (query root segs) → read_path signature (chars text) ≡ Ok segs → IsParse signature text (Ok (checked_view checked))
-  parsed short segs checked tree kept e =
+  pub parsed : (short : length text < greatest_usize) (segs : Segments) (checked : Checked) → tree_of checked ≡ query root segs → AreCalled (signatures_of checked) (query root segs) → rule_of checked ≡ whole_numbers → read_path signature (chars text) ≡ Ok segs → IsParse signature text (Ok (checked_view checked))
+  parsed short segs checked tree kept whole e =
       let s = (path_outcome signature (chars text)).reads segs e in
       record {
         accepted = subst (IsAccepted signature (chars text)) (sym tree) (accepted signature (chars text) s.0 segs s.2 s.1);
         kept = subst (AreCalled (signatures_of checked)) (sym tree) kept;
+        whole = whole;
         only = λ q a. one_tree_at_most signature (chars text) q (tree_of checked) a (subst (IsAccepted signature (chars text)) (sym tree) (accepted signature (chars text) s.0 segs s.2 s.1));
         refused = tt;
         memory = tt;
@@ -212,6 +214,7 @@ module _ (signature : List ℕ → Option Signature) (text : List ℕ) (u : IsUt
   refused short (Refused r) total h spares = record {
     accepted = tt;
     kept = tt;
+    whole = tt;
     only = tt;
     refused = λ other q a. let f = accepted_read signature (chars text) q a in let e : Ok f.0 ≡ Err r = sym f.2 ∙ h in cc;
     memory = λ e. absurd ((right r h).no_memory e);

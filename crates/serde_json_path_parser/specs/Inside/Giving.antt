@@ -1,7 +1,7 @@
 -- The words of contracts of private functions: a reader of a text, what is read at a level, and
 -- that what a function of the parser returned is what reading gives.
 use Rattle.std.specs.Prelude.{ℕ, true, false, List, codes, bytes_eq, Option, Some, None, if◌then◌else◌, ◌≡◌, ◌+◌, ◌≤◌, max, drop, length, ◌-◌, ◌++◌, Result, Ok, Err}
-use Rattle.serde_json_path_parser.specs.Imports.{Literal, truth, null, Selector, Query, LogicalOr, query, root, SegmentKind, Segments, Segment, Call, Arguments, Argument, Operand, literal, queried, called, operand, logical_argument, chars, Signature, FunctionSet, Fits, names_of, calls_in_segments, calls_in_selectors, calls_from, calls_in_arguments, calls_in_argument, calls_in_operand, parts_in, literal_view, Branch, a_segment, calls_in_branch, IsPart, ArePartsOf, AreSelectorsOf, AreArgumentsOf, KeepsTrees, calls_in, signatures_of, tree_of, result_kind, AreCalled, AreDeclared, names_in, kind_view, FunctionArgType, Part, Parts, SyntaxBuilder, Checked}
+use Rattle.serde_json_path_parser.specs.Imports.{Literal, truth, null, Selector, Query, LogicalOr, query, root, SegmentKind, Segments, Segment, Call, Arguments, Argument, Operand, literal, queried, called, operand, logical_argument, chars, Signature, FunctionSet, Fits, names_of, calls_in_segments, calls_in_selectors, calls_from, calls_in_arguments, calls_in_argument, calls_in_operand, parts_in, literal_view, Branch, a_segment, calls_in_branch, IsPart, ArePartsOf, AreSelectorsOf, AreArgumentsOf, KeepsTrees, calls_in, rule_of, whole_numbers, signatures_of, tree_of, result_kind, AreCalled, AreDeclared, names_in, kind_view, FunctionArgType, Part, Parts, SyntaxBuilder, Checked}
 use Rattle.serde_json_path_parser.specs.Source.{Observed}
 use Rattle.serde_json_path_parser.specs.Inside.Looking.{up_to_second}
 use Rattle.serde_json_path_parser.specs.declared.source.PathSource.{Ghosts}
@@ -134,12 +134,12 @@ MakesOf calls branch new =
 abbrev pub segment_branch : SegmentKind × Segment → Branch
 segment_branch s = a_segment s.0 s.1
 
--- The tree is that of the segments that reading gives, and the signatures are those of the names
--- that it calls.
+-- The tree is that of the segments that reading gives, the signatures are those of the names that it calls, and comparisons
+-- take whole numbers.
 abbrev pub IsQueryAsRead : FunctionSet → Result Checked Failure → Result Segments Refusal → Type 0
 IsQueryAsRead F (Ok checked) read =
     (segs : Segments) × (tree_of checked ≡ query root segs) × (read ≡ Ok segs)
-    × AreCalled (signatures_of checked) (query root segs) × Fits F (signatures_of checked)
+    × AreCalled (signatures_of checked) (query root segs) × Fits F (signatures_of checked) × (rule_of checked ≡ whole_numbers)
 IsQueryAsRead F (Err e) read = Fails e read
 
 -- The operand is the one that reading gives.

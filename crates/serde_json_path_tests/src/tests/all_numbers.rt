@@ -1,22 +1,37 @@
 //! Comparisons that take all numbers, beside those that take whole numbers alone.
 
 use crate::tests::rows::read_with;
-use serde_json_path::functions::{AllNumbers, Both, Builtin, Functions};
-use serde_json_path_core_tests::{BOOKSTORE, Came, Own, fields, hold_row, hold_rows, locations};
+use serde_json_path::functions::{Builtin, Functions};
+use serde_json_path::{JsonPath, Numbers};
+use serde_json_path_core_tests::{
+    BOOKSTORE, Came, Own, fields, hold_row, hold_rows, holds, locations,
+};
 use std::alloc::Global;
 use std::test::Fail;
 
-/// The locations of what a path selects from a document under a set.
-fn located<F: Functions>(alloc: Global, functions: &F, row: (&str, &str)) -> Came {
+/// The locations of what a path selects from a document under a set, where comparisons take numbers by a rule. A copy of the
+/// path keeps that, and is equal to it.
+fn located<F: Functions>(
+    alloc: Global,
+    functions: &F,
+    numbers: Numbers,
+    row: (&str, &str),
+) -> Came {
     let (path, document) = read_with(alloc, functions, row)?;
-    let nodes = path.query_located_with(alloc, &document, functions)?;
+    let copy = path.with_numbers(numbers).try_clone(alloc)?;
+    holds(copy.numbers() == numbers, "another rule")?;
+    holds(
+        copy == JsonPath::parse_with(alloc, row.0, functions)?,
+        "another path",
+    )?;
+    let nodes = copy.query_located_with(alloc, &document, functions)?;
     locations(alloc, &nodes)
 }
 
-/// The same where comparisons take all numbers, and where they take whole numbers alone.
+/// The same under the built-in functions by all numbers, and by whole numbers.
 fn by_both_rules(alloc: Global, row: (&str, &str)) -> Came {
-    let all = located(alloc, &AllNumbers(Builtin), row)?;
-    let whole = located(alloc, &Builtin, row)?;
+    let all = located(alloc, &Builtin, Numbers::All, row)?;
+    let whole = located(alloc, &Builtin, Numbers::Whole, row)?;
     Ok(format!(in alloc; "{all} ~ {whole}")?)
 }
 
@@ -61,7 +76,7 @@ const ROWS: &[&str] = &[
 ];
 
 #[test]
-fn compares_all_numbers_where_the_set_says_so(rt: HostRuntime) -> Result<(), Fail> {
+fn compares_all_numbers_where_the_path_says_so(rt: HostRuntime) -> Result<(), Fail> {
     hold_rows(
         &rt,
         BOOKS,
@@ -71,18 +86,23 @@ fn compares_all_numbers_where_the_set_says_so(rt: HostRuntime) -> Result<(), Fai
 }
 
 #[test]
-fn has_the_choice_of_the_first_set(rt: HostRuntime) -> Result<(), Fail> {
-    let alloc = rt.alloc();
+fn takes_numbers_by_the_path_under_each_set(rt: HostRuntime) -> Result<(), Fail> {
+    let (alloc, own) = (rt.alloc(), Own::refusing(0));
     let (path, document) = ("$[?none() == none() && @ == 1.5]", "[1.5]");
-    let all = AllNumbers(Own::refusing(0));
-    let found = (document, path, "$[0]");
-    hold_row(&rt, found, located(alloc, &all, (path, document)))?;
-    let first = Both(all, Own::refusing(0));
-    hold_row(&rt, found, located(alloc, &first, (path, document)))?;
-    let second = Both(Own::refusing(0), AllNumbers(Builtin));
-    hold_row(
-        &rt,
-        (document, path, ""),
-        located(alloc, &second, (path, document)),
-    )
+    for (numbers, found) in [(Numbers::All, "$[0]"), (Numbers::Whole, "")] {
+        let given = located(alloc, &own, numbers, (path, document));
+        hold_row(&rt, (document, path, found), given)?;
+    }
+    Ok(())
+}
+
+#[test]
+fn takes_whole_numbers_unless_told(rt: HostRuntime) -> Result<(), Fail> {
+    let path = JsonPath::parse(rt.alloc(), "$[?@ == 1.5]")?;
+    assert_eq!(rt; path.numbers(), Numbers::Whole);
+    let path = path.with_numbers(Numbers::All);
+    let again = JsonPath::from_json(rt.alloc(), &path.to_json(rt.alloc())?)?;
+    assert!(rt; again == path && again.numbers() == Numbers::Whole);
+    assert_eq!(rt; JsonPath::new(rt.alloc()).numbers(), Numbers::Whole);
+    Ok(())
 }

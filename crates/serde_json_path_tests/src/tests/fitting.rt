@@ -5,7 +5,7 @@ ghost use Rattle.serde_json.specs.View.{view};
 ghost use Rattle.serde_json_path_nodes.specs.Views.{node_values};
 ghost use Rattle.serde_json_path_core.specs.Selects.{SelectsValues};
 ghost use Rattle.serde_json_path_functions.specs.Patterns.{before_builtin, builtin_functions};
-ghost use Rattle.serde_json_path.specs.Paths.{path_tree};
+ghost use Rattle.serde_json_path.specs.Paths.{path_tree, with_rule_of};
 
 use serde_json::Value;
 use serde_json_path::functions::{Builtin, Functions};
@@ -21,8 +21,8 @@ fn query_if_it_fits<'b>(
     document: &'b Value,
 ) -> Result<Option<NodeList<'b>>, QueryError>
     ensures { IfOk result (λ found. IfSome found (λ list.
-        SelectsValues builtin_functions (path_tree path.now) (view document.now)
-        (node_values list))) }
+        SelectsValues (with_rule_of path.now builtin_functions) (path_tree path.now)
+        (view document.now) (node_values list))) }
 {
     law_set_before_itself();
     if !path.fits(&Builtin) {
@@ -39,8 +39,8 @@ fn query_with_if_it_fits<'b, F: Functions>(
     functions: &F,
 ) -> Result<Option<NodeList<'b>>, QueryError>
     ensures { IfOk result (λ found. IfSome found (λ list.
-        SelectsValues (before_builtin (F.set functions.now)) (path_tree path.now)
-        (view document.now) (node_values list))) }
+        SelectsValues (with_rule_of path.now (before_builtin (F.set functions.now)))
+        (path_tree path.now) (view document.now) (node_values list))) }
 {
     if !path.fits(functions) {
         return Ok(None);

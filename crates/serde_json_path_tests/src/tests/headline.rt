@@ -10,7 +10,7 @@ ghost use Rattle.serde_json_path_functions.specs.Functions.{Fits};
 ghost use Rattle.serde_json_path_functions.specs.Patterns.{before_builtin};
 ghost use Rattle.serde_json_path_core.specs.Laws.{AreResultsAt, with_segment};
 ghost use Rattle.serde_json_path.specs.Laws.{ArePositionsWritten};
-ghost use Rattle.serde_json_path.specs.Paths.{path_signatures, path_tree};
+ghost use Rattle.serde_json_path.specs.Paths.{path_rule, path_signatures, path_tree, with_rule_of};
 
 use crate::tests::rows::count;
 use serde_json::Value;
@@ -119,8 +119,8 @@ fn comes_back<F: Functions>(alloc: Global, text: &str, functions: &F) -> Result<
     }
 }
 
-/// What two paths select, of which the second has one more segment: at each node of the first one's list, in order, what that
-/// segment selects there.
+/// What two paths of one rule for numbers select, of which the second has one more segment: at each node of the first one's
+/// list, in order, what that segment selects there.
 fn append<'b, F: Functions>(
     alloc: Global,
     shorter: &JsonPath,
@@ -132,12 +132,13 @@ fn append<'b, F: Functions>(
         (path_signatures shorter.now) }
     requires longer_fits { Fits (before_builtin (F.set functions.now))
         (path_signatures longer.now) }
+    requires rule { path_rule longer.now ≡ path_rule shorter.now }
     ensures { IfOk result (λ lists.
         (kind : QueryKind) (segs : Segments) (reach : SegmentKind) (seg : Segment)
         → path_tree shorter.now ≡ query kind segs
         → path_tree longer.now ≡ query kind (with_segment segs reach seg)
-        → AreResultsAt (before_builtin (F.set functions.now)) (view document.now)
-        (query current (segment reach seg no_segments))
+        → AreResultsAt (with_rule_of shorter.now (before_builtin (F.set functions.now)))
+        (view document.now) (query current (segment reach seg no_segments))
         (located_nodes lists.0) (located_nodes lists.1)) }
 {
     law_append();

@@ -9,8 +9,7 @@ ghost use Rattle.serde_json_path_numbers.specs.Laws.{IsExactlyOne};
 ghost use Rattle.serde_json_path_core.specs.Compared.{Compares, value};
 
 use serde_json::{Number, Value};
-use serde_json_path::functions::{AllNumbers, Builtin};
-use serde_json_path::{JsonPath, law_numbers_are_finite, law_order_of_numbers};
+use serde_json_path::{JsonPath, Numbers, law_numbers_are_finite, law_order_of_numbers};
 use serde_json_path_core_tests::{Came, fields, hold_rows};
 use std::alloc::Global;
 use std::test::Fail;
@@ -50,12 +49,11 @@ fn signs(alloc: Global, pair: &str) -> Came {
     ) {
         exactly_one_holds(left, right);
     }
-    let functions = AllNumbers(Builtin);
     let mut signs = String::new(alloc);
     for &sign in &["<", "==", ">"] {
         let text = format!(in alloc; "$[?@[0] {sign} @[1]]")?;
-        let path = JsonPath::parse_with(alloc, text.as_str(), &functions)?;
-        if path.query_with(alloc, &document, &functions)?.len() == 1 {
+        let path = JsonPath::parse(alloc, text.as_str())?.with_numbers(Numbers::All);
+        if path.query(alloc, &document)?.len() == 1 {
             signs.push_str(sign)?;
         }
     }

@@ -3,81 +3,13 @@
 use crate::tests::rows::{read_with, told};
 use crate::tests::tables::of_row;
 use crate::tests::walks::of_walk;
-use serde_json::Value;
-use serde_json_path::functions::{
-    AllNumbers, Both, Builtin, FunctionValue, Functions, Numbers, Signature,
-};
+use serde_json_path::functions::{Builtin, Functions};
 use serde_json_path::{JsonPath, QueryError};
 use serde_json_path_core_tests::{
-    Came, Nesting, Overriding, Own, fields, hold_nested, hold_row, hold_rows, locations,
+    Came, Nesting, Overriding, Own, hold_nested, hold_row, hold_rows, locations,
 };
 use std::alloc::Global;
-use std::cell::Cell;
 use std::test::Fail;
-
-/// The functions of a set, and how many values it was told that are compared.
-#[derive(Drop)]
-struct CountsCompared<F> {
-    functions: F,
-    values: Cell<usize>,
-}
-
-impl<F: Functions> Functions for CountsCompared<F> {
-    ghost set = { λ counts. F.set counts.functions };
-
-    ghost typed = { λ counts. F.typed counts.functions };
-
-    ghost patterned = { λ counts. F.patterned counts.functions };
-
-    fn signature(&self, name: &str) -> Option<Signature> {
-        self.functions.signature(name)
-    }
-
-    fn numbers(&self) -> Numbers {
-        self.functions.numbers()
-    }
-
-    fn compared(&self, _value: &Value) {
-        self.values.set(self.values.get().saturating_add(1));
-    }
-
-    fn call<'b>(
-        &self,
-        alloc: Global,
-        name: &str,
-        args: Vec<FunctionValue<'b>>,
-    ) -> Result<FunctionValue<'b>, QueryError> {
-        self.functions.call(alloc, name, args)
-    }
-}
-
-/// A path, a document, and how many values a set is told of the path's query there.
-const COMPARED: &[&str] = &[
-    "$[?@ == 1] ~ [1,2.5] -> 2",
-    "$[?@ == 'a'] ~ [1] -> 2",
-    "$[?@ < $[0]] ~ [1,2] -> 4",
-    "$[?@ == 1 || @ == 2] ~ [1,2] -> 3",
-    r#"$[?@.a == @.b] ~ [{"a":1},{}] -> 1"#,
-    r#"$[?length(@) == value(@.*)] ~ ["a",[5]] -> 3"#,
-    "$[?@.a] ~ [1,2] -> 0",
-    "$[?1 == 2] ~ [1] -> 0",
-    "$[?@ == 1] ~ [[1,2]] -> 1",
-];
-
-/// How many values a set is told of a path's query on a document, through sets that are made of it.
-fn number_compared(alloc: Global, given: &str) -> Came {
-    let (functions, values) = (Builtin, Cell::new(0));
-    let counts = CountsCompared { functions, values };
-    let functions = AllNumbers(Both(&counts, Builtin));
-    let (path, document) = read_with(alloc, &functions, fields(given)?)?;
-    path.query_with(alloc, &document, &functions)?;
-    Ok(counts.values.get().to_string(alloc)?)
-}
-
-#[test]
-fn tells_sets_what_is_compared(rt: HostRuntime) -> Result<(), Fail> {
-    hold_rows(&rt, COMPARED, number_compared)
-}
 
 /// Paths and documents with what is selected, and texts with their refusals, where filters call [`Own`].
 const OWN: &[&str] = &[

@@ -1,6 +1,9 @@
-use Rattle.std.proofs.Common.{◌≡◌, Ok, Err, refl, ap, rules}
+use Rattle.std.proofs.Common.{◌≡◌, Ok, Err, refl, ap, rules, subst}
 use Rattle.serde_json.specs.View.{view}
 use Rattle.serde_json_path_syntax.specs.Parts.{tree_of}
+use Rattle.serde_json_path_functions.specs.Functions.{with_rule}
+use Rattle.serde_json_path_core.specs.PatternCalls.{CallsByPattern}
+use Rattle.serde_json_path_core.specs.Selects.{Selects}
 use Rattle.serde_json_path_functions.specs.declared.error.QueryError.TheVariants.{Pattern}
 use Rattle.serde_json_path_parser.specs.Source.{Observed}
 use Rattle.jsonpath_program.specs.declared.report.ReportError.TheVariants.{Query}
@@ -17,13 +20,14 @@ returns-clause-lines g c =
     let read : c.document.result ≡ Ok value = ok_before _ _ value _ c.map_err-2.ensures.cases c.in_ok-value.was in
     let made : c.selected.result ≡ Ok text = ok_before _ _ text _ c.map_err-3.ensures.cases c.in_ok-text.was in
     let written = rw made at c.selected.ensures.lines in
+    let accepts = rw same_text at (rw parsed at c.parse.ensures.parse) in
     record {
       query = tree_of path;
       value = view value;
       nodes = written.0;
-      accepted = (rw same_text at (rw parsed at c.parse.ensures.parse)).accepted;
+      accepted = accepts.accepted;
       reads = rw read at c.document.ensures.ok;
-      selects = written.2;
+      selects = subst (λ rule. Selects (with_rule rule (g.F.Functions.set c.args.functions)) (tree_of path) (view value) written.0) accepts.whole written.2;
       lines = written.1;
     }
 
@@ -35,12 +39,13 @@ returns-in_err-text-clause-pattern_refused g c = λ is.
     let parsed : c.parse.result ≡ Ok path = ok_before _ _ path _ c.map_err.ensures.cases c.in_ok-path.was in
     let read : c.document.result ≡ Ok value = ok_before _ _ value _ c.map_err-2.ensures.cases c.in_ok-value.was in
     let told : c.map_err-3.result ≡ Err (Query Pattern) = search rules in
-    let refused = rw (pattern_before c.selected.result c.map_err-3.result c.map_err-3.ensures.cases told) at c.selected.ensures.refused in (
+    let refused = rw (pattern_before c.selected.result c.map_err-3.result c.map_err-3.ensures.cases told) at c.selected.ensures.refused in
+    let accepts = rw same_text at (rw parsed at c.parse.ensures.parse) in (
       tree_of path,
       view value,
-      (rw same_text at (rw parsed at c.parse.ensures.parse)).accepted,
+      accepts.accepted,
       rw read at c.document.ensures.ok,
-      refused refl,
+      subst (λ rule. CallsByPattern (with_rule rule (g.F.Functions.set c.args.functions)) (view value) (tree_of path)) accepts.whole (refused refl),
     )
 
 pub returns-in_err-text-clause-query_last : goal.returns-in_err-text-clause-query_last

@@ -1,4 +1,4 @@
-use Rattle.serde_json_path_core.proofs.Words.{sym, subst, ap, ◌∙◌, view, start_of, nodes_in, tree_of, frames_view, rest_of, stages, stages_at, IsResult}
+use Rattle.serde_json_path_core.proofs.Words.{sym, subst, ap, ◌∙◌, view, start_of, nodes_in, tree_of, rule_of, with_rule, frames_view, rest_of, stages, stages_at, IsResult}
 use Rattle.serde_json_path_core.proofs.Walks.Chains.{stack-started}
 use Rattle.serde_json_path_core.proofs.Meaning.Derived.{computed_result}
 use Rattle.serde_json_path_core.proofs.Walks.Stacks.{begun-results}
@@ -9,7 +9,7 @@ invariant_of-result g c = record { stack = ∣ stack-started (stages_at (nodes_i
 
 pub returns-clause-selects : goal.returns-clause-selects
 returns-clause-selects g c =
-    let F = g.F.Functions.set c.args.functions in
+    let F = with_rule (rule_of c.args.query.now) (g.F.Functions.set c.args.functions) in
     let q = c.args.query.now in
     let tree = tree_of q in
     let top = view c.args.document.now in

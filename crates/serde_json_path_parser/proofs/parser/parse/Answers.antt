@@ -9,7 +9,7 @@ returns-then-len-eq18446744073709551615-clause-reported g c =
 pub returns-in-Ok-clause-parse : goal.returns-in-Ok-clause-parse
 returns-in-Ok-clause-parse g c =
     let read = c.in-Ok.ensures.gives in
-    parsed _ _ c.len.ensures.utf8 (omega arith) read.0 c.in-Ok.checked read.1 read.3 (rw c.new-reader.ensures.left at read.2)
+    parsed _ _ c.len.ensures.utf8 (omega arith) read.0 c.in-Ok.checked read.1 read.3 read.5 (rw c.new-reader.ensures.left at read.2)
 
 pub returns-in-Err-clause-reported : goal.returns-in-Err-clause-reported
 returns-in-Err-clause-reported g c =

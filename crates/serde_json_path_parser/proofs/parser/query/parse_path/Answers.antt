@@ -15,6 +15,7 @@ returns-then-is_empty-clause-gives g c =
       rw (sym c.sees.ensures ∙ c.if-not-sees.false, c.take_char.ensures.value, gives.5, ended) refl,
       subst (λ used. AreCalled used (query root (segment_list gives.0))) (sym c.new.ensures.used) (subst (λ ss. AreCalled [] (query root (segment_list ss))) (sym empty) (tt, λ f. (λ i. absurd i, λ i. absurd i))),
       subst (Fits (g.F.Functions.set c.args.functions.now)) (sym c.new.ensures.used) tt,
+      c.new.ensures.rule,
     )
 
 pub returns-in_err-part-clause-needs_no_memory : goal.returns-in_err-part-clause-needs_no_memory
@@ -52,4 +53,5 @@ returns-clause-gives g c =
       whole,
       subst (λ used. AreCalled used q) (sym c.finish.ensures.used) (called_once (calls_in c.query.new.self) q finished.called),
       subst (Fits F) (sym c.finish.ensures.used) (fits_once F (calls_in c.query.new.self) (each_fits F (calls_in c.query.new.self) declared)),
+      c.finish.ensures.rule,
     )

@@ -1,14 +1,18 @@
 use Rattle.std.proofs.Common.{subst}
 use Rattle.serde_json.specs.View.{view}
 use Rattle.serde_json_path_nodes.specs.Views.{located_nodes}
+use Rattle.serde_json_path_functions.specs.Functions.{with_rule}
 use Rattle.serde_json_path_functions.specs.Patterns.{before_builtin}
 use Rattle.serde_json_path_core.specs.Meaning.{IsResult}
+use Rattle.serde_json_path.specs.Paths.{path_tree, with_rule_of}
 use Rattle.serde_json_path_tests.proofs.tests.headline.append.Goals as goal
 
 pub returns : goal.returns
 returns g c = λ kind segs reach seg shorter longer.
-    let F = before_builtin (g.F.Functions.set c.args.functions.now) in
+    let set = before_builtin (g.F.Functions.set c.args.functions.now) in
+    let F = with_rule_of c.args.shorter.now set in
     let top = view c.args.document.now in
+    let more = subst (λ rule. IsResult (with_rule rule set) top (path_tree c.args.longer.now) top (located_nodes c.in_ok-more.more)) c.requires.rule c.in_ok-more.ensures.selects in
     c.law_append.ensures F top kind segs reach seg top (located_nodes c.in_ok-nodes.nodes) (located_nodes c.in_ok-more.more)
     (subst (λ q. IsResult F top q top (located_nodes c.in_ok-nodes.nodes)) shorter c.in_ok-nodes.ensures.selects)
-    (subst (λ q. IsResult F top q top (located_nodes c.in_ok-more.more)) longer c.in_ok-more.ensures.selects)
+    (subst (λ q. IsResult F top q top (located_nodes c.in_ok-more.more)) longer more)

@@ -6,7 +6,7 @@ use Rattle.serde_json_path_functions.specs.Patterns.{before_builtin}
 use Rattle.serde_json_path_core.specs.Meaning.{IsResult}
 use Rattle.serde_json_path_parser.specs.Accepted.{IsAccepted}
 use Rattle.serde_json_path.specs.Laws.{tree_to}
-use Rattle.serde_json_path.specs.Paths.{path_tree}
+use Rattle.serde_json_path.specs.Paths.{path_tree, with_rule_of}
 use Rattle.serde_json_path_tests.proofs.tests.headline.find_again.Goals as goal
 
 pub unreachable-requires : goal.unreachable-requires
@@ -22,7 +22,7 @@ pub returns-in-Ok-query_located_with : goal.returns-in-Ok-query_located_with
 returns-in-Ok-query_located_with g c = λ v there.
     let location = c.args.location.now in
     let top = view c.args.document.now in
-    let F = before_builtin (g.F.Functions.set c.args.functions.now) in
+    let F = with_rule_of c.in-Ok.path (before_builtin (g.F.Functions.set c.args.functions.now)) in
     let tree = path_tree c.in-Ok.path in
     let text : c.as_str.result.now ≡ normal location = search rules in
     let law = c.law_normal.ensures location (c.law_locations_are_proper.ensures c.args.document.now location c.requires.there.0 c.requires.there.1) c.requires.written in

@@ -12,7 +12,7 @@ use Rattle.serde_json_path_functions.specs.Functions.{FunctionSet}
 use Rattle.serde_json_path_functions.specs.Patterns.{before_builtin}
 use Rattle.serde_json_path_core.specs.Derivation.{Triple, BelongsTo}
 use Rattle.serde_json_path_core.specs.Meaning.{IsResult}
-use Rattle.serde_json_path.specs.Paths.{path_tree}
+use Rattle.serde_json_path.specs.Paths.{path_tree, with_rule_of}
 use Rattle.serde_json_path_tests.proofs.tests.headline.lead_back.Goals as goal
 
 -- a node that belongs to a derivation is where its location leads to
@@ -28,7 +28,7 @@ result_stands F top (query current segs) ns is = zip_stands top is.0 ns is.3
 
 pub loop-node-init : goal.loop-node-init
 loop-node-init g c = λ n h.
-    let F = before_builtin (g.F.Functions.set c.args.functions.now) in
+    let F = with_rule_of c.in_ok-path.path (before_builtin (g.F.Functions.set c.args.functions.now)) in
     let list = ap located_nodes_left c.into_iter-node-iterator.ensures.into_iter_gives ∙ c.iter-node-items.ensures in
     result_stands F (view c.args.document.now) (path_tree c.in_ok-path.path) (located_nodes c.in_ok-nodes.nodes) c.in_ok-nodes.ensures.selects n (subst (IsIn n) list h)
 
