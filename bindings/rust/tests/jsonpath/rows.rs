@@ -59,7 +59,7 @@ const ROWS: &[(&str, &str, &str)] = &[
         r#"[{},{"a":1},{"a":1,"b":1}]"#,
         "$[0]\t{}\n$[2]\t{\"a\":1,\"b\":1}\n",
     ),
-    ("$[?@ == @]", "[1, 1.5]", "$[0]\t1\n"),
+    ("$[?@ == @]", "[1, 1.5]", "$[0]\t1\n$[1]\t1.5\n"),
     ("$[?@ != 1]", "[1, 1.5]", "$[1]\t1.5\n"),
     ("$[?@ < 1.5]", "[1, 1.5]", "$[0]\t1\n"),
     (
@@ -94,11 +94,15 @@ const ROWS: &[(&str, &str, &str)] = &[
         "$[0]\t{\"a\":1}\n",
     ),
     (
-        "$..[?@.price < 399.5]",
+        "$.store[?@.price < 399.5]",
         BOOKSTORE,
         "$['store']['bicycle']\t{\"color\":\"red\",\"price\":399}\n",
     ),
-    ("$..[?@.price<10]", BOOKSTORE, ""),
+    (
+        "$..[?@.price<10].title",
+        BOOKSTORE,
+        "$['store']['book'][0]['title']\t\"Sayings of the Century\"\n$['store']['book'][2]['title']\t\"Moby Dick\"\n",
+    ),
     (
         "$..book[?@.category == 'fiction' && match(@.author, '.*Mel.*')].title",
         BOOKSTORE,
