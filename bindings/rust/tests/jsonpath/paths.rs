@@ -92,5 +92,8 @@ fn one_shot_calls_take_numbers_as_the_path_does() {
     let path = JsonPath::parse_with("$[?@ < 9]", Numbers::Whole).unwrap();
     assert_eq!(path.query_bytes(b"[8.95, 8]").unwrap().as_str(), "8\n");
     let path = JsonPath::parse("$[?@ < 9]").unwrap();
-    assert_eq!(path.query_bytes(b"[8.95, 8]").unwrap().as_str(), "8.95\n8\n");
+    assert_eq!(
+        path.query_bytes(b"[8.95, 8]").unwrap().as_str(),
+        "8.95\n8\n"
+    );
 }
