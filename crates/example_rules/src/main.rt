@@ -1,18 +1,22 @@
 //! A rule engine's test of a document: prints of each rule whether it holds for the JSON document on standard input.
 //!
-//! A rule is a name and a path. It holds where the path selects a node.
+//! A rule is a name and a path. It holds where the path selects a node. A path may call `starts_with`, a function of the
+//! program's own, beside the built-in ones.
 #![tactic(auto)]
 
 ghost use Rattle.std.specs.Prelude.{◌≡◌, ◌==◌, not, length, List, IfOk};
 ghost use Rattle.serde_json.specs.View.{view};
 ghost use Rattle.serde_json_path_nodes.specs.Location.{Located};
 ghost use Rattle.serde_json_path_functions.specs.Functions.{Fits};
-ghost use Rattle.serde_json_path_functions.specs.Patterns.{before_builtin, builtin_functions};
+ghost use Rattle.serde_json_path_functions.specs.Patterns.{before_builtin};
 ghost use Rattle.serde_json_path_core.specs.Selects.{Selects};
 ghost use Rattle.serde_json_path.specs.Paths.{path_signatures, path_tree, with_rule_of};
+ghost use Rattle.example_rules.specs.Prefixes.{prefixes};
 
+mod prefixes;
+
+use crate::prefixes::Prefixes;
 use serde_json::Value;
-use serde_json_path::functions::Builtin;
 use serde_json_path::{JsonPath, ParseError, QueryError};
 use std::alloc::Global;
 use std::io;
@@ -25,7 +29,15 @@ const RULES: &[(&str, &str)] = &[
     ("something costs less than 400", "$.store[?@.price < 400]"),
     ("a book costs less than 10", "$.store.book[?@.price < 10]"),
     ("there are five books", "$.store[?length(@) >= 5]"),
-    ("a title begins with S", "$..book[?match(@.title, 'S.*')]"),
+    (
+        "a title begins with S",
+        "$..book[?starts_with(@.title, 'S')]",
+    ),
+    (
+        "an ISBN begins with 1",
+        "$..book[?starts_with(@.isbn, '1')]",
+    ),
+    ("a title is one word", "$..book[?match(@.title, '[^ ]+')]"),
     (
         "an author is named Melville",
         "$..book[?search(@.author, 'Melville')]",
@@ -47,13 +59,13 @@ enum Failure {
 
 /// Whether the path selects a node of the document. It stops at the first one.
 fn holds(alloc: Global, path: &JsonPath, document: &Value) -> Result<bool, QueryError>
-    requires { Fits (before_builtin builtin_functions) (path_signatures path.now) }
+    requires { Fits (before_builtin prefixes) (path_signatures path.now) }
     ensures { IfOk result (λ holds. (nodes : List Located)
-        × Selects (with_rule_of path.now (before_builtin builtin_functions)) (path_tree path.now)
+        × Selects (with_rule_of path.now (before_builtin prefixes)) (path_tree path.now)
         (view document.now) nodes
         × (holds ≡ not (length nodes == 0))) }
 {
-    let mut walk = path.walk(alloc, document, &Builtin)?;
+    let mut walk = path.walk(alloc, document, &Prefixes)?;
     Ok(walk.next()?.is_some())
 }
 
@@ -62,7 +74,7 @@ fn main(rt: HostRuntime) -> Result<(), Failure> {
     let text = io::read_to_string(alloc, rt.stdin())?;
     let document = Value::from_str(alloc, text.as_str())?;
     for &(name, path) in RULES {
-        let path = JsonPath::parse_with(alloc, path, &Builtin)?;
+        let path = JsonPath::parse_with(alloc, path, &Prefixes)?;
         let answer = if holds(alloc, &path, &document)? {
             "yes"
         } else {
