@@ -1,4 +1,4 @@
-//! The tests of the crate `serde_json_path`, by its public calls.
+//! The tests of the crate `serde_json_path` and of those below it, by their public calls.
 #![tactic(auto)]
 
 #[cfg(test)]

@@ -1,8 +1,10 @@
-//! What paths select, how texts that are none are refused and what was meant by them, and the pieces of a path's text.
+//! What paths select, how texts that are none are refused and what was meant by them, and the pieces of a path's text. And what
+//! no path's text can say: lists and locations, functions and sets, trees out of parts, and literals.
 
 mod all_numbers;
 mod blanks;
 mod bookstore;
+mod built;
 mod calls;
 mod compared_values;
 mod comparisons;
@@ -11,19 +13,23 @@ mod descendants;
 mod filter_refusals;
 mod filters;
 mod fitting;
+mod functions;
 mod headline;
 mod hints;
 mod json_form;
 mod lists;
+mod literal_values;
 mod literals;
 mod long_texts;
 mod messages;
 mod names;
 mod nesting;
+mod nodes;
 mod normal_paths;
 mod number_laws;
 mod numbers;
 mod operators;
+mod parts;
 mod paths;
 mod printed;
 mod refusals;

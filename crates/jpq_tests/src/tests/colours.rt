@@ -2,9 +2,9 @@
 
 use crate::tests::forms::form;
 use jsonpath_lines::colored;
-use serde_json_path_core_tests::{Came, fields, hold_rows};
 use std::alloc::Global;
 use std::test::Fail;
+use test_rows::{Came, fields, hold_rows};
 
 /// A form, a line, and the line with its colours: `<` stands for the sequence before a part, with its colour's last digit,
 /// and `>` for the one after it.

@@ -1,9 +1,9 @@
 //! Documents that are refused: where, and why.
 
 use jsonpath_document::read_document;
-use serde_json_path_core_tests::{Came, Nesting, hold_nested, hold_pairs, hold_rows};
 use std::alloc::Global;
 use std::test::Fail;
+use test_rows::{Came, Nesting, hold_nested, hold_pairs, hold_rows};
 
 /// A text that is no document, and what is told of it.
 const REFUSED: &[&str] = &[

@@ -4,12 +4,12 @@ ghost use Rattle.std.specs.Prelude.{None};
 
 use crate::tests::inputs::{MemoryInputs, run_on, words};
 use jpq_program::run::run;
-use serde_json_path_core_tests::{Came, hold_rows};
 use std::alloc::Global;
 use std::io;
 use std::io::ErrorKind::{BrokenPipe, WriteZero};
 use std::io::Write;
 use std::test::Fail;
+use test_rows::{Came, hold_rows};
 
 /// A writer that fails at one of its calls, and from then on.
 #[derive(Drop)]

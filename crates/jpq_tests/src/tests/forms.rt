@@ -4,9 +4,9 @@ use jsonpath_lines::{Form, Layout, LineEnd, Output, write_nodes};
 use serde_json::Value;
 use serde_json_path::JsonPath;
 use serde_json_path::functions::Builtin;
-use serde_json_path_core_tests::{Came, fields, hold_rows};
 use std::alloc::Global;
 use std::test::Fail;
+use test_rows::{Came, fields, hold_rows};
 
 /// The form of this name.
 pub(crate) fn form(name: &str) -> Result<Form, Fail> {

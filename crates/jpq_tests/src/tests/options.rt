@@ -2,9 +2,9 @@
 
 use jpq_options::options::{Color, Options, Request, command, read};
 use jsonpath_lines::{Form, Layout, LineEnd};
-use serde_json_path_core_tests::{Came, hold_pairs, hold_row, hold_rows};
 use std::alloc::{AllocError, Global};
 use std::test::Fail;
+use test_rows::{Came, hold_pairs, hold_row, hold_rows};
 
 /// The words after the program's name, and the paths, files and settings that they ask for.
 const ASKED: &[&str] = &[

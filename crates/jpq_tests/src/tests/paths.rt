@@ -1,9 +1,9 @@
 //! The paths in a file's text.
 
 use jpq_options::options::paths_in;
-use serde_json_path_core_tests::{Came, hold_rows};
 use std::alloc::Global;
 use std::test::Fail;
+use test_rows::{Came, hold_rows};
 
 /// A file's text, and the paths in it, each in angle brackets.
 const PATHS: &[&str] = &[

@@ -1,9 +1,9 @@
 //! What a person is told of a refused path.
 
 use crate::tests::inputs::run_line;
-use serde_json_path_core_tests::{Came, Table, ends, fields, hold_rows};
 use std::alloc::Global;
 use std::test::Fail;
+use test_rows::{Came, Table, ends, fields, hold_rows};
 
 /// A path of ASCII characters, the byte of the caret, what is wrong there, and what was probably meant.
 const REFUSALS: &[&str] = &[

@@ -7,9 +7,9 @@ use crate::tests::inputs::run_line;
 use crate::tests::options::{of_asked, words_of};
 use jpq_options::options::{command, paths_in, read};
 use jsonpath_document::{DocumentFault, read_document};
-use serde_json_path_core_tests::{Called, fields, hold_answers};
 use std::alloc::Global;
 use std::test::Fail;
+use test_rows::{Called, fields, hold_answers};
 
 /// The words after the program's name, and what they ask for.
 const WORDS: &[&str] = &[

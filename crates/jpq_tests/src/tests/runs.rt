@@ -1,9 +1,9 @@
 //! What is written of documents, in each form, and the exit status.
 
 use crate::tests::inputs::run_line;
-use serde_json_path_core_tests::{Came, hold_rows};
 use std::alloc::Global;
 use std::test::Fail;
+use test_rows::{Came, hold_rows};
 
 /// The words, with two blanks between them, and standard input, if there is one; and the status and what is written, with
 /// `~` for a line feed.

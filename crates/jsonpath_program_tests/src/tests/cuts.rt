@@ -3,9 +3,9 @@
 use crate::tests::reports::READINGS;
 use jsonpath_program::report::{DocumentError, ReportError, report};
 use serde_json_path::functions::Builtin;
-use serde_json_path_core_tests::{BOOKSTORE, Came, Table, holds};
 use std::alloc::Global;
 use std::test::Fail;
+use test_rows::{BOOKSTORE, Came, Table, holds};
 
 /// Documents of the other tests, and of the language's examples.
 const DOCUMENTS: &[&str] = &[

@@ -3,9 +3,9 @@
 use crate::tests::cuts::cut;
 use crate::tests::reports::{refusal, reported};
 use serde_json_path::functions::Builtin;
-use serde_json_path_core_tests::{Came, fields, hold_row, hold_rows, long};
 use std::alloc::Global;
 use std::test::Fail;
+use test_rows::{Came, fields, hold_row, hold_rows, long};
 
 /// Bytes that are no JSON text.
 const NO_JSON: &[&[u8]] = &[

@@ -4,11 +4,11 @@ ghost use Rattle.std.specs.Prelude.{Some, None};
 
 use crate::tests::program::{words, wrote};
 use jsonpath_program::run::run;
-use serde_json_path_core_tests::holds;
 use std::alloc::Global;
 use std::io;
 use std::io::{Read, Write};
 use std::test::Fail;
+use test_rows::holds;
 
 /// A reader that gives one byte at a time, is interrupted before each, and fails at one of its calls.
 #[derive(Drop)]

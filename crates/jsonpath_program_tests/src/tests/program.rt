@@ -7,11 +7,11 @@ use crate::tests::failing::{Reader, Writer};
 use jsonpath_program::report::ReportError;
 use jsonpath_program::run::{refuse, run};
 use serde_json_path::QueryError;
-use serde_json_path_core_tests::{Came, hold_pairs, holds};
 use std::alloc::{AllocError, Global};
 use std::io;
 use std::io::Write;
 use std::test::Fail;
+use test_rows::{Came, hold_pairs, holds};
 
 /// A writer that has room for so many bytes, and takes none once it is full.
 #[derive(Drop)]

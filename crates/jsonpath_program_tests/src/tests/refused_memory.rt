@@ -4,9 +4,9 @@
 use jsonpath_program::report::{DocumentError, ReportError, report};
 use serde_json_path::functions::{Builtin, Functions};
 use serde_json_path::{ParseErrorKind, QueryError};
-use serde_json_path_core_tests::{Came, Own, fields, hold_rows};
 use std::alloc::Global;
 use std::test::Fail;
+use test_rows::{Came, Own, fields, hold_rows};
 
 /// Where a report met a refused request.
 fn refused_at(e: &ReportError) -> Option<&'static str> {

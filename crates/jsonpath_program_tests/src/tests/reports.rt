@@ -3,9 +3,9 @@
 use jsonpath_lines::Form;
 use jsonpath_program::report::{report, report_in, report_under};
 use serde_json_path::functions::{Builtin, Functions};
-use serde_json_path_core_tests::{BOOKSTORE, Came, Own, fields, hold_rows, nested};
 use std::alloc::Global;
 use std::test::Fail;
+use test_rows::{BOOKSTORE, Came, Own, fields, hold_rows, nested};
 
 /// Readings with messages, and a threshold.
 pub(crate) const READINGS: &str = concat!(

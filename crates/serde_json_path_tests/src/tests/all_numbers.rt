@@ -3,11 +3,9 @@
 use crate::tests::rows::read_with;
 use serde_json_path::functions::{Builtin, Functions};
 use serde_json_path::{JsonPath, Numbers};
-use serde_json_path_core_tests::{
-    BOOKSTORE, Came, Own, fields, hold_row, hold_rows, holds, locations,
-};
 use std::alloc::Global;
 use std::test::Fail;
+use test_rows::{BOOKSTORE, Came, Own, fields, hold_row, hold_rows, holds, locations};
 
 /// The locations of what a path selects from a document under a set, where comparisons take numbers by a rule. A copy of the
 /// path keeps that, and is equal to it.

@@ -1,8 +1,8 @@
 //! The bookstore of RFC 9535, section 1.5.
 
 use crate::tests::rows::count;
-use serde_json_path_core_tests::{BOOKSTORE, hold_rows};
 use std::test::Fail;
+use test_rows::{BOOKSTORE, hold_rows};
 
 /// A path, and the locations and the values of what it selects from [`BOOKSTORE`].
 pub(crate) const BOOKS: &[&str] = &[

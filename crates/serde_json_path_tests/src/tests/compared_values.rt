@@ -2,9 +2,9 @@
 
 use crate::tests::rows::nodes;
 use serde_json::Value;
-use serde_json_path_core_tests::{Came, fields, hold_rows};
 use std::alloc::Global;
 use std::test::Fail;
+use test_rows::{Came, fields, hold_rows};
 
 /// The operators.
 const OPERATORS: &[&str] = &["==", "!=", "<", "<=", ">", ">="];

@@ -4,9 +4,9 @@ use crate::tests::long_texts::CUT;
 use crate::tests::tables::of_text;
 use serde_json_path::functions::{Builtin, Functions};
 use serde_json_path::{JsonPath, ParseError};
-use serde_json_path_core_tests::{hold_nested, holds};
 use std::alloc::Global;
 use std::test::Fail;
+use test_rows::{hold_nested, holds};
 
 /// The messages of each kind.
 const MESSAGES: &[&str] = &[

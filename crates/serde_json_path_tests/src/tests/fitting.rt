@@ -10,9 +10,9 @@ ghost use Rattle.serde_json_path.specs.Paths.{path_tree, with_rule_of};
 use serde_json::Value;
 use serde_json_path::functions::{Builtin, Functions};
 use serde_json_path::{JsonPath, NodeList, QueryError, law_set_before_itself};
-use serde_json_path_core_tests::{Came, hold_row, values};
 use std::alloc::Global;
 use std::test::Fail;
+use test_rows::{Came, hold_row, values};
 
 /// The nodes that a path selects, if it fits the built-in functions.
 fn query_if_it_fits<'b>(

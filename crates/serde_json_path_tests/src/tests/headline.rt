@@ -19,9 +19,9 @@ use serde_json_path::{
     JsonPath, LocatedNodeList, NormalizedPath, ParseErrorKind, PathElement, QueryError, law_append,
     law_locations_are_proper, law_normal, law_print, law_result_is_unique,
 };
-use serde_json_path_core_tests::{Came, fields, hold_row, hold_rows, holds, located};
 use std::alloc::Global;
 use std::test::Fail;
+use test_rows::{Came, fields, hold_row, hold_rows, holds, located};
 
 /// The greatest index that a path can write: 2^53 - 1.
 const LARGEST_INDEX: usize = 9_007_199_254_740_991;

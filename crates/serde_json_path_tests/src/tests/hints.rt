@@ -2,10 +2,10 @@
 
 use crate::tests::nesting::PARENTHESES;
 use serde_json_path::JsonPath;
-use serde_json_path_core_tests::{Came, hold_nested, hold_rows};
 use serde_json_path_hints::hint;
 use std::alloc::Global;
 use std::test::Fail;
+use test_rows::{Came, hold_nested, hold_rows};
 
 /// A text, the kind and the position of its refusal, and what was probably meant.
 const HINTS: &[&str] = &[

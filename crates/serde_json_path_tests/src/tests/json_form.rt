@@ -2,9 +2,9 @@
 
 use serde_json::Value;
 use serde_json_path::{FromJsonError, JsonPath, JsonPathExt};
-use serde_json_path_core_tests::{Came, fields, hold_rows, values};
 use std::alloc::Global;
 use std::test::Fail;
+use test_rows::{Came, fields, hold_rows, values};
 
 /// A JSON value, and why it is not read as a path.
 const REFUSED: &[&str] = &[

@@ -2,9 +2,9 @@
 
 use crate::tests::rows::{nodes, read};
 use serde_json::Value;
-use serde_json_path_core_tests::{Came, hold_rows, locations};
 use std::alloc::Global;
 use std::test::Fail;
+use test_rows::{Came, hold_rows, locations};
 
 /// A path, a document, and the locations of what the path selects, each once, in the order of their first places.
 const ONCE: &[&str] = &[

@@ -4,11 +4,11 @@ use crate::tests::nesting::{CALLS, COMPARED, FILTERS, PARENTHESES};
 use crate::tests::rows::{count, parsed, selected, told};
 use serde_json_path::functions::Builtin;
 use serde_json_path::{JsonPath, PathSource, TextSource, parse_source};
-use serde_json_path_core_tests::{
-    Came, Nesting, alike, fields, hold_nested, hold_row, hold_rows, holds, long, nested,
-};
 use std::alloc::Global;
 use std::test::Fail;
+use test_rows::{
+    Came, Nesting, alike, fields, hold_nested, hold_row, hold_rows, holds, long, nested,
+};
 
 /// What is long, how often it stands there, and what the parse of that text answers. The texts are cut, too.
 pub(crate) const CUT: &[(Nesting<'static>, usize, &str)] = &[

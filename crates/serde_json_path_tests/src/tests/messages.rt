@@ -8,10 +8,10 @@ use crate::tests::nesting::PARENTHESES;
 use serde_json_path::{
     AtMostOneError, ExactlyOneError, FromJsonError, JsonPath, ParseError, QueryError,
 };
-use serde_json_path_core_tests::{Came, alike, hold_nested, hold_row, hold_rows};
 use std::alloc::Global;
 use std::error::Error;
 use std::test::Fail;
+use test_rows::{Came, alike, hold_nested, hold_row, hold_rows};
 
 /// A text, and the message of its refusal.
 const TOLD: &[&str] = &[

@@ -4,9 +4,9 @@ use crate::tests::cuts::cut;
 use crate::tests::printed::reads_back;
 use crate::tests::rows::parsed;
 use serde_json_path::functions::Builtin;
-use serde_json_path_core_tests::{Came, Nesting, hold_nested, hold_rows, nested};
 use std::alloc::Global;
 use std::test::Fail;
+use test_rows::{Came, Nesting, hold_nested, hold_rows, nested};
 
 // What nests: filters, also below one that compares, parentheses, negated ones, and calls.
 pub(crate) const FILTERS: Nesting<'static> = ("$", "[?@", "", "]", "");

@@ -4,8 +4,8 @@ use crate::tests::headline::find_again;
 use serde_json::Value;
 use serde_json_path::functions::Builtin;
 use serde_json_path::{NormalizedPath, PathElement};
-use serde_json_path_core_tests::{hold_row, located};
 use std::test::Fail;
+use test_rows::{hold_row, located};
 
 #[test]
 fn finds_the_root_again(rt: HostRuntime) -> Result<(), Fail> {

@@ -10,9 +10,9 @@ ghost use Rattle.serde_json_path_core.specs.Compared.{Compares, value};
 
 use serde_json::{Number, Value};
 use serde_json_path::{JsonPath, Numbers, law_numbers_are_finite, law_order_of_numbers};
-use serde_json_path_core_tests::{Came, fields, hold_rows};
 use std::alloc::Global;
 use std::test::Fail;
+use test_rows::{Came, fields, hold_rows};
 
 /// Exactly one of the three comparisons holds of two numbers.
 fn exactly_one_holds(left: &Number, right: &Number)

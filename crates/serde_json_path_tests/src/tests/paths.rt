@@ -2,9 +2,9 @@
 
 use crate::tests::rows::{queried, told};
 use serde_json_path::JsonPath;
-use serde_json_path_core_tests::{Came, alike, fields, hold_row, hold_rows};
 use std::alloc::Global;
 use std::test::Fail;
+use test_rows::{Came, alike, fields, hold_row, hold_rows};
 
 #[test]
 fn the_new_path_is_the_root(rt: HostRuntime) -> Result<(), Fail> {

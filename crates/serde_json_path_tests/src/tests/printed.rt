@@ -2,9 +2,9 @@
 
 use serde_json_path::JsonPath;
 use serde_json_path::functions::{Builtin, Functions};
-use serde_json_path_core_tests::{Came, alike, fields, hold_row, hold_rows, holds};
 use std::alloc::Global;
 use std::test::Fail;
+use test_rows::{Came, alike, fields, hold_row, hold_rows, holds};
 
 /// Two paths, and whether they are equal.
 const COMPARED: &[&str] = &[

@@ -13,15 +13,15 @@ use serde_json_path::{
     FromJsonError, JsonPath, JsonPathExt, LocatedNode, LocatedNodeList, NodeList, ParseError,
     ParseErrorKind, PathSource, TextSource, parse_source,
 };
-use serde_json_path_core_tests::{
-    Called, Came, Own, fields, hold_answers, hold_rows, holds, long, of_calls, of_located,
-    of_nodes, of_walk,
-};
 use serde_json_path_nodes::escaped;
 use serde_json_path_syntax::{Checked, SyntaxBuilder};
 use std::alloc::Global;
 use std::process::Abort;
 use std::test::Fail;
+use test_rows::{
+    Called, Came, Own, fields, hold_answers, hold_rows, holds, long, of_calls, of_located,
+    of_nodes, of_walk,
+};
 
 /// A text, and the text that its path prints, or the refusal.
 const TEXTS: &[&str] = &[

@@ -8,9 +8,9 @@ ghost use Rattle.serde_json_path.specs.Paths.{path_signatures};
 use serde_json::Value;
 use serde_json_path::functions::Functions;
 use serde_json_path::{JsonPath, LocatedNodeList, NodeList, ParseError, law_set_before_itself};
-use serde_json_path_core_tests::{Came, alike, fields, holds, located, values};
 use std::alloc::Global;
 use std::test::Fail;
+use test_rows::{Came, alike, fields, holds, located, values};
 
 /// The locations and the values of what both queries select, or `nothing`. Fails where their values differ.
 fn both(alloc: Global, nodes: &NodeList<'_>, with_locations: &LocatedNodeList<'_>) -> Came {

@@ -5,11 +5,9 @@ use crate::tests::tables::of_row;
 use crate::tests::walks::of_walk;
 use serde_json_path::functions::{Builtin, Functions};
 use serde_json_path::{JsonPath, QueryError};
-use serde_json_path_core_tests::{
-    Came, Nesting, Overriding, Own, hold_nested, hold_row, hold_rows, locations,
-};
 use std::alloc::Global;
 use std::test::Fail;
+use test_rows::{Came, Nesting, Overriding, Own, hold_nested, hold_row, hold_rows, locations};
 
 /// Paths and documents with what is selected, and texts with their refusals, where filters call [`Own`].
 const OWN: &[&str] = &[

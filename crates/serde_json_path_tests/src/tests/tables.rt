@@ -9,9 +9,9 @@ use crate::tests::{
 };
 use serde_json_path::JsonPath;
 use serde_json_path::functions::{Builtin, Functions};
-use serde_json_path_core_tests::{BOOKSTORE, Came, Table, hold_rows};
 use std::alloc::Global;
 use std::test::Fail;
+use test_rows::{BOOKSTORE, Came, Table, hold_rows};
 
 /// What a path selects from a document under a set. The path's text is cut at each character, and what it prints reads back.
 fn of_path<F: Functions>(alloc: Global, functions: &F, row: (&str, &str)) -> Came {

@@ -4,9 +4,9 @@ use crate::tests::rows::{read, read_with};
 use serde_json::Value;
 use serde_json_path::functions::{Builtin, CachedPatterns, Functions, PatternStore};
 use serde_json_path::{JsonPath, PathElement, QueryError, Walk};
-use serde_json_path_core_tests::{Came, Own, Table, fields, hold_rows, long};
 use std::alloc::Global;
 use std::test::Fail;
+use test_rows::{Came, Own, Table, fields, hold_rows, long};
 
 /// What a walk answers to so many calls: locations, `none` for none, and how many of the calls are refused memory.
 fn walked<F: Functions + Drop>(alloc: Global, mut walk: Walk<'_, '_, F>, calls: u32) -> Came {

@@ -1,7 +1,7 @@
 use Rattle.std.proofs.Common.{arith}
 use Rattle.std.proofs.lemmas.Grind.{common_steps}
 use Rattle.serde_json_path_syntax.specs.Tree as tree
-use Rattle.serde_json_path_core_tests.proofs.tests.built.tells_a_singular_query.Goals as goal
+use Rattle.serde_json_path_tests.proofs.tests.built.tells_a_singular_query.Goals as goal
 
 pub query-requires : goal.query-requires
 query-requires g c = (tree.no_segments, grind (arith, common_steps))

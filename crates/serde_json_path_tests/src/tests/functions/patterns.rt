@@ -4,13 +4,13 @@ ghost use Rattle.std.specs.Prelude.{◌≡◌, map, Some, IfOk};
 ghost use Rattle.serde_json_path_functions.specs.Functions.{Takes, matching_signature, builtin_signature};
 ghost use Rattle.serde_json_path_functions.specs.Terms.{term_view};
 
-use crate::{Came, alike, fields, hold_rows};
 use serde_json::Value;
 use serde_json_path_functions::{
     Builtin, CachedPatterns, FunctionValue, Functions, LogicalType, PatternStore, ValueType,
 };
 use std::alloc::Global;
 use std::test::Fail;
+use test_rows::{Came, alike, fields, hold_rows};
 
 /// The value of a JSON text, or Nothing for the empty text.
 fn value_of(alloc: Global, json: &str) -> Result<ValueType<'static>, Fail> {

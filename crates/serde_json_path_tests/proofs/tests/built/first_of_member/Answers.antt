@@ -3,8 +3,8 @@ use Rattle.std.proofs.lemmas.Grind.{common_steps}
 use Rattle.serde_json_path_syntax.specs.Tree as tree
 use Rattle.serde_json_path_syntax.specs.Branch.{a_segment}
 use Rattle.serde_json_path_syntax.specs.Parts.{calls_in}
-use Rattle.serde_json_path_core_tests.proofs.Trees.{finished_without_calls}
-use Rattle.serde_json_path_core_tests.proofs.tests.built.first_of_member.Goals as goal
+use Rattle.serde_json_path_tests.proofs.Trees.{finished_without_calls}
+use Rattle.serde_json_path_tests.proofs.tests.built.first_of_member.Goals as goal
 
 pub long_hand-requires : goal.long_hand-requires
 long_hand-requires c = (tree.selector (tree.index (pos 0)) tree.no_selectors, grind (arith, common_steps))

@@ -3,8 +3,8 @@ use Rattle.std.proofs.lemmas.Grind.{common_steps}
 use Rattle.serde_json_path_syntax.specs.Tree as tree
 use Rattle.serde_json_path_syntax.specs.Branch.{a_segment, a_selector}
 use Rattle.serde_json_path_syntax.specs.Parts.{calls_in}
-use Rattle.serde_json_path_core_tests.proofs.Trees.{finished_without_calls}
-use Rattle.serde_json_path_core_tests.proofs.tests.built.all_and_all_but_the_first.Goals as goal
+use Rattle.serde_json_path_tests.proofs.Trees.{finished_without_calls}
+use Rattle.serde_json_path_tests.proofs.tests.built.all_and_all_but_the_first.Goals as goal
 
 -- the selectors of the bracket, of which the second is the slice `1:`
 abbrev both : tree.Selectors

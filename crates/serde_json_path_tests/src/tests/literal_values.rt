@@ -1,11 +1,11 @@
 //! Which literals may be arguments of the type of values (RFC 9535, section 2.4.3), and numbers as literals.
 
-use crate::{Came, fields, hold_rows};
 use serde_json::Value;
 use serde_json_path_core::{Literal, NumberLiteral};
 use serde_json_path_numbers::ExactNumber;
 use std::alloc::Global;
 use std::test::Fail;
+use test_rows::{Came, fields, hold_rows};
 
 /// The billionths of the greatest number, 2^64 - 1.
 const GREATEST: i128 = 18_446_744_073_709_551_615_000_000_000;

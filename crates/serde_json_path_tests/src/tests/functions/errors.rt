@@ -1,14 +1,14 @@
 //! What a set refuses a call for comes through other sets.
 
 ghost use Rattle.serde_json_path_functions.specs.Functions.{Fits};
-ghost use Rattle.serde_json_path_core_tests.specs.TestSets.{refused_names};
+ghost use Rattle.test_rows.specs.TestSets.{refused_names};
 
-use crate::Overriding;
 use crate::tests::functions::patterns::arguments;
 use serde_json_path_functions::{Both, Builtin, Functions, QueryError};
 use std::alloc::Global;
 use std::process::Abort;
 use std::test::Fail;
+use test_rows::Overriding;
 
 /// Holds a set that has the names of `Overriding` to its errors.
 fn refuses_each<F: Functions>(rt: &impl Abort, alloc: Global, functions: &F) -> Result<(), Fail>

@@ -5,7 +5,6 @@ ghost use Rattle.serde_json_path_syntax.specs.Parts.{IsPart, calls_in, signature
 ghost use Rattle.serde_json_path_syntax.specs.Branch.{a_selector};
 ghost use Rattle.serde_json_path_syntax.specs.Tree.{name};
 
-use crate::{Came, hold_row, holds, located};
 use serde_json::Value;
 use serde_json_path_core::{
     Checked, Part, Parts, QueryKind, SegmentKind, Slice, SyntaxBuilder, Walk, evaluate,
@@ -14,6 +13,7 @@ use serde_json_path_core::{
 use serde_json_path_functions::Builtin;
 use std::alloc::Global;
 use std::test::Fail;
+use test_rows::{Came, hold_row, holds, located};
 
 /// The query `$.a[0]`.
 fn first_of_member(alloc: Global) -> Result<Checked, Fail>

@@ -5,10 +5,10 @@ mod builtin;
 mod errors;
 mod patterns;
 
-use crate::{Came, hold_pairs};
 use serde_json_path_functions::QueryError;
 use std::alloc::Global;
 use std::test::Fail;
+use test_rows::{Came, hold_pairs};
 
 const ERRORS: &[(QueryError, &str)] = &[
     (QueryError::Memory, "no memory"),

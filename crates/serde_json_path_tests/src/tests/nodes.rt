@@ -1,6 +1,5 @@
 //! Lists and locations: that calls succeed, and the texts that readers of the RFC expect.
 
-use crate::{Came, hold_pairs, hold_rows, holds, locations};
 use serde_json::Value;
 use serde_json_path_nodes::PathElement::{Index, Name};
 use serde_json_path_nodes::{
@@ -11,6 +10,7 @@ use std::alloc::Global;
 use std::fmt::Display;
 use std::process::Abort;
 use std::test::Fail;
+use test_rows::{Came, hold_pairs, hold_rows, holds, locations};
 
 /// The steps of a location.
 type Steps = &'static [PathElement<'static>];

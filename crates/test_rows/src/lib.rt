@@ -1,12 +1,8 @@
-//! Tests of the lower crates by their public calls alone: lists and locations, functions, syntax trees, what these select,
-//! and walks. The tables of all tests hold their rows by `rows`, and tell what comes of these by `texts`; `sets` has
-//! function sets.
+//! What all tests use. Tables hold their rows by `rows`, and tell what comes of these by `texts`; `sets` has function sets.
 #![tactic(auto)]
 
 mod rows;
 mod sets;
-#[cfg(test)]
-mod tests;
 mod texts;
 
 pub use crate::rows::{

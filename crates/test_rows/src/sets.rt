@@ -15,7 +15,7 @@ use std::cell::Cell;
 pub struct Overriding;
 
 impl Functions for Overriding {
-    ghost use Rattle.serde_json_path_core_tests.specs.TestSets.{overriding_functions, overriding_keeps_types, overriding_keeps_patterns};
+    ghost use Rattle.test_rows.specs.TestSets.{overriding_functions, overriding_keeps_types, overriding_keeps_patterns};
 
     ghost set = { λ _. overriding_functions };
 
@@ -79,7 +79,7 @@ impl Own {
 }
 
 impl Functions for Own {
-    ghost use Rattle.serde_json_path_core_tests.specs.TestSets.{own_functions, own_keeps_types, own_keeps_patterns};
+    ghost use Rattle.test_rows.specs.TestSets.{own_functions, own_keeps_types, own_keeps_patterns};
 
     ghost set = { λ _. own_functions };
 

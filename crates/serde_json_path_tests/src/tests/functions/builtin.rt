@@ -3,7 +3,6 @@
 ghost use Rattle.std.specs.Prelude.{◌≡◌, [], ◌∷◌, Some};
 ghost use Rattle.serde_json_path_functions.specs.Functions.{of_nodes, of_value, plain_signature};
 
-use crate::{Came, hold_pairs, hold_rows};
 use serde_json::Value;
 use serde_json_path_functions::FunctionArgType::{Logical, Nodelist};
 use serde_json_path_functions::{
@@ -12,6 +11,7 @@ use serde_json_path_functions::{
 };
 use std::alloc::Global;
 use std::test::Fail;
+use test_rows::{Came, hold_pairs, hold_rows};
 
 /// An answer of type Value, as JSON or the word `Nothing`.
 fn printed_answer(alloc: Global, answer: &FunctionValue) -> Came {

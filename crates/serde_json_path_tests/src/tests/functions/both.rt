@@ -3,15 +3,15 @@
 ghost use Rattle.std.specs.Prelude.{◌≡◌, [], ◌∷◌, map, IfOk};
 ghost use Rattle.serde_json_path_functions.specs.Functions.{nodes, Takes};
 ghost use Rattle.serde_json_path_functions.specs.Patterns.{before_builtin};
-ghost use Rattle.serde_json_path_core_tests.specs.TestSets.{overriding_functions};
+ghost use Rattle.test_rows.specs.TestSets.{overriding_functions};
 ghost use Rattle.serde_json_path_functions.specs.Terms.{term_view};
 
-use crate::Overriding;
 use serde_json::Value;
 use serde_json_path_functions::FunctionArgType::Nodelist;
 use serde_json_path_functions::{Both, Builtin, FunctionValue, Functions, NodesType};
 use std::alloc::Global;
 use std::test::Fail;
+use test_rows::Overriding;
 
 /// The list of no nodes, as arguments.
 fn no_nodes<'b>(alloc: Global) -> Result<Vec<FunctionValue<'b>>, Fail>
