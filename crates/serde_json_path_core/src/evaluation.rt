@@ -81,7 +81,7 @@ pub fn walk<'q, 'b, F: Functions + Drop>(
 }
 
 /// What the query selects in the document, with locations, in order (RFC 9535, sections 2.1.2 and 2.5), under a function
-/// set that the query fits.
+/// set that the query fits. Comparisons take numbers by the query's rule.
 ///
 /// The nodes and the names of their locations borrow the document. Where an error comes there is no list: `Pattern` comes
 /// only where some call of `match` or `search`, under whatever name, has a pattern that `regex` reads (`specs/PatternCalls`);

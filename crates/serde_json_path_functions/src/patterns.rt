@@ -12,12 +12,26 @@ use regex::{Error, Matcher, Regex};
 use std::alloc::{AllocError, Global};
 
 /// What a pattern has to match.
-#[derive(Clone, Copy, PartialEq, Eq)]
+#[derive(Clone, Copy)]
 pub(crate) enum Matching {
     /// The whole text, as for `match`.
     WholeText,
     /// Some part of the text, as for `search`.
     AnyPart,
+}
+
+impl Matching {
+    /// Whether the two are the same.
+    #[inline]
+    fn is(self, other: Matching) -> bool
+        ensures { IsTrue result → matching_view self ≡ matching_view other }
+    {
+        match (self, other) {
+            (Matching::WholeText, Matching::WholeText) => true,
+            (Matching::AnyPart, Matching::AnyPart) => true,
+            _ => false,
+        }
+    }
 }
 
 /// The text that `regex` reads: the pattern in a group, between `^` and `$` for `match`. Under its flag `R` a dot matches
@@ -26,15 +40,10 @@ fn built_text(alloc: Global, matching: Matching, pattern: &str) -> Result<String
     ensures { IfOk result (λ text.
         string_bytes text ≡ spec.built_text (matching_view matching) pattern.now) }
 {
-    let (before, after) = match matching {
-        Matching::WholeText => ("(?R)^(", ")$"),
-        Matching::AnyPart => ("(?R)(", ")"),
-    };
-    let mut text = String::with_capacity(alloc, before.len() + pattern.len() + after.len())?;
-    text.push_str(before)?;
-    text.push_str(pattern)?;
-    text.push_str(after)?;
-    Ok(text)
+    match matching {
+        Matching::WholeText => format!(in alloc; "(?R)^({pattern})$"),
+        Matching::AnyPart => format!(in alloc; "(?R)({pattern})"),
+    }
 }
 
 /// What finds the patterns of `match` and `search` in texts.
@@ -124,7 +133,7 @@ impl ReadPattern {
     pub(crate) fn is_of(&self, matching: Matching, pattern: &str) -> bool
         ensures { IsTrue result → IsOf (matching_view matching) pattern.now self.now }
     {
-        self.matching == matching && self.pattern.as_str() == pattern
+        self.matching.is(matching) && self.pattern.as_str() == pattern
     }
 }
 
