@@ -1,12 +1,16 @@
 -- The parts that a builder has made and the finished tree, as contracts see them.
-use Rattle.std.specs.Prelude.{◌≡◌, ◌<◌, ℕ, List, [], ◌∷◌, length}
-use Rattle.serde_json_path_syntax.specs.Tree.{Query, Segments, no_segments, segment, Selectors, no_selectors, selector, LogicalOr, no_or, or, LogicalAnd, no_and, and, Arguments, no_arguments, argument, Argument, operand, logical_argument}
-use Rattle.serde_json_path_functions.specs.Functions.{Numbers, Signature}
-use Rattle.serde_json_path_functions.specs.Terms.{numbers_view}
+use Rattle.std.specs.Prelude.{◌≡◌, ◌<◌, ℕ, List, [], ◌∷◌, length, slice_get, Option, Some, None}
+use Rattle.serde_json_path_syntax.specs.Tree.{Query, Segments, no_segments, segment, Selectors, no_selectors, selector, LogicalOr, no_or, or, LogicalAnd, no_and, and, Arguments, no_arguments, argument, Argument, operand, logical_argument, literal, queried, called, Call}
+use Rattle.serde_json_path_functions.specs.Functions.{Kind, Numbers, Signature}
+use Rattle.serde_json_path_functions.specs.Terms.{kind_view, numbers_view, signature_view}
 use Rattle.serde_json_path_syntax.specs.Used.{each_once}
-use Rattle.serde_json_path_syntax.specs.Branch.{Branch, a_segment, a_selector, an_or, an_and, a_basic, an_operand}
-use Rattle.serde_json_path_syntax.specs.Flat.{calls_among, branch_at, query_at}
+use Rattle.serde_json_path_syntax.specs.Branch.{Branch, a_query, a_segment, a_selector, an_or, an_and, a_basic, an_operand}
+use Rattle.serde_json_path_syntax.specs.Flat.{calls_among, branch_at, held_view, query_at}
+use Rattle.serde_json_path_syntax.specs.declared.argument_ref.ArgumentRef.{ArgumentRef}
+use Rattle.serde_json_path_syntax.specs.declared.argument_ref.ArgumentRef.TheVariants as seen
 use Rattle.serde_json_path_syntax.specs.declared.node.Node.{Node}
+use Rattle.serde_json_path_syntax.specs.declared.node.Node.TheVariants as node
+use Rattle.serde_json_path_syntax.specs.declared.node.Operand.TheVariants as one_operand
 use Rattle.serde_json_path_syntax.specs.declared.node.Part.{Part}
 use Rattle.serde_json_path_syntax.specs.declared.builder.SyntaxBuilder.{SyntaxBuilder}
 use Rattle.serde_json_path_syntax.specs.declared.checked.Checked.{Checked}
@@ -78,6 +82,29 @@ AreArgumentsOf builder parts args = ArePartsFor builder parts (argument_branches
 -- the names and the signatures of the calls that a builder has made, in that order
 abbrev pub calls_in : SyntaxBuilder → List (List ℕ × Signature)
 calls_in builder = calls_among builder.arena.nodes.items
+
+-- the type of a call's result, by the signature that it keeps
+abbrev pub result_by : Option Node → Option Kind
+result_by (Some (node.Call k s parts)) = Some (signature_view s).result
+result_by _ = None
+
+abbrev pub result_of_call : SyntaxBuilder → Part → Option Kind
+result_of_call builder part = result_by (slice_get builder.arena.nodes.items part.number)
+
+-- that of an operand, if it is a call
+abbrev pub result_through : SyntaxBuilder → Option Node → Option Kind
+result_through builder (Some (node.Operand (one_operand.Call part))) = result_of_call builder part
+result_through builder _ = None
+
+abbrev pub result_of_operand : SyntaxBuilder → Part → Option Kind
+result_of_operand builder part = result_through builder (slice_get builder.arena.nodes.items part.number)
+
+-- what the builder tells of a part is so of the argument for which the part stands
+abbrev pub IsSeenAs : SyntaxBuilder → Part → ArgumentRef → Argument → Type 0
+IsSeenAs builder part (seen.Literal l) x = x ≡ operand (literal (held_view l.now))
+IsSeenAs builder part (seen.Query q) x = (y : Query) × (x ≡ operand (queried y)) × IsPart builder q (a_query y)
+IsSeenAs builder part (seen.Call kind) x = (c : Call) × (x ≡ operand (called c)) × (result_of_operand builder part ≡ Some (kind_view kind))
+IsSeenAs builder part seen.Logical x = (e : LogicalOr) × (x ≡ logical_argument e)
 
 -- each part stays good, with its tree
 abbrev pub KeepsTrees : SyntaxBuilder → SyntaxBuilder → Type 0

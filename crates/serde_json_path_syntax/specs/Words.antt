@@ -15,7 +15,7 @@ pub use Rattle.serde_json_path_syntax.specs.Kinds.{AreFitting, AreOfKind, IsOfKi
 pub use Rattle.serde_json_path_syntax.specs.Lists.{IsIn, IsInOrder}
 pub use Rattle.serde_json_path_syntax.specs.Literals.{literal_view, number_amount, whole_amount, operator_view}
 pub use Rattle.serde_json_path_syntax.specs.PartBounds.{parts_bound, selector_bound}
-pub use Rattle.serde_json_path_syntax.specs.Parts.{AreAndPartsOf, AreArgumentsOf, AreOrPartsOf, ArePartsFor, ArePartsOf, AreSelectorsOf, HasNoParts, IsPart, KeepsParts, KeepsTrees, and_branches, argument_branch, argument_branches, calls_in, nodes_in, number_of, or_branches, rule_of, segment_branches, selector_branches, signatures_of, tree_of}
+pub use Rattle.serde_json_path_syntax.specs.Parts.{AreAndPartsOf, AreArgumentsOf, AreOrPartsOf, ArePartsFor, ArePartsOf, AreSelectorsOf, HasNoParts, IsPart, IsSeenAs, KeepsParts, KeepsTrees, and_branches, argument_branch, argument_branches, calls_in, nodes_in, number_of, or_branches, result_of_call, result_of_operand, rule_of, segment_branches, selector_branches, signatures_of, tree_of}
 pub use Rattle.serde_json_path_syntax.specs.Branch.{Branch, a_basic, a_call, an_operand, a_query, a_segment, a_selector, an_and, an_or}
 pub use Rattle.serde_json_path_syntax.specs.SliceView.{slice_view}
 pub use Rattle.serde_json_path_syntax.specs.Stages.{selectors_list}

@@ -16,7 +16,7 @@ pub(crate) struct Arena {
 }
 
 impl Arena {
-    ghost use Rattle.std.specs.Prelude.{ℕ, List, true, ◌≡◌, ◌<◌, ◌≤◌, ◌++◌, ◌∷◌, [], IfOk, OnErr, OnOk, length};
+    ghost use Rattle.std.specs.Prelude.{ℕ, List, true, Some, ◌≡◌, ◌<◌, ◌≤◌, ◌++◌, ◌∷◌, [], IfOk, OnErr, OnOk, length, slice_get};
     ghost use Rattle.serde_json_path_syntax.specs.Words.{NamesBelow, called_by, calls_among, part_query, branch_at, branch_of, branches, segments_at, Signature, AreOfKind, IsOfKind, fits, is_query, is_segment, IsIn, parts_bound, segments_of};
 
     /// No nodes. Takes no memory.
@@ -75,6 +75,7 @@ impl Arena {
         ensures fits { fits (branches self.now.nodes.items) result.now ≡ true }
         ensures called { (u : List ℕ × Signature) → IsIn u (called_by result.now)
             → IsIn u (calls_among self.now.nodes.items) }
+        ensures is { slice_get self.now.nodes.items part.number ≡ Some result.now }
     {
         &self.nodes[part.number]
     }

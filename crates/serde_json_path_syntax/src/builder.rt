@@ -1,6 +1,7 @@
 //! The builder of syntax trees.
 
 use crate::arena::Arena;
+use crate::argument_ref::ArgumentRef;
 use crate::checked::Checked;
 use crate::literal::Literal;
 use crate::node::{Basic, Node, Operand, Part, QueryKind, Segment, SegmentKind, Selector};
@@ -25,8 +26,8 @@ pub struct SyntaxBuilder {
 }
 
 impl SyntaxBuilder {
-    ghost use Rattle.std.specs.Prelude.{true, ◌≡◌, ◌↔◌, ◌++◌, ◌∷◌, [], IfOk, OnErr, OnOk, IsTrue, string_bytes, length};
-    ghost use Rattle.serde_json_path_syntax.specs.Words.{literal_view, operator_view, a_query, a_segment, a_selector, an_or, an_and, a_basic, an_operand, a_call, IsOptionalInteger, called_by, query_kind_view, segment_kind_view, NamesBelow, parts_in, branch_of, branches, fits, slice_view, HasNoParts, IsPart, ArePartsOf, AreSelectorsOf, AreOrPartsOf, AreAndPartsOf, AreArgumentsOf, KeepsParts, KeepsTrees, calls_in, tree_of, rule_of, signatures_of, whole_numbers, MayFinish, each_once, signature_view};
+    ghost use Rattle.std.specs.Prelude.{true, Some, ◌≡◌, ◌↔◌, ◌++◌, ◌∷◌, [], IfOk, OnErr, OnOk, IsTrue, string_bytes, length};
+    ghost use Rattle.serde_json_path_syntax.specs.Words.{literal_view, operator_view, a_query, a_segment, a_selector, an_or, an_and, a_basic, an_operand, a_call, argument_branch, IsOptionalInteger, IsSeenAs, result_of_call, result_of_operand, called_by, query_kind_view, segment_kind_view, NamesBelow, parts_in, branch_of, branches, fits, slice_view, HasNoParts, IsPart, ArePartsOf, AreSelectorsOf, AreOrPartsOf, AreAndPartsOf, AreArgumentsOf, KeepsParts, KeepsTrees, calls_in, tree_of, rule_of, signatures_of, whole_numbers, MayFinish, each_once, signature_view};
     ghost use Rattle.serde_json_path_syntax.specs.Tree as tree;
 
     /// A builder with no parts. Takes no memory.
@@ -51,6 +52,9 @@ impl SyntaxBuilder {
         ensures trees { KeepsTrees self.old self.new }
         ensures calls { OnOk result (calls_in self.new ≡ calls_in self.old ++ called_by node) }
         ensures unchanged { OnErr result (calls_in self.new ≡ calls_in self.old) }
+        ensures number { IfOk result (λ part. part.number ≡ length self.old.arena.nodes.items) }
+        ensures pushed { OnOk result (self.new.arena.nodes.items
+            ≡ self.old.arena.nodes.items ++ node ∷ []) }
     {
         self.arena.push(node)
     }
@@ -245,10 +249,13 @@ impl SyntaxBuilder {
     }
 
     /// A call as an operand, as `length(@.a)` (RFC 9535, section 2.4).
+    #[tactic(auto, using(crate::proofs::Tree::Growing::called_result))]
     pub fn called(&mut self, call: Part) -> Result<Part, AllocError>
         requires { (c : tree.Call) × IsPart self.old call (a_call c) }
         ensures made { IfOk result (λ part. (c : tree.Call) → IsPart self.old call (a_call c)
             → IsPart self.new part (an_operand (tree.called c))) }
+        ensures result { IfOk result (λ part.
+            result_of_operand self.new part ≡ result_of_call self.old call) }
         ensures keeps { KeepsParts self.old self.new }
     {
         self.push(Node::Operand(Operand::Call(call)))
@@ -269,6 +276,8 @@ impl SyntaxBuilder {
         ensures made { IfOk result (λ part.
             (args : tree.Arguments) → AreArgumentsOf self.old arguments.items args
             → IsPart self.new part (a_call (tree.call (string_bytes name) args))) }
+        ensures result { IfOk result (λ part.
+            result_of_call self.new part ≡ Some (signature_view signature).result) }
         ensures keeps { KeepsTrees self.old self.new }
         // The call is the last one of the builder, with that signature.
         ensures calls { OnOk result (calls_in self.new
@@ -280,6 +289,27 @@ impl SyntaxBuilder {
             signature,
             arguments,
         })
+    }
+
+    /// What stands as this operand or argument, a part that `literal`, `queried`, `called` or `logical_or` made (RFC 9535,
+    /// sections 2.3.5.1 and 2.4). Of a call it tells the type of the result, by the signature that the call keeps. Takes no
+    /// memory.
+    #[tactic(auto, using(crate::proofs::Tree::NamedParts::of_argument))]
+    pub fn argument(&self, part: Part) -> ArgumentRef<'_>
+        requires { (x : tree.Argument) × IsPart self.now part (argument_branch x) }
+        ensures { (x : tree.Argument) → IsPart self.now part (argument_branch x)
+            → IsSeenAs self.now part result x }
+    {
+        match self.arena.node(part) {
+            Node::Operand(Operand::Literal(literal)) => ArgumentRef::Literal(literal),
+            Node::Operand(Operand::Query(query)) => ArgumentRef::Query(*query),
+            Node::Operand(Operand::Call(call)) => match self.arena.node(*call) {
+                Node::Call { signature, .. } => ArgumentRef::Call(signature.result()),
+                _ => unreachable!(),
+            },
+            Node::LogicalOr(_) => ArgumentRef::Logical,
+            _ => unreachable!(),
+        }
     }
 
     /// A query of these segments, in order.

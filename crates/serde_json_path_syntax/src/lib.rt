@@ -16,6 +16,7 @@
 #![tactic(auto)]
 
 mod arena;
+mod argument_ref;
 mod builder;
 mod checked;
 mod copies;
@@ -29,6 +30,7 @@ mod selector_ref;
 mod singular;
 mod slice;
 
+pub use argument_ref::ArgumentRef;
 pub use builder::SyntaxBuilder;
 pub use checked::Checked;
 pub use literal::{Literal, LiteralValue, NumberLiteral};

@@ -29,8 +29,9 @@ pub struct NumberLiteral {
 }
 
 impl NumberLiteral {
-    ghost use Rattle.std.specs.Prelude.{◌↔◌, IsSome, IfSome, int_div, pos};
-    ghost use Rattle.serde_json_path_syntax.specs.Words.{number, of_integer, view, literal_number, exact_view, number_amount, whole_amount};
+    ghost use Rattle.std.specs.Prelude.{◌↔◌, IsSome, IsTrue, IfSome, int_div, pos};
+    ghost use Rattle.serde_json_path_syntax.specs.Words.{number, of_integer, view, literal_number, exact_view, number_amount, whole_amount, IsValueLiteral};
+    ghost use Rattle.serde_json_path_syntax.specs.Tree as tree;
 
     /// The number of that many billionths, or `None` if it is out of range.
     pub fn from_billionths(billionths: i128) -> Option<NumberLiteral>
@@ -63,6 +64,13 @@ impl NumberLiteral {
             None => Some(self.billionths),
             Some(_) => None,
         }
+    }
+
+    /// Whether the number has no fraction.
+    fn is_whole(&self) -> bool
+        ensures { IsTrue result ↔ IsValueLiteral (tree.number (number_amount self.now)) }
+    {
+        self.billionths % ONE == 0
     }
 
     /// The number by which exact comparisons take it: its integer or, with a fraction, the double nearest to it (RFC 8259,
@@ -111,7 +119,7 @@ impl Literal {
         ensures { IsTrue result ↔ IsValueLiteral (literal_view self.now) }
     {
         match self {
-            Literal::Number(number) => number.billionths % ONE == 0,
+            Literal::Number(number) => number.is_whole(),
             Literal::String(_) | Literal::Bool(_) | Literal::Null => true,
         }
     }
@@ -140,8 +148,19 @@ pub enum LiteralValue {
 }
 
 impl LiteralValue {
-    ghost use Rattle.std.specs.Prelude.{◌≡◌, IfOk};
-    ghost use Rattle.serde_json_path_syntax.specs.Words.{held_view, literal_fits};
+    ghost use Rattle.std.specs.Prelude.{◌≡◌, ◌↔◌, IfOk, IsTrue};
+    ghost use Rattle.serde_json_path_syntax.specs.Words.{held_view, literal_fits, IsValueLiteral};
+
+    /// Whether the literal may be an argument of type Value, as `Literal::is_value` says.
+    #[tactic(auto, using(crate::proofs::Typing::Typings::written_is_value))]
+    pub fn is_value(&self) -> bool
+        ensures { IsTrue result ↔ IsValueLiteral (held_view self.now) }
+    {
+        match self {
+            LiteralValue::Number(number) => number.is_whole(),
+            LiteralValue::Value(_) => true,
+        }
+    }
 
     /// A copy of the literal. An error comes only where memory is refused.
     pub(crate) fn try_clone(&self) -> Result<LiteralValue, AllocError>

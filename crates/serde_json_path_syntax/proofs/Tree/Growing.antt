@@ -1,5 +1,7 @@
 -- The tree of a vector of nodes, as it grows and is copied, and that its nodes fit.
-use Rattle.serde_json_path_syntax.proofs.Words.{◌≡◌, ℕ, zero, suc, ◌+◌, ◌<◌, ◌≤◌, List, [], ◌∷◌, ◌++◌, ◌↔◌, length, drop, Bool, Result, Ok, Err, IfOk, OnOk, OnErr, inl, inr, get_or, refl, sym, ap, ◌∙◌, subst, arith, length-append, true, false, if◌then◌else◌, slice_index_or, Option, Some, None, common_steps, flat_map-append, append-nil, drop_more, Signature, FunctionSet, Fits, IsIn, fits, AreFitting, Branch, Part, parts_bound, called_by, calls_among, no_branch, branch_in, branches_named, parts_in, branch_of, branches_from, branch_at, NamesBelow, IsGrown, query_at, query_in, cases_lt, AreCopies, IsCopy, branches}
+use Rattle.serde_json_path_syntax.proofs.Words.{◌≡◌, ℕ, zero, suc, ◌+◌, ◌<◌, ◌≤◌, List, [], ◌∷◌, ◌++◌, ◌↔◌, length, drop, Bool, Result, Ok, Err, IfOk, OnOk, OnErr, inl, inr, get_or, refl, sym, ap, ◌∙◌, subst, arith, length-append, true, false, if◌then◌else◌, slice_get, slice_index_or, Option, Some, None, common_steps, flat_map-append, append-nil, drop_more, Signature, FunctionSet, Fits, IsIn, fits, AreFitting, Branch, Part, parts_bound, called_by, calls_among, no_branch, branch_in, branches_named, parts_in, branch_of, branches_from, branch_at, NamesBelow, IsGrown, query_at, query_in, cases_lt, AreCopies, IsCopy, branches}
+use Rattle.serde_json_path_syntax.specs.Parts.{result_by, result_of_call, result_through}
+use Rattle.serde_json_path_syntax.specs.declared.builder.SyntaxBuilder.{SyntaxBuilder}
 use Rattle.std.specs.declared.alloc.AllocError.{AllocError}
 use Rattle.serde_json_path_syntax.proofs.Lists.{in_append}
 use Rattle.serde_json_path_syntax.proofs.Names.Once.{fits_append}
@@ -114,6 +116,26 @@ module _ (old new : List Node) (n : Node) where
   pub push_silent : (made : Result Part AllocError) → OnOk made (new ≡ old ++ n ∷ []) → OnErr made (new ≡ old) → called_by n ≡ [] → calls_among new ≡ calls_among old
   push_silent (Ok part) is same silent = push_calls (Ok part) is ∙ ap (λ us. calls_among old ++ us) silent ∙ append-nil (calls_among old)
   push_silent (Err e) is same silent = ap calls_among same
+
+-- ---- the types of results that calls keep
+
+get_earlier : (nodes : List Node) (n : Node) (i : ℕ) → i < length nodes → slice_get (nodes ++ n ∷ []) i ≡ slice_get nodes i
+get_earlier [] n i h = absurd (omega (arith, h))
+get_earlier (m ∷ nodes) n zero h = refl
+get_earlier (m ∷ nodes) n (suc i) h = get_earlier nodes n i (omega (arith, h))
+
+get_last : (nodes : List Node) (n : Node) → slice_get (nodes ++ n ∷ []) (length nodes) ≡ Some n
+get_last [] n = refl
+get_last (m ∷ nodes) n = get_last nodes n
+
+-- an operand has that of the call that it names
+pub called_result : (old new : SyntaxBuilder) (call : Part) (p : ℕ) → new.arena.nodes.items ≡ old.arena.nodes.items ++ node.Operand (one_operand.Call call) ∷ [] → p ≡ length old.arena.nodes.items → call.number < length old.arena.nodes.items
+    → result_through new (slice_get new.arena.nodes.items p) ≡ result_of_call old call
+called_result old new call p e f below =
+    let nodes = old.arena.nodes.items in
+    let named = node.Operand (one_operand.Call call) in
+    ap (λ all. result_through new (slice_get all p)) e ∙ ap (λ i. result_through new (slice_get (nodes ++ named ∷ []) i)) f ∙ ap (result_through new) (get_last nodes named)
+    ∙ ap (λ all. result_by (slice_get all call.number)) e ∙ ap result_by (get_earlier nodes named call.number below)
 
 -- ---- the calls of the nodes
 

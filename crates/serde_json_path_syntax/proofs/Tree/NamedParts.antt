@@ -1,5 +1,5 @@
 -- Parts that nodes name: their bounds, their kinds, and what stands for them.
-use Rattle.serde_json_path_syntax.proofs.Words.{◌≡◌, ℕ, ◌<◌, ◌≤◌, true, false, nat_lt, arith, rules, zero, suc, List, [], ◌∷◌, length, get_or, ap, ◌-◌, take, drop, Bool, sym, subst, slice_get, option_map, refl, ◌∙◌, parts_bound, Part, and_parts, Decides-and, Decides, take_all, branch_in, branches_named, selector_in, selectors_in, segments_in, ors_in, ands_in, arguments_in, are_singular, each_is, is_and, is_argument, is_basic, is_comparable, is_operand, is_segment, is_selector, is_singular_segment, is_tested, Branch, an_operand, long_hand, Selectors, selector, Selector, name, wildcard, index, slice, filter, IsSingularSegment, slice_get_read, slice_get_past, ArePartsFor, AreSelectorsOf, AreOrPartsOf, AreAndPartsOf, KeepsTrees, segment_branches, selector_branches, or_branches, and_branches, argument_branches, branches}
+use Rattle.serde_json_path_syntax.proofs.Words.{◌≡◌, ℕ, ◌<◌, ◌≤◌, true, false, nat_lt, arith, rules, zero, suc, List, [], ◌∷◌, length, get_or, ap, ◌-◌, take, drop, Bool, sym, subst, slice_get, option_map, refl, ◌∙◌, parts_bound, Part, and_parts, Decides-and, Decides, take_all, argument_branch, argument_in, branch_in, branches_named, selector_in, selectors_in, segments_in, ors_in, ands_in, arguments_in, are_singular, each_is, is_and, is_argument, is_basic, is_comparable, is_operand, is_query, is_segment, is_selector, is_singular_segment, is_tested, Branch, a_query, an_operand, query_in, long_hand, Selectors, selector, Selector, name, wildcard, index, slice, filter, IsSingularSegment, slice_get_read, slice_get_past, ArePartsFor, AreSelectorsOf, AreOrPartsOf, AreAndPartsOf, KeepsTrees, segment_branches, selector_branches, or_branches, and_branches, argument_branches, branches}
 use Rattle.serde_json_path_syntax.specs.Tree as tree
 use Rattle.serde_json_path_syntax.specs.declared.builder.SyntaxBuilder.{SyntaxBuilder}
 use Rattle.serde_json_path_syntax.specs.Stages.{selectors_list}
@@ -169,6 +169,22 @@ operand_of_comparable _ h = absurd cc
 pub operand_of_tested : (p : Branch) → is_tested p ≡ true → is_operand p ≡ true
 operand_of_tested (an_operand o) h = refl
 operand_of_tested _ h = absurd cc
+
+-- ---- what stands as an operand or an argument
+
+pub argument_is : (x : tree.Argument) (p : Branch) → p ≡ argument_branch x → x ≡ argument_in p
+argument_is (tree.operand o) p e = ap argument_in (sym e)
+argument_is (tree.logical_argument f) p e = ap argument_in (sym e)
+
+pub argument_fits : (x : tree.Argument) (p : Branch) → p ≡ argument_branch x → is_argument p ≡ true
+argument_fits (tree.operand o) p e = ap is_argument e
+argument_fits (tree.logical_argument f) p e = ap is_argument e
+
+pub query_is : (p : Branch) → is_query p ≡ true → p ≡ a_query (query_in p)
+query_is (a_query q) h = refl
+query_is _ h = absurd cc
+
+pub ruleset of_argument = (argument_is, argument_fits, query_is)
 
 -- what a node is made of that names several parts
 pub ruleset of_named_parts = (

@@ -1,6 +1,8 @@
 -- Well-typedness is decided, so that it can be recovered from its truncation. Each lemma decides what its type says.
 use Rattle.serde_json_path_syntax.proofs.Words.{◌≡◌, ◌<◌, ℕ, zero, suc, ℤ, pos, negsuc, neg_ℤ, of_z, nat_eq, ◌%◌, ◌==◌, unsigned_abs, int_div, int_rem, List, [], ◌∷◌, Option, Some, None, Bool, true, false, inl, inr, refl, sym, ap, subst, ◌∙◌, true≢false, arith, w128, Decides-eqb, Decides-like, ints, quot-rem, unsigned_abs-mul, none-some, same_Some, Query, query, Segments, no_segments, segment, Segment, long_hand, Selectors, no_selectors, selector, Selector, filter, LogicalOr, no_or, or, LogicalAnd, no_and, and, Basic, paren, relation, test, Operand, literal, queried, called, Call, call, Arguments, no_arguments, argument, Argument, operand, logical_argument, Literal, number, segments_of, AreSingular, are_singular, Kind, of_value, of_nodes, of_logical, Signature, IsValueLiteral, IsTestKind, result_kind, TakesResult, IsTyped, AreTypedSegments, IsTypedSegment, AreTypedSelectors, IsTypedSelector, IsTypedOr, IsTypedAnd, IsTypedBasic, IsTypedComparable, IsTypedCall, AreTypedArguments, IsTypedArgument, IsTypedOperand}
 use Rattle.std.proofs.Common.{Decides}
+use Rattle.serde_json.specs.Data.{Data, boolean, string}
+use Rattle.serde_json_path_syntax.specs.Flat.{literal_of}
 use Rattle.std.proofs.Math.Decide.{map_dec}
 use Rattle.std.proofs.Math.Logic.{∥∥₁_elim}
 use Rattle.std.proofs.Math.Logic.Dec.{and as both}
@@ -46,6 +48,12 @@ pub whole_by_bits : (amount : ℤ) → Decides (nat_eq (of_z w128 (int_rem amoun
 whole_by_bits (pos n) = Decides-whole_amount (pos n)
 whole_by_bits (negsuc n) =
     subst (λ b. Decides b (IsValueLiteral (number (negsuc n)))) (sym (bits_of_negated (suc n % 1000000000) (omega arith))) (Decides-whole_amount (negsuc n))
+
+-- a text, a truth value and null are values
+pub written_is_value : (d : Data) → IsValueLiteral (literal_of d)
+written_is_value (string t) = tt
+written_is_value (boolean b) = tt
+written_is_value _ = tt
 
 by_test : {P : Type 0} (b : Bool) → Decides b P → Dec P
 by_test true decides = yes (decides.0 refl)
