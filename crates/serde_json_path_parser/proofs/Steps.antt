@@ -1,13 +1,16 @@
 -- Steps of the code: rows of items that a loop reads, how the builder grows by them, arguments, and what stands in filters.
-use Rattle.serde_json_path_parser.proofs.Words.{◌↔◌, append-nil, map-append, name_of, names_of, calls_in_segments, calls_from, calls_in_arguments, KeepsParts, KeepsTrees, calls_in, AreDeclared, MayFinish, deepest, names_in, IsTyped, depth, Part, query, root, Segments, Call, call, Arguments, SyntaxBuilder, Signature, Grows, Parsed, Failure, Reader, Ghosts, SegmentKind, Segment, ArePartsOf, segment_list, length-append, Branch, IsPart, ArePartsFor, parts_for_kept, Fails, GrowsFrom, ◌>>=◌, many, Selector, LogicalOr, LogicalAnd, Basic, Deeper, a_selector, an_and, a_basic, segment_branch, segment_branches, selector_branches, or_branches, and_branches, calls_in_selectors, calls_in_or, calls_in_and, selector_list, or_list, and_list, past_blanks, is_at, are_at, begins, opens, opens_next, level, read_segment, read_selector, read_and, read_basic, no_arguments, argument, Argument, Kind, ExpectedClosingParenthesis, calls_in_argument, IsAsRead, MakesArguments, refusal, ends_argument, read_argument, read_some_arguments, nat_tests, Literal, ExpectedExpression, Operand, literal, word, past_word, read_literal_word, literal_word, of_value, kind_view, is_result, ◌==◌, filter, byte_count, read_or, read_call, IsTrue, is_singular, is_whole, is_value_literal, number, IsValueLiteral, Query, IsSingular, result_kind, WrongReturnType, called, cond, ◌≡◌, ◌≤◌, ℕ, List, [], ◌∷◌, ◌++◌, inl, inr, Some, Option, Result, Ok, Err, refl, sym, ap, subst, ◌∙◌, append_assoc, ◌<◌, Bool, true, false, length, arith, drop, None, zero, suc, ◌-◌, Memory, Refused, Context, read_filter, LongHand, MakesSo, IsOperandOf, calls_in_branch, same_from_decides, IsComparable, argument_branch, read_comparable, queried, refusal_at, NonSingularQuery, read_negated_test, read_test}
+use Rattle.serde_json_path_parser.proofs.Words.{◌↔◌, append-nil, map-append, name_of, names_of, calls_in_segments, calls_from, calls_in_arguments, KeepsParts, KeepsTrees, calls_in, AreDeclared, MayFinish, deepest, names_in, IsTyped, depth, Part, query, root, Segments, Call, call, Arguments, SyntaxBuilder, Signature, Grows, Parsed, Failure, Reader, Ghosts, SegmentKind, Segment, ArePartsOf, segment_list, length-append, Branch, IsPart, ArePartsFor, parts_for_kept, Fails, GrowsFrom, ◌>>=◌, many, Selector, LogicalOr, LogicalAnd, Basic, Deeper, a_selector, an_and, a_basic, segment_branch, segment_branches, selector_branches, or_branches, and_branches, calls_in_selectors, calls_in_or, calls_in_and, selector_list, or_list, and_list, past_blanks, is_at, are_at, begins, opens, opens_next, level, read_segment, read_selector, read_and, read_basic, no_arguments, argument, Argument, Kind, ExpectedClosingParenthesis, calls_in_argument, IsAsRead, MakesArguments, refusal, ends_argument, read_argument, read_some_arguments, nat_tests, Literal, ExpectedExpression, Operand, literal, word, past_word, read_literal_word, literal_word, of_value, kind_view, is_result, ◌==◌, filter, byte_count, read_or, read_call, IsTrue, is_singular, is_whole, is_value_literal, number, IsValueLiteral, Query, IsSingular, result_kind, WrongReturnType, called, cond, ◌≡◌, ◌≤◌, ℕ, List, [], ◌∷◌, ◌++◌, inl, inr, Some, Option, Result, Ok, Err, refl, sym, ap, subst, ◌∙◌, append_assoc, ◌<◌, Bool, true, false, length, arith, drop, None, zero, suc, ◌-◌, Memory, Refused, Context, read_filter, LongHand, MakesSo, calls_in_branch, same_from_decides, IsComparable, argument_branch, read_comparable, queried, refusal_at, NonSingularQuery, read_negated_test, read_test}
 use Rattle.serde_json_path_syntax.proofs.Names.Finishing.{may_finish}
 use Rattle.serde_json_path_syntax.proofs.Lists.{in_append}
 use Rattle.serde_json_path_parser.proofs.Grammar.Calls.{level_laws, amount_whole, whole_amount}
 use Rattle.serde_json_path_parser.proofs.Grammar.LogicalExpressions.{next_basic_consumes, next_and_consumes}
 use Rattle.serde_json_path_parser.proofs.Grammar.Segments as segments
 use Rattle.serde_json_path_parser.proofs.Reading.{first_fails, begins_differs, Consumes, many_end, many_err, many_more, with_front, ok_is}
-use Rattle.serde_json_path_parser.specs.declared.parser.operand.Operand as operands
-use Rattle.serde_json_path_parser.specs.declared.parser.operand.Operand.TheVariants as the_operands
+use Rattle.serde_json_path_parser.specs.Inside.Giving.{IsArgumentOf}
+use Rattle.serde_json_path_syntax.specs.Parts.{IsSeenAs, result_of_operand}
+use Rattle.serde_json_path_syntax.specs.Tree.{IsTested, null, operand, logical_argument, test}
+use Rattle.serde_json_path_syntax.specs.declared.argument_ref.ArgumentRef.{ArgumentRef}
+use Rattle.serde_json_path_syntax.specs.declared.argument_ref.ArgumentRef.TheVariants as forms
 use denote.Enum.Bare.{sameb}
 use Rattle.serde_json_path_functions.specs.contracts.types.FunctionArgType.{the_type}
 use Rattle.serde_json_path_functions.specs.declared.types.FunctionArgType.{FunctionArgType}
@@ -57,10 +60,6 @@ module _ {signature : List ℕ → Option Signature} where
     ]);
   })
 
--- it keeps its parts over two steps
-pub keeps_both : {old mid new : SyntaxBuilder} → KeepsParts old mid → KeepsParts mid new → KeepsParts old new
-keeps_both first second = record { trees = λ part branch h. second.trees part branch (first.trees part branch h); calls = second.calls ∙ first.calls }
-
 -- ---- the whole query
 
 module _ (signature : List ℕ → Option Signature) (begun grown whole : SyntaxBuilder) (segs : Segments) (silent : calls_in begun ≡ [])
@@ -87,6 +86,12 @@ pub grown_so : {X A S : Type 0} {g : Ghosts S} (Is : X → A → Type 0) (Grown 
     → MakesSo Is Grown result reader read → ((a : A) → Grown a → More a) → MakesSo Is More result reader read
 grown_so Is Grown More reader read (Ok x) h more = (h.0, h.1, h.2, more h.0 h.3)
 grown_so Is Grown More reader read (Err e) h more = h
+
+-- the same, as what another reading gives
+pub made_as : {X A B S : Type 0} {g : Ghosts S} (Is : X → A → Type 0) (As : X → B → Type 0) (Grown : A → Type 0) (More : B → Type 0) (of : A → B) (reader : Reader S g) (read : Parsed A) (whole : Parsed B) (result : Result X Failure)
+    → MakesSo Is Grown result reader read → whole ≡ (read >>= λ x. Ok (of x.0, x.1)) → ((x : X) (a : A) → Is x a → As x (of a)) → ((a : A) → Grown a → More (of a)) → MakesSo As More result reader whole
+made_as Is As Grown More of reader read whole (Ok x) h e is more = (of h.0, is x h.0 h.1, e ∙ ap (λ y. y >>= λ x. Ok (of x.0, x.1)) h.2, more h.0 h.3)
+made_as Is As Grown More of reader read whole (Err s) h e is more = rw e (first_fails s read _ h)
 
 -- ---- items in a row, which a loop reads one after another and whose parts it lists
 
@@ -365,12 +370,40 @@ value_kind _ = refl
 
 -- ---- the steps of the code at operands, and at what an argument's type is
 
--- what is no literal is read as a test after `!`
-pub no_literal : (signature : List ℕ → Option Signature) (deeper : Deeper) (start : ℕ) (builder : SyntaxBuilder) (o : operands.Operand) (x : Operand) (rest : List ℕ)
-    → ((l : _) → o ≡ the_operands.Literal l → ⊥) → IsOperandOf signature builder o x → read_negated_test signature deeper start x rest ≡ read_test signature deeper true start x rest
-no_literal signature deeper start builder (the_operands.Literal l) x rest other h = absurd (other l refl)
-no_literal signature deeper start builder (the_operands.Query part) x rest other h = rw h.1 refl
-no_literal signature deeper start builder (the_operands.Call part kind) x rest other h = rw h.1 refl
+-- the operand of an argument that is one
+abbrev pub operand_of : Argument → Operand
+operand_of (operand o) = o
+operand_of (logical_argument e) = literal null
+
+module _ (signature : List ℕ → Option Signature) (builder : SyntaxBuilder) (part : Part) where
+  -- the type of a call's result, which its part keeps
+  pub kept_result : (a : Argument) (c : Call) (kind : Option Kind) → IsArgumentOf signature builder part a → a ≡ operand (called c) → result_of_operand builder part ≡ kind → result_kind signature c ≡ kind
+  kept_result a c kind is same keeps = sym (subst (IsArgumentOf signature builder part) same is).1 ∙ keeps
+
+  module _ (deeper : Deeper) (start : ℕ) (x : Operand) (rest : List ℕ) where
+    -- what is no literal is read as a test after `!`
+    pub no_literal : (form : ArgumentRef) → ((l : _) → form ≡ forms.Literal l → ⊥) → IsSeenAs builder part form (operand x)
+        → read_negated_test signature deeper start x rest ≡ read_test signature deeper true start x rest
+    no_literal (forms.Literal l) other h = absurd (other l refl)
+    no_literal (forms.Query q) other h = rw (ap operand_of h.1) refl
+    no_literal (forms.Call kind) other h = rw (ap operand_of h.1) refl
+    no_literal forms.Logical other h = absurd cc
+
+    -- what is neither a query nor a call may be compared
+    pub plain_read : (form : ArgumentRef) → ((q : _) → form ≡ forms.Query q → ⊥) → ((kind : _) → form ≡ forms.Call kind → ⊥) → IsSeenAs builder part form (operand x)
+        → read_comparable signature deeper start x rest ≡ Ok (x, rest)
+    plain_read (forms.Literal l) other no_call h = rw (ap operand_of h) refl
+    plain_read (forms.Query q) other no_call h = absurd (other q refl)
+    plain_read (forms.Call kind) other no_call h = absurd (no_call kind refl)
+    plain_read forms.Logical other no_call h = absurd cc
+
+    -- what is neither a literal nor a call may be tested
+    pub plain_test : (negated : Bool) (form : ArgumentRef) → ((l : _) → form ≡ forms.Literal l → ⊥) → ((kind : _) → form ≡ forms.Call kind → ⊥) → IsSeenAs builder part form (operand x)
+        → IsTested x × (read_test signature deeper negated start x rest ≡ Ok (test negated x, rest))
+    plain_test negated (forms.Literal l) other no_call h = absurd (other l refl)
+    plain_test negated (forms.Query q) other no_call h = rw (ap operand_of h.1) (tt, refl)
+    plain_test negated (forms.Call kind) other no_call h = absurd (no_call kind refl)
+    plain_test negated forms.Logical other no_call h = absurd cc
 
 -- what is read as a side of a comparison may be one
 pub comparable_read : (signature : List ℕ → Option Signature) (deeper : Deeper) (start : ℕ) (o a : Operand) (cs rest : List ℕ) → read_comparable signature deeper start o cs ≡ Ok (a, rest) → IsComparable a

@@ -1,7 +1,7 @@
 -- The words of contracts of private functions: a reader of a text, what is read at a level, and
 -- that what a function of the parser returned is what reading gives.
 use Rattle.std.specs.Prelude.{ℕ, true, false, List, codes, bytes_eq, Option, Some, None, if◌then◌else◌, ◌≡◌, ◌+◌, ◌≤◌, max, drop, length, ◌-◌, ◌++◌, Result, Ok, Err}
-use Rattle.serde_json_path_parser.specs.Imports.{Literal, truth, null, Selector, Query, LogicalOr, query, root, SegmentKind, Segments, Segment, Call, Arguments, Argument, Operand, literal, queried, called, operand, logical_argument, chars, Signature, FunctionSet, Fits, names_of, calls_in_segments, calls_in_selectors, calls_from, calls_in_arguments, calls_in_argument, calls_in_operand, parts_in, literal_view, Branch, a_segment, calls_in_branch, IsPart, ArePartsOf, AreSelectorsOf, AreArgumentsOf, KeepsTrees, calls_in, rule_of, whole_numbers, signatures_of, tree_of, result_kind, AreCalled, AreDeclared, names_in, kind_view, FunctionArgType, Part, Parts, SyntaxBuilder, Checked}
+use Rattle.serde_json_path_parser.specs.Imports.{Literal, truth, null, Selector, query, root, SegmentKind, Segments, Segment, Call, Arguments, Argument, Operand, called, operand, chars, Signature, FunctionSet, Fits, names_of, calls_in_segments, calls_in_selectors, calls_from, calls_in_arguments, calls_in_argument, calls_in_operand, parts_in, Branch, a_segment, argument_branch, calls_in_branch, IsPart, ArePartsOf, AreSelectorsOf, AreArgumentsOf, KeepsTrees, calls_in, rule_of, whole_numbers, signatures_of, tree_of, result_kind, AreCalled, AreDeclared, names_in, result_of_call, result_of_operand, Part, Parts, SyntaxBuilder, Checked}
 use Rattle.serde_json_path_parser.specs.Source.{Observed}
 use Rattle.serde_json_path_parser.specs.Inside.Looking.{up_to_second}
 use Rattle.serde_json_path_parser.specs.declared.source.PathSource.{Ghosts}
@@ -17,10 +17,6 @@ use Rattle.serde_json_path_parser.specs.declared.error.Failure.TheVariants as fa
 use Rattle.serde_json_path_parser.specs.Errors.{is_seen_at_next, no_memory}
 use Rattle.serde_json_path_parser.specs.declared.error.ParseError.{ParseError}
 use Rattle.serde_json_path_parser.specs.Parsing.{selector_list, segment_list}
-use Rattle.serde_json_path_parser.specs.declared.parser.operand.Operand as operands
-use Rattle.serde_json_path_parser.specs.declared.parser.operand.Operand.TheVariants as the_operands
-use Rattle.serde_json_path_parser.specs.declared.parser.call.Argument as arguments
-use Rattle.serde_json_path_parser.specs.declared.parser.call.Argument.TheVariants as the_arguments
 
 -- ---- words
 
@@ -124,12 +120,6 @@ MakesFrom signature first branch old new =
     MakesSo (λ part x. IsPart new part (branch x))
     (λ x. GrowsFrom signature old new first (calls_in_branch (branch x)))
 
--- A part was made out of one that makes these calls, and makes no others.
-abbrev pub MakesOf : {A S : Type 0} {g : Ghosts S} → List Call → (A → Branch) → SyntaxBuilder
-    → Result Part Failure → Reader S g → Parsed A → Type 0
-MakesOf calls branch new =
-    MakesSo (λ part x. IsPart new part (branch x)) (λ x. calls ≡ calls_in_branch (branch x))
-
 -- a segment's branch
 abbrev pub segment_branch : SegmentKind × Segment → Branch
 segment_branch s = a_segment s.0 s.1
@@ -142,23 +132,16 @@ IsQueryAsRead F (Ok checked) read =
     × AreCalled (signatures_of checked) (query root segs) × Fits F (signatures_of checked) × (rule_of checked ≡ whole_numbers)
 IsQueryAsRead F (Err e) read = Fails e read
 
--- The operand is the one that reading gives.
-abbrev pub IsOperandOf : (List ℕ → Option Signature) → SyntaxBuilder → operands.Operand → Operand
-    → Type 0
-IsOperandOf signature builder (the_operands.Literal l) x = x ≡ literal (literal_view l)
-IsOperandOf signature builder (the_operands.Query part) x =
-    (q : Query) × (x ≡ queried q) × IsPart builder part (branch.a_query q)
-IsOperandOf signature builder (the_operands.Call part kind) x =
-    (c : Call) × (x ≡ called c) × IsPart builder part (branch.a_call c)
-    × (result_kind signature c ≡ Some (kind_view kind))
+-- a call that stands as an argument keeps the type of result that its name has
+abbrev pub KeepsResult : (List ℕ → Option Signature) → SyntaxBuilder → Part → Argument → Type 0
+KeepsResult signature builder part (operand (called c)) =
+    result_of_operand builder part ≡ result_kind signature c
+KeepsResult signature builder part x = Unit {0}
 
--- The argument is the one that reading gives.
-abbrev pub IsArgumentOf : (List ℕ → Option Signature) → SyntaxBuilder → arguments.Argument
-    → Argument → Type 0
-IsArgumentOf signature builder (the_arguments.Operand o) x =
-    (y : Operand) × (x ≡ operand y) × IsOperandOf signature builder o y
-IsArgumentOf signature builder (the_arguments.Logical part) x =
-    (e : LogicalOr) × (x ≡ logical_argument e) × IsPart builder part (branch.an_or e)
+-- The part stands for the argument that reading gives.
+abbrev pub IsArgumentOf : (List ℕ → Option Signature) → SyntaxBuilder → Part → Argument → Type 0
+IsArgumentOf signature builder part x =
+    IsPart builder part (argument_branch x) × KeepsResult signature builder part x
 
 module _ {S : Type 0} {g : Ghosts S} (signature : List ℕ → Option Signature) (old new : SyntaxBuilder) where
   -- The parts that were made stand for the selectors that reading gives.
@@ -178,19 +161,19 @@ module _ {S : Type 0} {g : Ghosts S} (signature : List ℕ → Option Signature)
       × Grows signature old new (calls_in_segments (segment_list ss))
   MakesSegments (Err e) reader read = Fails e read
 
-  abbrev pub MakesOperand : Result operands.Operand Failure → Reader S g → Parsed Operand → Type 0
+  abbrev pub MakesOperand : Result Part Failure → Reader S g → Parsed Operand → Type 0
   MakesOperand =
-      MakesSo (IsOperandOf signature new) (λ x. Grows signature old new (calls_in_operand x))
+      MakesSo (λ part x. IsArgumentOf signature new part (operand x))
+      (λ x. Grows signature old new (calls_in_operand x))
 
-  -- The call is the one that reading gives, and its result is of that type.
-  abbrev pub MakesCall : Result (Part × FunctionArgType) Failure → Reader S g → Parsed Call → Type 0
+  -- The call is the one that reading gives, and it keeps the type of result that its name has.
+  abbrev pub MakesCall : Result Part Failure → Reader S g → Parsed Call → Type 0
   MakesCall =
-      MakesSo (λ call c. IsPart new call.0 (branch.a_call c)
-      × (result_kind signature c ≡ Some (kind_view call.1)))
+      MakesSo (λ call c. IsPart new call (branch.a_call c)
+      × (result_of_call new call ≡ result_kind signature c))
       (λ c. Grows signature old new (calls_from c))
 
-  abbrev pub MakesArgument : Result arguments.Argument Failure → Reader S g → Parsed Argument
-      → Type 0
+  abbrev pub MakesArgument : Result Part Failure → Reader S g → Parsed Argument → Type 0
   MakesArgument =
       MakesSo (IsArgumentOf signature new) (λ x. Grows signature old new (calls_in_argument x))
 

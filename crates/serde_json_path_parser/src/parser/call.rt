@@ -1,72 +1,40 @@
 //! Calls of functions (RFC 9535, section 2.4).
 
-ghost use Rattle.std.specs.Prelude.{◌≡◌, ◌==◌, ◌<◌, ℕ, List, drop, length, map, true, string_bytes, Option, IfOk};
-ghost use Rattle.serde_json_path_parser.specs.Inside.Words.{KeepsParts, IsPart, Signature, read_argument, read_logical_from, read_end, MakesArgument, MakesArguments, MakesCall, IsArgumentOf, IsAsRead, MovesTo, at_level, signatures, deeper, left, begins, no_arguments, read_arguments};
+ghost use Rattle.std.specs.Prelude.{◌≡◌, ◌==◌, ◌<◌, ℕ, List, drop, length, map, true, string_bytes, Option};
+ghost use Rattle.serde_json_path_parser.specs.Inside.Words.{Signature, read_argument, read_logical_from, read_end, MakesArgument, MakesArguments, MakesCall, IsArgumentOf, IsAsRead, MovesTo, at_level, signatures, deeper, left, begins, no_arguments, read_arguments};
 ghost use Rattle.serde_json_path_functions.specs.Terms.{kind_view};
 ghost use Rattle.serde_json_path_parser.specs.Operands as operands;
-ghost use Rattle.serde_json_path_syntax.specs.Parts.{argument_branch};
 ghost use Rattle.serde_json_path_syntax.specs.Tree as tree;
 
 use crate::error::{Context, Failure, ParseErrorKind as Kind};
 use crate::parser::Parser;
-use crate::parser::operand::Operand;
 use crate::parser::reader::Reader;
 use crate::source::PathSource;
 use serde_json_path_functions::{FunctionArgType, Functions};
-use serde_json_path_syntax::{Part, SyntaxBuilder};
-use std::alloc::AllocError;
+use serde_json_path_syntax::{ArgumentRef, Part, SyntaxBuilder};
 
-/// An argument of a call, before its type is checked.
-#[derive(Drop)]
-pub(crate) enum Argument {
-    /// An operand that stands alone.
-    Operand(Operand),
-    /// Any other logical expression.
-    Logical(Part),
-}
-
-impl Argument {
-    /// Whether the argument suits a parameter of that type (RFC 9535, section 2.4.3).
-    fn suits(&self, builder: &SyntaxBuilder, wanted: FunctionArgType) -> bool
-        requires { (signature : List ℕ → Option Signature) × (x : tree.Argument)
-            × IsArgumentOf signature builder.now self.now x }
-        ensures { (signature : List ℕ → Option Signature) (x : tree.Argument)
-            → IsArgumentOf signature builder.now self.now x
-            → result ≡ operands.suits signature x (kind_view wanted) }
-    {
-        match self {
-            Argument::Operand(Operand::Literal(literal)) => match wanted {
-                FunctionArgType::Value => literal.is_value(),
-                _ => false,
-            },
-            Argument::Operand(Operand::Query(query)) => match wanted {
-                FunctionArgType::Value => builder.is_singular(*query),
-                _ => true,
-            },
-            Argument::Operand(Operand::Call(_, result)) => {
-                wanted == *result
-                    || wanted == FunctionArgType::Logical && *result == FunctionArgType::Nodelist
-            }
-            Argument::Logical(_) => wanted == FunctionArgType::Logical,
+/// Whether the argument suits a parameter of that type (RFC 9535, section 2.4.3).
+fn suits(builder: &SyntaxBuilder, argument: Part, wanted: FunctionArgType) -> bool
+    requires { (signature : List ℕ → Option Signature) × (x : tree.Argument)
+        × IsArgumentOf signature builder.now argument x }
+    ensures { (signature : List ℕ → Option Signature) (x : tree.Argument)
+        → IsArgumentOf signature builder.now argument x
+        → result ≡ operands.suits signature x (kind_view wanted) }
+{
+    match builder.argument(argument) {
+        ArgumentRef::Literal(literal) => match wanted {
+            FunctionArgType::Value => literal.is_value(),
+            _ => false,
+        },
+        ArgumentRef::Query(query) => match wanted {
+            FunctionArgType::Value => builder.is_singular(query),
+            _ => true,
+        },
+        ArgumentRef::Call(result) => {
+            wanted == result
+                || wanted == FunctionArgType::Logical && result == FunctionArgType::Nodelist
         }
-    }
-
-    /// The argument as a part of the tree.
-    fn part(self, builder: &mut SyntaxBuilder) -> Result<Part, AllocError>
-        requires { (signature : List ℕ → Option Signature) × (x : tree.Argument)
-            × IsArgumentOf signature builder.old self x }
-        ensures made { IfOk result (λ part.
-            (signature : List ℕ → Option Signature) (x : tree.Argument)
-            → IsArgumentOf signature builder.old self x
-            → IsPart builder.new part (argument_branch x)) }
-        ensures keeps { KeepsParts builder.old builder.new }
-    {
-        match self {
-            Argument::Operand(Operand::Literal(literal)) => builder.literal(literal),
-            Argument::Operand(Operand::Query(query)) => builder.queried(query),
-            Argument::Operand(Operand::Call(call, _)) => builder.called(call),
-            Argument::Logical(expression) => Ok(expression),
-        }
+        ArgumentRef::Logical => wanted == FunctionArgType::Logical,
     }
 }
 
@@ -92,8 +60,8 @@ fn parse_end<S: PathSource>(
 }
 
 impl<F: Functions> Parser<'_, F> {
-    /// Parses a call of the function with that name, from its `(` on, and the blanks after it. Returns the call and
-    /// the type of its result. `place` bytes are left where the call begins.
+    /// Parses a call of the function with that name, from its `(` on, and the blanks after it. `place` bytes are left
+    /// where the call begins.
     #[cycle(filters)]
     #[tactic(auto, unfolding(crate::specs::Filters::level))]
     pub(crate) fn parse_call<S: PathSource>(
@@ -102,7 +70,7 @@ impl<F: Functions> Parser<'_, F> {
         reader: &mut Reader<'_, S>,
         place: usize,
         name: String,
-    ) -> Result<(Part, FunctionArgType), Failure>
+    ) -> Result<Part, Failure>
         requires { 0 < length (left reader.old) }
         ensures moves { MovesTo result reader.old reader.new }
         ensures gives { MakesCall (signatures F.set self.now) builder.old builder.new
@@ -120,8 +88,7 @@ impl<F: Functions> Parser<'_, F> {
         let mut arguments = Vec::new(self.alloc);
         self.deeper()
             .parse_arguments(builder, reader, place, signature.params(), &mut arguments)?;
-        let call = builder.call(name, signature, arguments)?;
-        Ok((call, signature.result()))
+        Ok(builder.call(name, signature, arguments)?)
     }
 
     /// Parses the arguments of a call for parameters of these types, after `(` and blanks, and its end. The arguments
@@ -154,11 +121,10 @@ impl<F: Functions> Parser<'_, F> {
             let Some((first, others)) = types.split_first() else {
                 return Err(Failure::in_long_hand(Kind::WrongNumberOfArguments, place));
             };
-            if !argument.suits(builder, *first) {
+            if !suits(builder, argument, *first) {
                 return Err(Failure::in_long_hand(Kind::WrongArgumentType, argument_place));
             }
-            let part = argument.part(builder)?;
-            parts.push(part)?;
+            parts.push(argument)?;
             if !reader.sees(b',') {
                 return parse_end(reader, place, others);
             }
@@ -175,24 +141,22 @@ impl<F: Functions> Parser<'_, F> {
         &self,
         builder: &mut SyntaxBuilder,
         reader: &mut Reader<'_, S>,
-    ) -> Result<Argument, Failure>
+    ) -> Result<Part, Failure>
         ensures moves { MovesTo result reader.old reader.new }
         ensures gives { MakesArgument (signatures F.set self.now) builder.old builder.new
             result reader.new
             (at_level F.set self.now read_argument (left reader.old)) }
     {
         if reader.sees_parenthesis_or_negation() {
-            let expression = self.parse_logical_or(builder, reader)?;
-            return Ok(Argument::Logical(expression));
+            return self.parse_logical_or(builder, reader);
         }
         let place = reader.bytes_left();
         let operand = self.parse_operand(builder, reader)?;
         if reader.sees_end_of_argument() {
-            return Ok(Argument::Operand(operand));
+            return Ok(operand);
         }
         let basic = self.parse_basic_from(builder, reader, place, operand)?;
         let and = self.parse_and_from(builder, reader, basic)?;
-        let expression = self.parse_or_from(builder, reader, and)?;
-        Ok(Argument::Logical(expression))
+        self.parse_or_from(builder, reader, and)
     }
 }

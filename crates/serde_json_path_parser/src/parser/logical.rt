@@ -1,17 +1,16 @@
 //! Logical expressions (RFC 9535, section 2.3.5.1).
 
 ghost use Rattle.std.specs.Prelude.{◌≡◌, ◌==◌, ◌<◌, drop, length, true, IfOk};
-ghost use Rattle.serde_json_path_parser.specs.Inside.Words.{calls_in_and, calls_in_basic, IsPart, an_or, an_and, a_basic, read_paren, read_negated, read_basic, read_and_from, read_and, read_or_from, read_or, Makes, MakesFrom, IsOperandOf, MovesTo, at_level, signatures, deeper, left, is_at, begins, calls_in_operand, byte_count, past_blanks, read_basic_from, LogicalAnd, Basic};
+ghost use Rattle.serde_json_path_parser.specs.Inside.Words.{calls_in_and, calls_in_basic, IsPart, an_or, an_and, a_basic, read_paren, read_negated, read_basic, read_and_from, read_and, read_or_from, read_or, Makes, MakesFrom, IsArgumentOf, MovesTo, at_level, signatures, deeper, left, is_at, begins, calls_in_operand, byte_count, past_blanks, read_basic_from, LogicalAnd, Basic};
 ghost use Rattle.serde_json_path_syntax.specs.Tree as tree;
 
 use crate::error::{Context, Failure, ParseErrorKind as Kind};
 use crate::parser::Parser;
-use crate::parser::operand::Operand;
 use crate::parser::primitive::operator::parse_operator;
 use crate::parser::reader::Reader;
 use crate::source::PathSource;
 use serde_json_path_functions::Functions;
-use serde_json_path_syntax::{Part, Parts, QueryKind, SyntaxBuilder};
+use serde_json_path_syntax::{ArgumentRef, Part, Parts, QueryKind, SyntaxBuilder};
 
 impl<F: Functions> Parser<'_, F> {
     /// Parses the expression of a filter or a parenthesis, from its `?` or `(` on.
@@ -157,15 +156,15 @@ impl<F: Functions> Parser<'_, F> {
         builder: &mut SyntaxBuilder,
         reader: &mut Reader<'_, S>,
         place: usize,
-        operand: Operand,
+        operand: Part,
     ) -> Result<Part, Failure>
         requires { (x : tree.Operand)
-            × IsOperandOf (signatures F.set self.now) builder.old operand x }
+            × IsArgumentOf (signatures F.set self.now) builder.old operand (tree.operand x) }
         ensures moves { MovesTo result reader.old reader.new }
         ensures made { IfOk result (λ part.
             (b : Basic) × IsPart builder.new part (a_basic b)) }
         ensures gives { (x : tree.Operand)
-            → IsOperandOf (signatures F.set self.now) builder.old operand x
+            → IsArgumentOf (signatures F.set self.now) builder.old operand (tree.operand x)
             → MakesFrom (signatures F.set self.now) (calls_in_operand x) a_basic
             builder.old builder.new result reader.new
             (at_level F.set self.now read_basic_from place x (left reader.old)) }
@@ -174,11 +173,11 @@ impl<F: Functions> Parser<'_, F> {
             return self.as_test(builder, reader, false, place, operand);
         };
         reader.skip_blanks();
-        let left = self.as_comparable(builder, reader, place, operand)?;
+        self.check_comparable(builder, reader, place, operand)?;
         let right_place = reader.bytes_left();
-        let operand = self.parse_operand(builder, reader)?;
-        let right = self.as_comparable(builder, reader, right_place, operand)?;
-        Ok(builder.relation(left, operator, right)?)
+        let right = self.parse_operand(builder, reader)?;
+        self.check_comparable(builder, reader, right_place, right)?;
+        Ok(builder.relation(operand, operator, right)?)
     }
 
     /// Parses a parenthesis, from its `(` on, and the blanks after it.
@@ -226,7 +225,7 @@ impl<F: Functions> Parser<'_, F> {
         }
         let place = reader.bytes_left();
         let operand = self.parse_operand(builder, reader)?;
-        if let Operand::Literal(_) = operand {
+        if let ArgumentRef::Literal(_) = builder.argument(operand) {
             return Err(Failure::in_long_hand(Kind::ExpectedExpression, place));
         }
         self.as_test(builder, reader, true, place, operand)

@@ -1,8 +1,8 @@
 use Rattle.serde_json_path_parser.proofs.Reading.{first_fails, no_longer, with_none}
 use Rattle.serde_json_path_parser.proofs.Texts.{is_ahead}
-use Rattle.serde_json_path_parser.proofs.Words.{drop, ◌∙◌, [], Some, Err, refl, sym, ap, option_map, arith, true≢false, past_blanks, string_bytes, nil_from_length, err_from_is_err_and, literal_view, operator_view, an_operand, logical_argument, call, signature_view, and_list, or_list, signatures, deeper, begins, is_at, opens, literal, called, left, common_steps, selector_list, read_segments, segment_list, read_named_call, queried, AreAndPartsOf, AreOrPartsOf, AreSelectorsOf, map, kind_view, read_argument, segment_kind_view, query_kind_view, operand, true, false}
+use Rattle.serde_json_path_parser.proofs.Words.{drop, ◌∙◌, [], Err, refl, sym, ap, option_map, arith, true≢false, past_blanks, string_bytes, nil_from_length, err_from_is_err_and, literal_view, operator_view, an_operand, logical_argument, call, signature_view, and_list, or_list, signatures, deeper, begins, is_at, opens, literal, called, left, common_steps, selector_list, read_segments, segment_list, read_named_call, queried, AreAndPartsOf, AreOrPartsOf, AreSelectorsOf, map, kind_view, read_argument, segment_kind_view, query_kind_view, operand, true, false}
 use Rattle.serde_json_path_parser.specs.Inside.Giving.{read_filter}
-use Rattle.serde_json_path_parser.proofs.Steps.{no_literal, comparable_read, none_made, one_more, first_refused, first_open, literal_word_reads, level_down, at_mark, grows_none, grows_kept, grows_same, grows_then, grows_call, grown_so, begins_row, row_fails, row_shorter, row_goes_on, row_done, segments_stand, selectors_stand, ors_stand, ands_stand, segment_shorter, some_parts}
+use Rattle.serde_json_path_parser.proofs.Steps.{no_literal, operand_of, comparable_read, none_made, one_more, first_refused, first_open, literal_word_reads, level_down, at_mark, grows_none, grows_leaf, grows_kept, grows_then, grows_call, grown_so, made_as, begins_row, row_fails, row_shorter, row_goes_on, row_done, segments_stand, selectors_stand, ors_stand, ands_stand, segment_shorter, some_parts}
 use Rattle.serde_json_path_parser.proofs.parser.Parser.+filters.Goals as goal
 use Rattle.serde_json_path_syntax.specs.Tree as tree
 
@@ -44,14 +44,13 @@ parse_and_from-returns-clause-gives g t c = λ x is.
 pub parse_argument-returns-then-sees_parenthesis_or_negation-clause-gives : goal.parse_argument-returns-then-sees_parenthesis_or_negation-clause-gives
 unfolding read_argument
 parse_argument-returns-then-sees_parenthesis_or_negation-clause-gives g t c =
-    let e = c.in_ok-expression.ensures.gives in
-    (logical_argument e.0, (e.0, refl, e.1), grind (arith, common_steps), e.3)
+    made_as _ _ _ _ (λ e. logical_argument e) _ _ _ c.parse_logical_or.result c.parse_logical_or.ensures.gives (grind (arith, common_steps)) (λ part e is. (is, tt)) (λ e grown. grown)
 
 pub parse_argument-returns-then-sees_end_of_argument-clause-gives : goal.parse_argument-returns-then-sees_end_of_argument-clause-gives
 unfolding read_argument
 parse_argument-returns-then-sees_end_of_argument-clause-gives g t c =
     let o = c.in_ok-operand.ensures.gives in
-    (operand o.0, (o.0, refl, o.1), grind (arith, common_steps), o.3)
+    (operand o.0, o.1, grind (arith, common_steps), o.3)
 
 pub parse_argument-returns-clause-gives : goal.parse_argument-returns-clause-gives
 unfolding read_argument
@@ -59,8 +58,8 @@ parse_argument-returns-clause-gives g t c =
     let o = c.in_ok-operand.ensures.gives in
     let b = rw c.bytes_left-place.ensures.value at (c.in_ok-basic.ensures.gives o.0 o.1) in
     let a = c.in_ok-and.ensures.gives b.0 b.1 in
-    let e = c.in_ok-expression-2.ensures.gives a.0 a.1 in
-    (logical_argument e.0, (e.0, refl, e.1), grind (arith, common_steps, b.2, a.2, e.2), e.3 c.args.builder.now (a.3 c.args.builder.now (b.3 c.args.builder.now o.3)))
+    made_as _ _ _ _ (λ e. logical_argument e) _ _ _ c.parse_or_from.result (c.parse_or_from.ensures.gives a.0 a.1) (grind (arith, common_steps, b.2, a.2)) (λ part e is. (is, tt))
+    (λ e grown. grown c.args.builder.now (a.3 c.args.builder.now (b.3 c.args.builder.now o.3)))
 
 pub parse_arguments-returns-then-sees-clause-gives : goal.parse_arguments-returns-then-sees-clause-gives
 parse_arguments-returns-then-sees-clause-gives g t c =
@@ -98,15 +97,15 @@ parse_arguments-arguments-preserved g t c =
     let further = c.skip_blanks.ensures.left ∙ ap (λ cs. past_blanks (drop 1 cs)) (sym c.take_char.ensures.value) in
     record {
       moves = grind (arith, common_steps);
-      so_far = one_more a.0 c.arguments.invariant.so_far c.in_ok-push.ensures.items (c.in_ok-part.ensures.made _ a.0 a.1) (grows_kept a.3 c.part.ensures.keeps) (grind (arith, common_steps, a.2, suits, further));
+      so_far = one_more a.0 c.arguments.invariant.so_far c.in_ok-push.ensures.items a.1.0 a.3 (grind (arith, common_steps, a.2, suits, further));
     }
 
 pub parse_arguments-returns-then-not-sees-clause-gives : goal.parse_arguments-returns-then-not-sees-clause-gives
 parse_arguments-returns-then-not-sees-clause-gives g t c =
     let a = c.in_ok-argument.ensures.gives in
     let suits = c.suits.ensures _ a.0 a.1 in
-    (one_more a.0 c.arguments.invariant.so_far c.in_ok-push.ensures.items (c.in_ok-part.ensures.made _ a.0 a.1) (grows_kept a.3 c.part.ensures.keeps) (grind (arith, common_steps, a.2, suits))).made _ _ _ c.parse_end-then-not-sees.result
-    (none_made _ c.part.new.builder c.push.new.self.items _ _ _ c.parse_end-then-not-sees.ensures.gives)
+    (one_more a.0 c.arguments.invariant.so_far c.in_ok-push.ensures.items a.1.0 a.3 (grind (arith, common_steps, a.2, suits))).made _ _ _ c.parse_end-then-not-sees.result
+    (none_made _ c.parse_argument.new.builder c.push.new.self.items _ _ _ c.parse_end-then-not-sees.ensures.gives)
 
 pub parse_basic-returns-then-sees-clause-gives : goal.parse_basic-returns-then-sees-clause-gives
 parse_basic-returns-then-sees-clause-gives g t c =
@@ -114,33 +113,29 @@ parse_basic-returns-then-sees-clause-gives g t c =
     (tree.paren false inner.0, c.in_ok-paren.ensures.made inner.0 inner.1, grind (arith, common_steps), grows_kept inner.3 c.paren.ensures.keeps)
 
 pub parse_basic_from-returns-in_default-clause-gives : goal.parse_basic_from-returns-in_default-clause-gives
-parse_basic_from-returns-in_default-clause-gives g t c = λ x is.
-    rw (c.in_default.ensures.value, ← c.in_default.ensures.stays refl) (grown_so _ _ _ _ _ c.as_test.result (c.as_test.ensures.gives x is) (λ b same before grown. grows_same same (grows_kept grown c.as_test.ensures.keeps)))
+parse_basic_from-returns-in_default-clause-gives g t c = λ x is. rw (c.in_default.ensures.value, ← c.in_default.ensures.stays refl) (c.as_test.ensures.gives x is)
 
 pub parse_basic_from-relation-requires-clause-left : goal.parse_basic_from-relation-requires-clause-left
 parse_basic_from-relation-requires-clause-left g t c =
-    let a = c.in_ok-left.ensures.gives c.requires.0 c.requires.1 in
-    (a.0, c.as_comparable-2.ensures.keeps.trees c.in_ok-left.left (an_operand a.0) (c.in_ok-operand.ensures.gives.3.trees c.in_ok-left.left (an_operand a.0) a.1), comparable_read (signatures g.F.Functions.set c.args.self.now) (deeper g.F.Functions.set c.args.self.now) c.args.place c.requires.0 a.0 (left c.skip_blanks.new.self) (left c.skip_blanks.new.self) a.2)
+    let (x, is) = c.requires in
+    let a = c.in_ok-check_comparable.ensures.gives x is in
+    (x, c.in_ok-right.ensures.gives.3.trees c.args.operand (an_operand x) is.0, comparable_read (signatures g.F.Functions.set c.args.self.now) (deeper g.F.Functions.set c.args.self.now) c.args.place x x (left c.skip_blanks.new.self) (left c.skip_blanks.new.self) a)
 
 pub parse_basic_from-relation-requires-clause-right : goal.parse_basic_from-relation-requires-clause-right
 parse_basic_from-relation-requires-clause-right g t c =
-    let o = c.in_ok-operand.ensures.gives in
-    let b = c.in_ok-right.ensures.gives o.0 o.1 in
-    (b.0, b.1, comparable_read (signatures g.F.Functions.set c.args.self.now) (deeper g.F.Functions.set c.args.self.now) c.bytes_left-right_place.result o.0 b.0 (left c.parse_operand.new.reader) (left c.parse_operand.new.reader) b.2)
+    let o = c.in_ok-right.ensures.gives in
+    let b = c.in_ok-check_comparable-2.ensures.gives o.0 o.1 in
+    (o.0, o.1.0, comparable_read (signatures g.F.Functions.set c.args.self.now) (deeper g.F.Functions.set c.args.self.now) c.bytes_left-right_place.result o.0 o.0 (left c.parse_operand.new.reader) (left c.parse_operand.new.reader) b)
 
 pub parse_basic_from-returns-clause-gives : goal.parse_basic_from-returns-clause-gives
 parse_basic_from-returns-clause-gives g t c = λ x is.
-    let a = c.in_ok-left.ensures.gives x is in
-    let o = c.in_ok-operand.ensures.gives in
-    let b = rw c.bytes_left-right_place.ensures.value at (c.in_ok-right.ensures.gives o.0 o.1) in
-    let kept = c.as_comparable-2.ensures.keeps.trees c.in_ok-left.left (an_operand a.0) (o.3.trees c.in_ok-left.left (an_operand a.0) a.1) in (
-      tree.relation a.0 (operator_view c.in-Some.operator) b.0,
-      c.in_ok-relation.ensures.made a.0 b.0 kept b.1,
-      rw (c.in-Some.ensures.value, ← c.skip_blanks.ensures.left, a.2, o.2, b.2) refl,
-      λ before grown.
-          let left_side = grows_same a.3 (grows_kept {new = c.as_comparable.new.builder} grown c.as_comparable.ensures.keeps) in
-          let right_side = grows_same b.3 (grows_kept {new = c.as_comparable-2.new.builder} o.3 c.as_comparable-2.ensures.keeps) in
-          grows_kept (grows_then left_side right_side) c.relation.ensures.keeps,
+    let a = c.in_ok-check_comparable.ensures.gives x is in
+    let o = c.in_ok-right.ensures.gives in
+    let b = rw c.bytes_left-right_place.ensures.value at (c.in_ok-check_comparable-2.ensures.gives o.0 o.1) in (
+      tree.relation x (operator_view c.in-Some.operator) o.0,
+      c.in_ok-relation.ensures.made x o.0 (o.3.trees c.args.operand (an_operand x) is.0) o.1.0,
+      rw (c.in-Some.ensures.value, ← c.skip_blanks.ensures.left, a, o.2, b) refl,
+      λ before grown. grows_kept (grows_then grown o.3) c.relation.ensures.keeps,
     )
 
 pub parse_bracket-returns-clause-gives : goal.parse_bracket-returns-clause-gives
@@ -168,7 +163,7 @@ parse_call-returns-clause-gives g t c =
     let down = level_down (signatures g.F.Functions.set c.args.self.now) c.args.self.now.depth c.deeper.result.depth (omega (arith, c.if-self-eq0.false)) c.deeper.ensures.depth in
     let read = rw (c.deeper.ensures.functions, c.params.ensures, c.skip_blanks.ensures.left) at c.in_ok-parse_arguments.ensures.gives in (
       call f read.0,
-      (c.in_ok-call.ensures.made read.0 (rw (read.1.1, c.new-arguments.ensures.items) read.1.2), rw declared (ap (λ k. Some k) (sym c.result.ensures))),
+      (c.in_ok-call.ensures.made read.0 (rw (read.1.1, c.new-arguments.ensures.items) read.1.2), rw declared c.in_ok-call.ensures.result),
       rw (down, declared, c.take_char.ensures.value, read.2) refl,
       grows_call f (signature_view c.in-Some.signature) read.0 declared read.3 c.call.ensures.keeps c.in_ok-call.ensures.calls,
     )
@@ -180,24 +175,34 @@ parse_inside-returns-clause-gives g t c =
 pub parse_named-returns-then-sees-clause-gives : goal.parse_named-returns-then-sees-clause-gives
 unfolding read_named_call
 parse_named-returns-then-sees-clause-gives g t c =
-    let k = rw c.bytes_left-place.ensures.value at c.in_ok-call.ensures.gives in
-    (called k.0, (k.0, refl, k.1.0, k.1.1), rw (c.requires, ← c.in_ok-word.ensures.rest, sym c.sees.ensures ∙ c.if-sees.true, read_named_call, ← c.in_ok-word.ensures.word, k.2) refl, k.3)
+    let k = rw c.bytes_left-place.ensures.value at c.in_ok-call.ensures.gives in (
+      called k.0,
+      (c.in_ok-called.ensures.made k.0 k.1.0, c.in_ok-called.ensures.result ∙ k.1.1),
+      rw (c.requires, ← c.in_ok-word.ensures.rest, sym c.sees.ensures ∙ c.if-sees.true, read_named_call, ← c.in_ok-word.ensures.word, k.2) refl,
+      grows_kept k.3 c.called.ensures.keeps,
+    )
 
 pub parse_named-returns-in-Some-clause-gives : goal.parse_named-returns-in-Some-clause-gives
 parse_named-returns-in-Some-clause-gives g t c =
     let reads = literal_word_reads (left c.args.reader.now) in
-    (literal (literal_view c.in-Some.literal), refl, grind (arith, common_steps, reads), grows_none c.args.builder.now)
+    (literal (literal_view c.in-Some.literal), (c.in_ok-literal-in-Some.ensures.made, tt), grind (arith, common_steps, reads), grows_leaf c.literal.ensures.keeps)
 
 pub parse_negated-returns-then-sees-clause-gives : goal.parse_negated-returns-then-sees-clause-gives
 parse_negated-returns-then-sees-clause-gives g t c =
     let inner = c.in_ok-inner.ensures.gives in
     (tree.paren true inner.0, c.in_ok-paren.ensures.made inner.0 inner.1, grind (arith, common_steps), grows_kept inner.3 c.paren.ensures.keeps)
 
+pub parse_negated-returns-in-Literal-clause-gives : goal.parse_negated-returns-in-Literal-clause-gives
+parse_negated-returns-in-Literal-clause-gives g t c =
+    let o = c.in_ok-operand.ensures.gives in
+    let l = rw c.in-Literal.is at (c.argument.ensures (operand o.0) o.1.0) in
+    rw (sym c.sees.ensures ∙ c.if-sees.false, sym c.sees_test.ensures ∙ c.if-not-sees_test.false, o.2, ap operand_of l, c.in_long_hand.ensures, c.bytes_left-place.ensures.value) refl
+
 pub parse_negated-returns : goal.parse_negated-returns
 parse_negated-returns g t c =
     let o = c.in_ok-operand.ensures.gives in
-    let tests = no_literal (signatures g.F.Functions.set c.args.self.now) (deeper g.F.Functions.set c.args.self.now) c.bytes_left-place.result c.parse_operand.new.builder _ o.0 (left c.parse_operand.new.reader) c.in_default.not-Literal o.1 in
-    let made = grown_so _ _ _ _ _ c.as_test.result (c.as_test.ensures.gives o.0 o.1) (λ b same. grows_same same (grows_kept o.3 c.as_test.ensures.keeps)) in
+    let tests = no_literal (signatures g.F.Functions.set c.args.self.now) c.parse_operand.new.builder c.in_ok-operand.operand (deeper g.F.Functions.set c.args.self.now) c.bytes_left-place.result o.0 (left c.parse_operand.new.reader) _ c.in_default.not-Literal (c.argument.ensures (operand o.0) o.1.0) in
+    let made = grown_so _ _ _ _ _ c.as_test.result (c.as_test.ensures.gives o.0 o.1) (λ b grown. grown c.args.builder.now o.3) in
     record {
       moves = record { moves = c.parse_operand.ensures.moves.moves; near = c.as_test.ensures.near };
       gives = rw (sym c.sees.ensures ∙ c.if-sees.false, sym c.sees_test.ensures ∙ c.if-not-sees_test.false, o.2, sym c.bytes_left-place.ensures.value, tests) made;
@@ -206,24 +211,24 @@ parse_negated-returns g t c =
 pub parse_operand-returns-in-Some-eq39-clause-gives : goal.parse_operand-returns-in-Some-eq39-clause-gives
 parse_operand-returns-in-Some-eq39-clause-gives g t c =
     let begun = is_ahead 39 _ _ (omega arith) c.in-Some-eq39.ensures (grind (arith, common_steps)) in
-    rw (ap (is_at "'") begun) (c.parse_text.ensures.gives _ _)
+    rw (ap (is_at "'") begun) (c.parse_text.ensures.gives _)
 
 pub parse_operand-returns-in-Some-eq34-clause-gives : goal.parse_operand-returns-in-Some-eq34-clause-gives
 parse_operand-returns-in-Some-eq34-clause-gives g t c =
     let begun = is_ahead 34 _ _ (omega arith) c.in-Some-eq34.ensures (grind (arith, common_steps)) in
-    rw (ap (is_at "'") begun, ap (is_at "\"") begun) (c.parse_text-in-Some-eq34.ensures.gives _ _)
+    rw (ap (is_at "'") begun, ap (is_at "\"") begun) (c.parse_text-in-Some-eq34.ensures.gives _)
 
-pub parse_operand-returns-in_ok-query-in-Some-eq64-clause-gives : goal.parse_operand-returns-in_ok-query-in-Some-eq64-clause-gives
-parse_operand-returns-in_ok-query-in-Some-eq64-clause-gives g t c =
+pub parse_operand-returns-in_ok-queried-in-Some-eq64-clause-gives : goal.parse_operand-returns-in_ok-queried-in-Some-eq64-clause-gives
+parse_operand-returns-in_ok-queried-in-Some-eq64-clause-gives g t c =
     let q = c.in_ok-query-in-Some-eq64.ensures.gives in
     let begun = is_ahead 64 _ _ (omega arith) c.in-Some-eq64.ensures (grind (arith, common_steps)) in
-    (queried q.0, (q.0, refl, q.1), rw (ap (is_at "'") begun, ap (is_at "\"") begun, ap (is_at "@") begun, q.2) refl, q.3)
+    (queried q.0, (c.in_ok-queried-in-Some-eq64.ensures.made q.0 q.1, tt), rw (ap (is_at "'") begun, ap (is_at "\"") begun, ap (is_at "@") begun, q.2) refl, grows_kept q.3 c.queried.ensures.keeps)
 
-pub parse_operand-returns-in_ok-query-in-Some-eq36-clause-gives : goal.parse_operand-returns-in_ok-query-in-Some-eq36-clause-gives
-parse_operand-returns-in_ok-query-in-Some-eq36-clause-gives g t c =
+pub parse_operand-returns-in_ok-queried-in-Some-eq36-clause-gives : goal.parse_operand-returns-in_ok-queried-in-Some-eq36-clause-gives
+parse_operand-returns-in_ok-queried-in-Some-eq36-clause-gives g t c =
     let q = c.in_ok-query-in-Some-eq36.ensures.gives in
     let begun = is_ahead 36 _ _ (omega arith) c.in-Some-eq36.ensures (grind (arith, common_steps)) in
-    (queried q.0, (q.0, refl, q.1), rw (ap (is_at "'") begun, ap (is_at "\"") begun, ap (is_at "@") begun, ap (is_at "$") begun, q.2) refl, q.3)
+    (queried q.0, (c.in_ok-queried-in-Some-eq36.ensures.made q.0 q.1, tt), rw (ap (is_at "'") begun, ap (is_at "\"") begun, ap (is_at "@") begun, ap (is_at "$") begun, q.2) refl, grows_kept q.3 c.queried-in-Some-eq36.ensures.keeps)
 
 pub parse_or_from-parts-init : goal.parse_or_from-parts-init
 parse_or_from-parts-init g t c = record {

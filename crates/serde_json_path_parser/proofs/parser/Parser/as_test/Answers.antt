@@ -1,34 +1,42 @@
-use Rattle.serde_json_path_parser.proofs.Words.{◌∙◌, refl, sym, ap, calls_in_operand}
+use Rattle.serde_json_path_parser.proofs.Words.{◌∙◌, Some, refl, sym, ap, subst, kind_view, operand, signatures, deeper, left}
 use Rattle.serde_json_path_syntax.specs.Tree as tree
-use Rattle.serde_json_path_parser.proofs.Steps.{keeps_both, value_kind}
+use Rattle.serde_json_path_parser.proofs.Steps.{grows_kept, kept_result, operand_of, plain_test, value_kind}
 use Rattle.serde_json_path_parser.proofs.parser.Parser.as_test.Goals as goal
 
-pub returns-in_ok-test-in-Query-clause-gives : goal.returns-in_ok-test-in-Query-clause-gives
-returns-in_ok-test-in-Query-clause-gives g c = λ x h.
-    let q = rw c.in-Query.is at h in (
-      tree.test c.args.negated (tree.queried q.0),
-      c.in_ok-test-in-Query.ensures.made (tree.queried q.0) (c.in_ok-operand-in-Query.ensures.made q.0 q.2),
-      simp q.1 refl,
-      ap calls_in_operand q.1,
-    )
+pub returns-in-Literal-clause-gives : goal.returns-in-Literal-clause-gives
+returns-in-Literal-clause-gives g c = λ x is.
+    let l = rw c.in-Literal.is at (c.argument.ensures (operand x) is.0) in
+    rw (c.refusal.ensures.value, ap operand_of l) refl
+
+pub returns-then-eq-clause-gives : goal.returns-then-eq-clause-gives
+returns-then-eq-clause-gives g c = λ x is.
+    let f = rw c.in-Call.is at (c.argument.ensures (operand x) is.0) in
+    let kind = kept_result (signatures g.F.Functions.set c.args.self.now) c.args.builder.now c.args.operand (operand x) f.0 (Some (kind_view c.in-Call.result)) is f.1 f.2 in
+    rw (c.in_long_hand.ensures, ap operand_of f.1, kind, value_kind c.in-Call.result ∙ sym c.eq.ensures ∙ c.if-eq.true) refl
+
+pub test-requires : goal.test-requires
+test-requires g c =
+    let (x, is) = c.requires in
+    let f = rw c.in-Call.is at (c.argument.ensures (operand x) is.0) in
+    (x, is.0, subst (λ o. tree.IsTested o) (sym (ap operand_of f.1)) tt)
 
 pub returns-in_ok-test-in-Call-clause-gives : goal.returns-in_ok-test-in-Call-clause-gives
-returns-in_ok-test-in-Call-clause-gives g c = λ x h.
-    let f = rw c.in-Call.is at h in (
-      tree.test c.args.negated (tree.called f.0),
-      c.in_ok-test-in-Call.ensures.made (tree.called f.0) (c.in_ok-operand-in-Call.ensures.made f.0 f.2),
-      simp (f.1, f.3, value_kind c.in-Call.result ∙ sym c.eq.ensures ∙ c.if-eq.false) refl,
-      ap calls_in_operand f.1,
+returns-in_ok-test-in-Call-clause-gives g c = λ x is.
+    let f = rw c.in-Call.is at (c.argument.ensures (operand x) is.0) in
+    let kind = kept_result (signatures g.F.Functions.set c.args.self.now) c.args.builder.now c.args.operand (operand x) f.0 (Some (kind_view c.in-Call.result)) is f.1 f.2 in (
+      tree.test c.args.negated x,
+      c.in_ok-test-in-Call.ensures.made x is.0,
+      rw (ap operand_of f.1, kind, value_kind c.in-Call.result ∙ sym c.eq.ensures ∙ c.if-eq.false) refl,
+      λ before grown. grows_kept grown c.test.ensures.keeps,
     )
 
-pub returns-in_err-test-in-Query-clause-keeps : goal.returns-in_err-test-in-Query-clause-keeps
-returns-in_err-test-in-Query-clause-keeps g c = keeps_both c.queried.ensures.keeps c.test.ensures.keeps
+pub test-requires-in_default : goal.test-requires-in_default
+test-requires-in_default g c =
+    let (x, is) = c.requires in
+    let may = plain_test (signatures g.F.Functions.set c.args.self.now) c.args.builder.now c.args.operand (deeper g.F.Functions.set c.args.self.now) c.args.place x (left c.args.reader.now) c.args.negated c.argument.result c.in_default.not-Literal c.in_default.not-Call (c.argument.ensures (operand x) is.0) in
+    (x, is.0, may.0)
 
-pub returns-in_ok-test-in-Query-clause-keeps : goal.returns-in_ok-test-in-Query-clause-keeps
-returns-in_ok-test-in-Query-clause-keeps g c = keeps_both c.queried.ensures.keeps c.test.ensures.keeps
-
-pub returns-in_err-test-in-Call-clause-keeps : goal.returns-in_err-test-in-Call-clause-keeps
-returns-in_err-test-in-Call-clause-keeps g c = keeps_both c.called.ensures.keeps c.test-in-Call.ensures.keeps
-
-pub returns-in_ok-test-in-Call-clause-keeps : goal.returns-in_ok-test-in-Call-clause-keeps
-returns-in_ok-test-in-Call-clause-keeps g c = keeps_both c.called.ensures.keeps c.test-in-Call.ensures.keeps
+pub returns-in_ok-test-in_default-clause-gives : goal.returns-in_ok-test-in_default-clause-gives
+returns-in_ok-test-in_default-clause-gives g c = λ x is.
+    let may = plain_test (signatures g.F.Functions.set c.args.self.now) c.args.builder.now c.args.operand (deeper g.F.Functions.set c.args.self.now) c.args.place x (left c.args.reader.now) c.args.negated c.argument.result c.in_default.not-Literal c.in_default.not-Call (c.argument.ensures (operand x) is.0) in
+    (tree.test c.args.negated x, c.in_ok-test-in_default.ensures.made x is.0, may.1, λ before grown. grows_kept grown c.test-in_default.ensures.keeps)

@@ -1,0 +1,14 @@
+use Rattle.std.proofs.Common.{sym}
+use Rattle.serde_json_path_syntax.specs.Flat.{held_view}
+use Rattle.serde_json_path_parser.proofs.Steps.{value_by, singular_by}
+use Rattle.serde_json_path_parser.proofs.parser.call.suits.Goals as goal
+
+pub returns-in-Value : goal.returns-in-Value
+returns-in-Value c = λ signature x is.
+    let l = rw c.in-Literal.is at (c.argument.ensures x is.0) in
+    rw (l, c.in-Value.is) (value_by c.is_value.result (held_view c.in-Literal.literal.now) c.is_value.ensures)
+
+pub returns-in-Value-wanted : goal.returns-in-Value-wanted
+returns-in-Value-wanted c = λ signature x is.
+    let q = rw c.in-Query.is at (c.argument.ensures x is.0) in
+    rw (q.1, c.in-Value-wanted.is) (sym (singular_by c.is_singular.result q.0 (c.is_singular.ensures q.0 q.2)))
