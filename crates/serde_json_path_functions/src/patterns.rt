@@ -12,26 +12,12 @@ use regex::{Error, Matcher, Regex};
 use std::alloc::{AllocError, Global};
 
 /// What a pattern has to match.
-#[derive(Clone, Copy)]
+#[derive(Clone, Copy, PartialEq, Eq)]
 pub(crate) enum Matching {
     /// The whole text, as for `match`.
     WholeText,
     /// Some part of the text, as for `search`.
     AnyPart,
-}
-
-impl Matching {
-    /// Whether the two are the same.
-    #[inline]
-    fn is(self, other: Matching) -> bool
-        ensures { IsTrue result → matching_view self ≡ matching_view other }
-    {
-        match (self, other) {
-            (Matching::WholeText, Matching::WholeText) => true,
-            (Matching::AnyPart, Matching::AnyPart) => true,
-            _ => false,
-        }
-    }
 }
 
 /// The text that `regex` reads: the pattern in a group, between `^` and `$` for `match`. Under its flag `R` a dot matches
@@ -133,7 +119,7 @@ impl ReadPattern {
     pub(crate) fn is_of(&self, matching: Matching, pattern: &str) -> bool
         ensures { IsTrue result → IsOf (matching_view matching) pattern.now self.now }
     {
-        self.matching.is(matching) && self.pattern.as_str() == pattern
+        self.matching == matching && self.pattern.as_str() == pattern
     }
 }
 

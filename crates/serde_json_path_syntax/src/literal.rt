@@ -110,19 +110,8 @@ pub enum Literal {
 }
 
 impl Literal {
-    ghost use Rattle.std.specs.Prelude.{◌≡◌, ◌↔◌, IsTrue, true};
-    ghost use Rattle.serde_json_path_syntax.specs.Words.{held_view, literal_fits, literal_view, IsValueLiteral};
-
-    /// Whether the literal may be an argument of type Value: any literal but a number with a fraction. The RFC takes those too
-    /// (RFC 9535, section 2.4.3); this project does not.
-    pub fn is_value(&self) -> bool
-        ensures { IsTrue result ↔ IsValueLiteral (literal_view self.now) }
-    {
-        match self {
-            Literal::Number(number) => number.is_whole(),
-            Literal::String(_) | Literal::Bool(_) | Literal::Null => true,
-        }
-    }
+    ghost use Rattle.std.specs.Prelude.{◌≡◌, true};
+    ghost use Rattle.serde_json_path_syntax.specs.Words.{held_view, literal_fits, literal_view};
 
     /// The literal as a tree holds it.
     pub(crate) fn held(self) -> LiteralValue
@@ -151,7 +140,8 @@ impl LiteralValue {
     ghost use Rattle.std.specs.Prelude.{◌≡◌, ◌↔◌, IfOk, IsTrue};
     ghost use Rattle.serde_json_path_syntax.specs.Words.{held_view, literal_fits, IsValueLiteral};
 
-    /// Whether the literal may be an argument of type Value, as `Literal::is_value` says.
+    /// Whether the literal may be an argument of type Value: any literal but a number with a fraction. The RFC takes those too
+    /// (RFC 9535, section 2.4.3); this project does not.
     #[tactic(auto, using(crate::proofs::Typing::Typings::written_is_value))]
     pub fn is_value(&self) -> bool
         ensures { IsTrue result ↔ IsValueLiteral (held_view self.now) }

@@ -10,7 +10,8 @@ use serde_json_path_core::{
     Checked, Part, Parts, QueryKind, SegmentKind, Slice, SyntaxBuilder, Walk, evaluate,
     evaluate_located, walk,
 };
-use serde_json_path_functions::Builtin;
+use serde_json_path_functions::{Builtin, FunctionArgType, Signature};
+use serde_json_path_syntax::ArgumentRef;
 use std::alloc::Global;
 use std::test::Fail;
 use test_rows::{Came, hold_row, holds, located};
@@ -143,6 +144,18 @@ fn tells_a_singular_query(rt: HostRuntime) -> Result<(), Fail> {
     let mut builder = SyntaxBuilder::new(rt.alloc());
     let query = builder.query(QueryKind::Root, Parts::new(rt.alloc()))?;
     assert!(rt; builder.is_singular(query));
+    Ok(())
+}
+
+#[test]
+fn tells_the_result_of_a_call(rt: HostRuntime) -> Result<(), Fail> {
+    let alloc = rt.alloc();
+    let mut builder = SyntaxBuilder::new(alloc);
+    let signature = Signature::new(&[], FunctionArgType::Nodelist).ok_or("no signature")?;
+    let call = builder.call(String::from_str(alloc, "f")?, signature, Vec::new(alloc))?;
+    let operand = builder.called(call)?;
+    let told = builder.argument(operand);
+    assert!(rt; matches!(told, ArgumentRef::Call(FunctionArgType::Nodelist)));
     Ok(())
 }
 
