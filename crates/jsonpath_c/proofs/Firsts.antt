@@ -2,10 +2,6 @@
 use Rattle.std.proofs.Common.{◌≡◌, ◌≤◌, ◌<◌, ◌+◌, ◌∙◌, ◌⊎◌, inl, inr, ℕ, Bool, false, true, Some, Result, Ok, string_bytes, List, [], ◌∷◌, ◌++◌, length, map, refl, sym, ap, subst, arith, append_assoc, append-nil, length-append}
 use Rattle.jsonpath_c.proofs.Words.{length_push, map_push, sum_by_push, Located, KeptNode, kept, Bor, IsLine, IsLineOfEach, compact_lines, Form, lines_pushed, AreFirstLines, AreFirstNodes, IsBeyond, IsNodeBeyond, all_name_bytes, name_bytes, QueryError, BoundedLines, BoundedList, AreEnough, AreWithin, FilledLines, FilledList, HasNoRoomFor, IsLeftAfter, TookLines, TookList, Limits}
 
--- what is kept of one node more
-pub kept_further : (list longer : List KeptNode) (done : List Located) (n : Located) → list ≡ map kept done → longer ≡ list ++ kept n ∷ [] → longer ≡ map kept (done ++ n ∷ [])
-kept_further list longer done n is pushed = pushed ∙ ap (λ l. l ++ kept n ∷ []) is ∙ sym (map_push kept done n)
-
 -- a text after another, and a byte after it
 pub within : (before after text : List ℕ) (position : ℕ) → text ≡ before ++ after → position ≡ length before + 1 → (1 ≤ position) × (position ≤ length text + 1)
 within before after text position is at =
@@ -13,23 +9,6 @@ within before after text position is at =
     (omega arith, omega arith)
 
 -- ---- lists within limits
-
--- a list without nodes
-pub none_within : (limits : Limits) (list : List KeptNode) → list ≡ [] → AreWithin limits limits [] list
-none_within limits list none = record { same = none; nodes = omega arith; bytes = omega arith }
-
--- one node more, for which there was room
-pub one_within : (limits left less : Limits) (shown : List Located) (next : Located) (list longer : List KeptNode) → AreWithin limits left shown list
-    → longer ≡ list ++ kept next ∷ [] → IsLeftAfter next left less
-    → AreWithin limits less (shown ++ next ∷ []) longer
-one_within limits left less shown next list longer are pushed after =
-    let count : length (shown ++ next ∷ []) ≡ length shown + 1 = length_push shown next in
-    let names : all_name_bytes (shown ++ next ∷ []) ≡ all_name_bytes shown + name_bytes next.location = sum_by_push (λ node. name_bytes node.location) shown next in
-    record {
-      same = kept_further list longer shown next are.same pushed;
-      nodes = omega (arith, are.nodes, after.0, count);
-      bytes = omega (arith, are.bytes, after.1, names);
-    }
 
 beyond : (limits left : Limits) (shown : List Located) (next : Located) (list : List KeptNode) → AreWithin limits left shown list
     → HasNoRoomFor next left → IsNodeBeyond limits shown next
@@ -65,17 +44,6 @@ all_within limits left shown list are = record {
 
 -- ---- lines within limits
 
--- none yet
-pub no_lines : (lines : BoundedLines) → string_bytes lines.text ≡ [] → lines.count ≡ 0 → TookLines lines [] lines
-no_lines lines empty none = record {
-  form = refl;
-  limits = refl;
-  lines = empty;
-  count = none;
-  few = omega (arith, none);
-  short = let zero_length : length (string_bytes lines.text) ≡ 0 = ap length empty in omega (arith, zero_length);
-}
-
 -- another, for which there was room
 pub line_taken : (before old now : BoundedLines) (nodes : List Located) (n : Located) (line : List ℕ) → TookLines before nodes old → IsLine (compact_lines old.form) [] n line
     → now.form ≡ old.form → now.limits ≡ old.limits → string_bytes now.text ≡ string_bytes old.text ++ line → now.count ≡ old.count + 1
@@ -93,30 +61,6 @@ line_taken before old now nodes n line took is form limits text count few short 
       count = omega (arith, count, took.count, more);
       few = omega (arith, few, nodes_same);
       short = omega (arith, longer, short, bytes_same);
-    }
-
--- another, for which there is no room
-pub line_left : (before old : BoundedLines) (nodes later : List Located) (n : Located) (text line : List ℕ) → TookLines before nodes old → IsLine (compact_lines old.form) [] n line
-    → text ≡ string_bytes old.text → (old.limits.now.nodes ≤ old.count) ⊎ (old.limits.now.bytes < length (string_bytes old.text) + length line)
-    → AreFirstLines before.form before.limits.now (nodes ++ (n ∷ later)) text false
-line_left before old nodes later n text line took is same full =
-    let nodes_same : old.limits.now.nodes ≡ before.limits.now.nodes = ap (λ (l : Bor Limits). l.now.nodes) took.limits in
-    let bytes_same : old.limits.now.bytes ≡ before.limits.now.bytes = ap (λ (l : Bor Limits). l.now.bytes) took.limits in
-    let as_long : length text ≡ length (string_bytes old.text) = ap length same in
-    let own : IsLine (compact_lines before.form) [] n line = subst (λ (f : Form). IsLine (compact_lines f) [] n line) took.form is in
-    let beyond : IsBeyond before.form before.limits.now nodes text n = elim full [
-      | inl many ↦ inl (omega (arith, many, took.count, nodes_same))
-      | inr long ↦ inr (line, own, omega (arith, long, as_long, bytes_same))
-    ] in
-    record {
-      shown = nodes;
-      more = n ∷ later;
-      first = refl;
-      lines = subst (IsLineOfEach (compact_lines before.form) [] nodes) (sym same) took.lines;
-      few = omega (arith, took.few, took.count);
-      short = omega (arith, took.short, as_long);
-      complete = λ e. absurd cc;
-      cut = λ _. (n, later, refl, beyond);
     }
 
 -- there is no other

@@ -10,10 +10,6 @@ abbrev pub IsWithin : Option ℕ → ℕ → Type 0
 IsWithin None count = Unit {0}
 IsWithin (Some most) count = count ≤ most
 
-pub within_first : (limit : Option ℕ) → IsWithin limit 0
-within_first None = tt
-within_first (Some most) = omega arith
-
 pub within_further : (limit : Option ℕ) (count : ℕ) → is_reached limit count ≡ false → IsWithin limit (count + 1)
 within_further None count not_yet = tt
 within_further (Some most) count not_yet = grind arith
@@ -38,16 +34,6 @@ pushed_so_far output head limit all done old new count is these appended same =
     (subst (λ ns. Appends (ArePieces output head ns) old new) asked appended, same ∙ ap (λ (ns : List Located). length ns) asked)
 
 -- ---- a line sink
-
--- none were taken yet
-pub none_taken : (lines : Lines) → lines.count ≡ 0 → is_reached lines.limit 0 ≡ false → TookLines lines [] lines
-none_taken lines none below = record {
-  writer = refl;
-  limit = refl;
-  text = ([], refl, sym (append-nil (string_bytes lines.text)));
-  count = none;
-  more = ap (is_reached lines.limit) none ∙ below;
-}
 
 -- another is taken
 pub one_taken : (before old : Lines) (nodes : List Located) (n : Located) (text : List ℕ) (count : ℕ) → TookLines before nodes old

@@ -116,10 +116,6 @@ distinct_push some others next same =
 
 -- ---- a sink of nodes that differ in their locations
 
--- none were taken yet
-pub none_met : (found : DistinctNodes) → found.nodes.items ≡ [] → TookDistinct found [] found
-none_met found none = record { limit = refl; met = ap (λ (nodes : List LocatedNode). first_places (map located nodes)) none }
-
 -- those that are left are enough
 pub enough_met : (before old : DistinctNodes) (nodes later found : List Located) → TookDistinct before nodes old
     → found ≡ first_places (map located old.nodes.items) → IsExceeded old.limit (length found) → AreEnough before.limit (first_places (nodes ++ later)) found
@@ -130,10 +126,6 @@ enough_met before old nodes later found took left many =
       beginning.1 ∙ ap (λ (l : List Located). l ++ beginning.0) same,
       inr (subst (λ limit. IsExceeded limit (length found)) took.limit many),
     )
-
--- what is left of all is enough
-pub all_met : (before now : DistinctNodes) (nodes left : List Located) → TookDistinct before nodes now → left ≡ first_places (map located now.nodes.items) → AreEnough before.limit (first_places nodes) left
-all_met before now nodes left took is = ([], sym (append-nil (first_places nodes)) ∙ ap (λ (l : List Located). l ++ []) (sym (is ∙ took.met)), inl refl)
 
 -- the first of enough nodes, up to a limit, are the first of all
 pub first_of_enough : (limit : Option ℕ) (nodes found : List Located) → AreEnough limit nodes found → up_to limit found ≡ up_to limit nodes

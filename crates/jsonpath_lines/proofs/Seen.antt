@@ -46,11 +46,3 @@ seen_whole line text change unseen before none =
     so_far.2 change
     ∙ ap (λ (t : List ℕ). so_far.0 ++ t) (ap plain (sym (append-nil change)) ∙ unseen [])
     ∙ sym so_far.1
-
--- before the first character nothing is seen
-pub seen_first : (line : List ℕ) → IsSeenUpTo line [] line
-seen_first line = λ none. ([], refl, λ more. refl)
-
--- two sequences, one after the other
-pub unseen_both : (a b : List ℕ) → IsUnseen a → IsUnseen b → IsUnseen (a ++ b)
-unseen_both a b one two = λ text. ap plain (append_assoc a b text) ∙ one (b ++ text) ∙ two text

@@ -202,14 +202,3 @@ name_stretched cs rest old new ok done s = ap (λ (l : List ℕ). l ++ encode_ut
 -- what is after a name stays as a part of it is taken
 pub past_stretched : (cs rest old new : List ℕ) (ok : Bool) → Stretched is_ascii_name_char cs rest old new ok → past is_name_char rest ≡ past is_name_char cs
 past_stretched cs rest old new ok s = sym (ap (past is_name_char) s.taken ∙ past_through is_name_char s.part rest (all_in_name s.part s.passes))
-
--- what is gathered is a stretch
-pub stretched : (p : ℕ → Bool) (text : List ℕ) (index end : ℕ) (part old new : List ℕ) (ok : Bool) → index < end → end - index ≤ length part → Gathered p text index end part
-    → new ≡ (if ok then old ++ take (end - index) part else old) → Stretched p (chars (drop index text)) (chars (drop end text)) old new ok
-stretched p text index end part old new ok some long h is = record {
-  part = take (end - index) part;
-  some = omega (arith, length-take-le (end - index) part long);
-  passes = h.passes;
-  taken = h.taken;
-  text = λ e. is ∙ ap (λ b. if b then old ++ take (end - index) part else old) e;
-}
