@@ -1,5 +1,5 @@
 -- Whole numbers, compared by their billionths, are compared as exact numbers.
-use Rattle.serde_json_path_core.proofs.Words.{◌≡◌, ℤ, true, Option, Some, None, refl, sym, ap, ◌∙◌, arith, ints, int_lt, int_eq, Num, number, float, as_integer, document_number, Numbers, whole_numbers, all_numbers, Compared, billionths, exact_of, of_both, same_number, whole_of}
+use Rattle.serde_json_path_core.proofs.Words.{◌≡◌, ℤ, true, Option, Some, None, refl, sym, ap, ◌∙◌, arith, ints, int_lt, int_eq, Num, number, float, as_integer, document_number, Numbers, whole_numbers, all_numbers, Compared, amount_of, nothing, billionths, exact_of, of_both, rising_sides, same_number, same_sides, whole_of}
 use Rattle.std.proofs.lemmas.Bool.Decides.{nat_tests}
 use Rattle.std.specs.Float.Ieee.{eq, lt}
 use Rattle.std.specs.Prelude.{pos, int_div, is_some, ◌*ℤ◌}
@@ -37,7 +37,7 @@ equal_scaled x y = grind (arith, ints)
 
 -- ---- two sides
 
-pub equal : (a b : Compared) → is_some (whole_of a) ≡ true → is_some (whole_of b) ≡ true → of_both int_eq (whole_of a) (whole_of b) ≡ of_both eq (exact_of a) (exact_of b)
+equal : (a b : Compared) → is_some (whole_of a) ≡ true → is_some (whole_of b) ≡ true → of_both int_eq (whole_of a) (whole_of b) ≡ of_both eq (exact_of a) (exact_of b)
 equal a b is_x is_y =
     let x = some_of (whole_of a) is_x in
     let y = some_of (whole_of b) is_y in
@@ -45,13 +45,31 @@ equal a b is_x is_y =
     let right = is_integer b y.0 y.1 in
     rw (x.1, y.1, left.1, right.1, left.2, right.2) (equal_scaled left.0 right.0 ∙ integers_same left.0 right.0)
 
-pub rising : (a b : Compared) → is_some (whole_of a) ≡ true → is_some (whole_of b) ≡ true → of_both int_lt (whole_of a) (whole_of b) ≡ of_both lt (exact_of a) (exact_of b)
+rising : (a b : Compared) → is_some (whole_of a) ≡ true → is_some (whole_of b) ≡ true → of_both int_lt (whole_of a) (whole_of b) ≡ of_both lt (exact_of a) (exact_of b)
 rising a b is_x is_y =
     let x = some_of (whole_of a) is_x in
     let y = some_of (whole_of b) is_y in
     let left = is_integer a x.0 x.1 in
     let right = is_integer b y.0 y.1 in
     rw (x.1, y.1, left.1, right.1, left.2, right.2) (less_scaled left.0 right.0 ∙ integers_less left.0 right.0)
+
+-- ---- two whole numbers, by either rule
+
+amount_of_whole : (side : Compared) (amount : ℤ) → whole_of side ≡ Some amount → amount_of side ≡ Some amount
+amount_of_whole (billionths b) amount e = ap Some (literal_is_whole b amount e).0
+amount_of_whole (value v) amount e = e
+amount_of_whole nothing amount e = e
+
+pub same_whole : (numbers : Numbers) (a b : Compared) → is_some (whole_of a) ≡ true → is_some (whole_of b) ≡ true → of_both int_eq (whole_of a) (whole_of b) ≡ same_sides numbers a b
+same_whole whole_numbers a b is_x is_y =
+    let x = some_of (whole_of a) is_x in
+    let y = some_of (whole_of b) is_y in
+    rw (x.1, y.1, amount_of_whole a x.0 x.1, amount_of_whole b y.0 y.1) refl
+same_whole all_numbers a b is_x is_y = equal a b is_x is_y
+
+pub rising_whole : (numbers : Numbers) (a b : Compared) (x y : ℤ) → whole_of a ≡ Some x → whole_of b ≡ Some y → int_lt x y ≡ rising_sides numbers a b
+rising_whole whole_numbers a b x y is_x is_y = rw (amount_of_whole a x is_x, amount_of_whole b y is_y) refl
+rising_whole all_numbers a b x y is_x is_y = sym (rw (is_x, is_y) refl) ∙ rising a b (ap is_some is_x) (ap is_some is_y)
 
 -- ---- two numbers of documents
 

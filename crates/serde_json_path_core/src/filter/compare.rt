@@ -1,14 +1,13 @@
 //! Comparisons (RFC 9535, section 2.3.5.2.2).
 
-ghost use Rattle.std.specs.Prelude.{◌≡◌, ◌||◌, int_lt, option_map};
-ghost use Rattle.serde_json_path_core.specs.Inside.Words.{eq, lt, nat_cmp, is_lt, slice_cmp, chars, exact_view, numbers_view, comes_before, is_same, of_both, rising_sides, same_sides, operator_view, side_view};
+ghost use Rattle.std.specs.Prelude.{◌≡◌, ◌||◌, int_lt};
+ghost use Rattle.serde_json_path_core.specs.Inside.Words.{eq, lt, nat_cmp, is_lt, slice_cmp, chars, exact_of, numbers_view, comes_before, is_same, of_both, rising_sides, same_sides, operator_view, side_view};
 ghost use Rattle.serde_json_path_core.specs.Inside.Computed.{compare as comparison};
 
 use crate::filter::equality::{same_amounts, same_values};
 use crate::filter::side::{Side, amount_of, exact_of, whole_of};
 use serde_json::Value;
 use serde_json_path_functions::Numbers;
-use serde_json_path_numbers::ExactNumber;
 use serde_json_path_syntax::ComparisonOperator;
 
 /// Whether a comparison of two sides holds.
@@ -46,30 +45,33 @@ fn is_equal(numbers: Numbers, left: Side, right: Side) -> bool
     }
 }
 
-/// Whether two sides are numbers, one at least of a literal, and equal. Most are whole numbers, which are compared as such.
+/// Whether two sides are numbers, one at least of a literal, and equal. Most are a whole number and a whole literal, which are
+/// compared alike by either rule.
 #[inline(always)]
-#[tactic(auto, using(crate::proofs::Whole::equal))]
+#[tactic(auto, using(crate::proofs::Whole::same_whole))]
 fn equal_numbers(numbers: Numbers, left: Side, right: Side) -> bool
     ensures { result ≡ same_sides (numbers_view numbers)
         (side_view left.entry) (side_view right.entry) }
 {
+    if let (Side::Value(_), Side::Number(_)) = (left, right) {
+        let (whole, other) = (whole_of(left), whole_of(right));
+        if whole.is_some() && other.is_some() {
+            return same_amounts(whole, other);
+        }
+    }
     match numbers {
         Numbers::Whole => same_amounts(amount_of(left), amount_of(right)),
-        Numbers::All => {
-            let (whole, other) = (whole_of(left), whole_of(right));
-            if whole.is_some() && other.is_some() {
-                return same_amounts(whole, other);
-            }
-            equal_exactly(exact_of(left), exact_of(right))
-        }
+        Numbers::All => equal_exactly(left, right),
     }
 }
 
-/// Whether two numbers are there, and equal.
-fn equal_exactly(left: Option<ExactNumber>, right: Option<ExactNumber>) -> bool
-    ensures { result ≡ of_both eq (option_map exact_view left) (option_map exact_view right) }
+/// Whether two sides are numbers with the same exact value. Inlined, it would make each comparison clear places for these.
+#[inline(never)]
+fn equal_exactly(left: Side, right: Side) -> bool
+    ensures { result
+        ≡ of_both eq (exact_of (side_view left.entry)) (exact_of (side_view right.entry)) }
 {
-    match (left, right) {
+    match (exact_of(left), exact_of(right)) {
         (Some(left), Some(right)) => left.is_equal(right),
         _ => false,
     }
@@ -89,22 +91,29 @@ fn is_less(numbers: Numbers, left: Side, right: Side) -> bool
     }
 }
 
-/// Whether two sides are numbers, and the first is less. Most are whole numbers, which are compared as such.
+/// Whether two sides are numbers, and the first is less. Most are a whole number and a whole literal, on either side.
 #[inline(always)]
-#[tactic(auto, using(crate::proofs::Whole::rising))]
+#[tactic(auto, using(crate::proofs::Whole::rising_whole))]
 fn rising_numbers(numbers: Numbers, left: Side, right: Side) -> bool
     ensures { result ≡ rising_sides (numbers_view numbers)
         (side_view left.entry) (side_view right.entry) }
 {
+    if let (Side::Value(_), Side::Number(_)) = (left, right) {
+        if let (Some(whole), Some(other)) = (whole_of(left), whole_of(right)) {
+            return whole < other;
+        }
+    }
+    if let (Side::Number(_), Side::Value(_)) = (left, right) {
+        if let (Some(whole), Some(other)) = (whole_of(left), whole_of(right)) {
+            return whole < other;
+        }
+    }
     match numbers {
         Numbers::Whole => rising_amounts(amount_of(left), amount_of(right)),
-        Numbers::All => {
-            let (whole, other) = (whole_of(left), whole_of(right));
-            if whole.is_some() && other.is_some() {
-                return rising_amounts(whole, other);
-            }
-            rising_exactly(exact_of(left), exact_of(right))
-        }
+        Numbers::All => match (whole_of(left), whole_of(right)) {
+            (Some(whole), Some(other)) => whole < other,
+            _ => rising_exactly(left, right),
+        },
     }
 }
 
@@ -119,11 +128,13 @@ fn rising_amounts(left: Option<i128>, right: Option<i128>) -> bool
     }
 }
 
-/// Whether two numbers are there, and the first is less.
-fn rising_exactly(left: Option<ExactNumber>, right: Option<ExactNumber>) -> bool
-    ensures { result ≡ of_both lt (option_map exact_view left) (option_map exact_view right) }
+/// Whether two sides are numbers, and the exact value of the first is less. Not inlined, as `equal_exactly`.
+#[inline(never)]
+fn rising_exactly(left: Side, right: Side) -> bool
+    ensures { result
+        ≡ of_both lt (exact_of (side_view left.entry)) (exact_of (side_view right.entry)) }
 {
-    match (left, right) {
+    match (exact_of(left), exact_of(right)) {
         (Some(left), Some(right)) => left.is_less(right),
         _ => false,
     }

@@ -66,7 +66,7 @@ pub(crate) fn side_of_answer<'s>(answer: &'s FunctionValue<'_>) -> Side<'s>
 pub(crate) fn amount(number: &Number) -> Option<i128>
     ensures { result ≡ amount_of (a_value (number_data (number_view number.now))) }
 {
-    match (number.as_i64(), number.as_u64()) {
+    match (number.as_u64(), number.as_i64()) {
         (Some(whole), _) => Some(whole as i128 * ONE),
         (None, Some(whole)) => Some(whole as i128 * ONE),
         (None, None) => None,
