@@ -32,10 +32,12 @@ fn same_numbers(numbers: Numbers, left: &Number, right: &Number) -> bool
     ensures { result
         ≡ same_number (numbers_view numbers) (number_view left.now) (number_view right.now) }
 {
-    match (left.as_i64(), right.as_i64()) {
-        (Some(first), Some(second)) => first == second,
-        _ => same_numbers_by(numbers, left, right),
+    if let Some(first) = left.as_i64() {
+        if let Some(second) = right.as_i64() {
+            return first == second;
+        }
     }
+    same_numbers_by(numbers, left, right)
 }
 
 /// Whether two numbers are equal by a rule.
