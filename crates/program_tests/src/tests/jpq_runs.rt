@@ -1,4 +1,4 @@
-//! What is written of documents, in each form, and the exit status.
+//! What `jpq` writes of documents, in each form, and the exit status.
 
 use crate::tests::inputs::run_line;
 use std::alloc::Global;

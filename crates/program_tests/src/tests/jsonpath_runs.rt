@@ -1,9 +1,9 @@
-//! Runs of the program over a reader and writers in memory.
+//! Runs of `jsonpath` over a reader and writers in memory.
 
 ghost use Rattle.std.specs.Prelude.{◌≡◌, ◌++◌, [], Some, ℕ, List};
 ghost use Rattle.jsonpath_program.specs.Run.{IsReportOfRun};
 
-use crate::tests::failing::{Reader, Writer};
+use crate::tests::jsonpath_failing::{Reader, Writer};
 use jsonpath_program::report::ReportError;
 use jsonpath_program::run::{refuse, run};
 use serde_json_path::QueryError;

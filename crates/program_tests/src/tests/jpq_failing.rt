@@ -1,4 +1,4 @@
-//! Runs whose reads or writes fail at one of their calls.
+//! Runs of `jpq` whose reads or writes fail at one of their calls.
 
 ghost use Rattle.std.specs.Prelude.{None};
 

@@ -1,8 +1,8 @@
-//! Runs of the program over a reader and writers that fail at one of their calls, and that move one byte at a time.
+//! Runs of `jsonpath` over a reader and writers that fail at one of their calls, and that move one byte at a time.
 
 ghost use Rattle.std.specs.Prelude.{Some, None};
 
-use crate::tests::program::{words, wrote};
+use crate::tests::jsonpath_runs::{words, wrote};
 use jsonpath_program::run::run;
 use std::alloc::Global;
 use std::io;

@@ -1,5 +1,4 @@
-//! Reports that are refused a request for memory. `tools/refuse_memory` refuses each request of each of these tests in turn,
-//! and reads how the test ends. A report that tells of no memory is made again, and is then as its row says.
+//! Reports. One that tells of no memory is made again, and is then as its row says.
 
 use jsonpath_program::report::{DocumentError, ReportError, report};
 use serde_json_path::functions::{Builtin, Functions};

@@ -1,7 +1,5 @@
-//! Words, files of paths, documents and runs that are refused a request for memory. `tools/refuse_memory` refuses each request of
-//! each of these tests in turn, and reads how the test ends.
-//!
-//! A call that answers no memory, or a run that tells of it, is made again, and then answers as its row says.
+//! Words, files of paths, documents and runs. A call that answers no memory, or a run that tells of it, is made again, and then
+//! answers as its row says.
 
 use crate::tests::inputs::run_line;
 use crate::tests::options::{of_asked, words_of};
