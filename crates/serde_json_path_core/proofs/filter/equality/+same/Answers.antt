@@ -1,4 +1,4 @@
-use Rattle.serde_json_path_core.proofs.Words.{◌≡◌, suc, List, [], ◌∷◌, length, String, Global, string_bytes, bytes_eq, Bool, true, false, ◌&&◌, refl, sym, ap, ◌∙◌, Numbers, view, items_view, members_view, Value, same_data, same_items, same_members}
+use Rattle.serde_json_path_core.proofs.Words.{◌≡◌, rules, suc, List, [], ◌∷◌, length, String, Global, string_bytes, bytes_eq, Bool, true, false, ◌&&◌, refl, sym, ap, ◌∙◌, Numbers, view, items_view, members_view, Value, same_data, same_items, same_members}
 use Rattle.serde_json_path_core.proofs.filter.equality.+same.Goals as goal
 
 and-false : (b : Bool) → (b && false) ≡ false
@@ -25,3 +25,9 @@ same_items-returns-then-len t c =
 pub same_members-returns-then-len : goal.same_members-returns-then-len
 same_members-returns-then-len t c =
     members_differ _ _ _ (λ e. c.if-len.true (c.len.ensures.len ∙ e ∙ sym c.len-2.ensures.len))
+
+pub same_members-returns-then-ne : goal.same_members-returns-then-ne
+same_members-returns-then-ne t c = search rules
+
+pub same_members-loop-name-preserved : goal.same_members-loop-name-preserved
+same_members-loop-name-preserved t c = search rules
