@@ -19,3 +19,9 @@ same_basic-returns-then-same_part t c =
     let lefts = comparable_same left other_left m.0 t.0 in
     let rights = comparable_same right other_right m.1 t.1 in
     search rules
+
+pub same_part-returns-then-eq-2 : goal.same_part-returns-then-eq-2
+same_part-returns-then-eq-2 t c = search rules
+
+pub same_segment-returns-in-DotWildcard-DotWildcard : goal.same_segment-returns-in-DotWildcard-DotWildcard
+same_segment-returns-in-DotWildcard-DotWildcard t c = search rules
