@@ -186,7 +186,6 @@ impl<'b> fmt::Display for NormalizedPath<'b> {
 }
 
 /// Appends a name as a JSON pointer writes it: `~` as `~0`, `/` as `~1`.
-#[tactic(auto, using(crate::proofs::Pointers::pointer_more))]
 fn push_in_pointer(text: &mut String, name: &str) -> Result<(), AllocError>
     ensures { OnOk result (string_bytes text.new
         ≡ string_bytes text.old ++ flat_map in_pointer name.now) }
