@@ -77,18 +77,27 @@ struct jsonpath_refusal {
     size_t position; /* The byte at which it is refused, from 1; one past the last byte where the path ends too early. */
 };
 
-/* Whether a text is a path under the built-in functions: DONE, PATH_REFUSED, NO_MEMORY or NOT_UTF8. `*refusal` is written
- * with PATH_REFUSED alone. */
-uint8_t jsonpath_check(const uint8_t *path, size_t path_length, struct jsonpath_refusal *refusal);
+/* How a path takes numbers. Where a call takes `numbers`, any but 0 is all numbers. */
+#define JSONPATH_WHOLE_NUMBERS 0 /* Comparisons take those that are held as 64-bit integers; any other equals nothing. A
+                                  * number that is an argument has no fraction. */
+#define JSONPATH_ALL_NUMBERS 1   /* Comparisons take all, by their exact value, as RFC 9535 compares them. Any literal may be
+                                  * an argument. */
 
-/* The message of a path's refusal, as `text after the path`, without an end: DONE, NO_ROOM, NO_MEMORY or NOT_UTF8. Of a text
- * that is a path it is empty; no message is longer than 100 bytes. `out` and `*length` are written as by jsonpath_report. */
-uint8_t jsonpath_message(const uint8_t *path, size_t path_length, uint8_t *out, size_t out_length, size_t *length);
+/* Whether a text is a path under the built-in functions, by that rule: DONE, PATH_REFUSED, NO_MEMORY or NOT_UTF8. `*refusal` is
+ * written with PATH_REFUSED alone. */
+uint8_t jsonpath_check(const uint8_t *path, size_t path_length, uint8_t numbers, struct jsonpath_refusal *refusal);
 
-/* What was probably meant by a path that is refused, as `no blank at the end`, without an end: DONE, NO_ROOM, NO_MEMORY or
- * NOT_UTF8. It is empty where the refusal shows no known slip, and of a text that is a path; no hint is longer than 100
+/* The message of a path's refusal by that rule, as `text after the path`, without an end: DONE, NO_ROOM, NO_MEMORY or NOT_UTF8.
+ * Of a text that is a path it is empty; no message is longer than 100 bytes. `out` and `*length` are written as by
+ * jsonpath_report. */
+uint8_t jsonpath_message(const uint8_t *path, size_t path_length, uint8_t numbers, uint8_t *out, size_t out_length,
+                         size_t *length);
+
+/* What was probably meant by a path that is refused by that rule, as `no blank at the end`, without an end: DONE, NO_ROOM,
+ * NO_MEMORY or NOT_UTF8. It is empty where the refusal shows no known slip, and of a text that is a path; no hint is longer than 100
  * bytes. `out` and `*length` are written as by jsonpath_report. */
-uint8_t jsonpath_hint(const uint8_t *path, size_t path_length, uint8_t *out, size_t out_length, size_t *length);
+uint8_t jsonpath_hint(const uint8_t *path, size_t path_length, uint8_t numbers, uint8_t *out, size_t out_length,
+                      size_t *length);
 
 /* For each node of the document that the path selects, in order, a line: its normalised path, a tab, the node as compact JSON,
  * and a line feed.
@@ -113,13 +122,8 @@ typedef struct jsonpath_path jsonpath_path;
 typedef struct jsonpath_document jsonpath_document;
 typedef struct jsonpath_nodes jsonpath_nodes;
 
-/* How the comparisons of a path take the numbers of documents. */
-#define JSONPATH_WHOLE_NUMBERS 0 /* Those that are held as 64-bit integers; any other equals nothing. */
-#define JSONPATH_ALL_NUMBERS 1   /* All, by their exact value, as RFC 9535 compares them. */
-
-/* Compiles a path under the built-in functions: DONE, PATH_REFUSED, NO_MEMORY or NOT_UTF8. The path is in `*path` then, and what
- * was there is freed. `numbers` is one of the two above (any but 0 is the second). `*refusal` is written with PATH_REFUSED
- * alone. */
+/* Compiles a path under the built-in functions, by a rule for numbers, which it keeps: DONE, PATH_REFUSED, NO_MEMORY or
+ * NOT_UTF8. The path is in `*path` then, and what was there is freed. `*refusal` is written with PATH_REFUSED alone. */
 uint8_t jsonpath_path_new(const uint8_t *text, size_t text_length, uint8_t numbers, jsonpath_path **path,
                           struct jsonpath_refusal *refusal);
 

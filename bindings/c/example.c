@@ -31,9 +31,10 @@ int main(int count, char **words) {
         fwrite(lines, 1, length, stdout);
     } else if (status == JSONPATH_PATH_REFUSED) {
         uint8_t text[128];
-        jsonpath_message(path, path_length, text, sizeof text, &length);
+        jsonpath_message(path, path_length, JSONPATH_WHOLE_NUMBERS, text, sizeof text, &length);
         fprintf(stderr, "at position %zu, %.*s\n", refusal.position, (int)length, (char *)text);
-        if (jsonpath_hint(path, path_length, text, sizeof text, &length) == JSONPATH_DONE && length) {
+        uint8_t told = jsonpath_hint(path, path_length, JSONPATH_WHOLE_NUMBERS, text, sizeof text, &length);
+        if (told == JSONPATH_DONE && length) {
             fprintf(stderr, "probably meant: %.*s\n", (int)length, (char *)text);
         }
     } else {

@@ -107,6 +107,9 @@ static void answers(uint8_t status, const char *path, const char *document, size
     }
 }
 
+/* The rule of the calls with two texts. */
+enum { WHOLE = JSONPATH_WHOLE_NUMBERS };
+
 /* Holds what each call says of a path that is refused. */
 static void refuses(const char *path, uint32_t kind, size_t position, const char *message) {
     struct answer answer = asked(jsonpath_report, path, "{", 1, ROOM);
@@ -114,13 +117,13 @@ static void refuses(const char *path, uint32_t kind, size_t position, const char
     holds(answer.refusal.kind == kind && answer.refusal.position == position, "refusal", path);
     struct jsonpath_refusal refusal;
     const uint8_t *bytes = (const uint8_t *)path;
-    holds(jsonpath_check(bytes, strlen(path), &refusal) == JSONPATH_PATH_REFUSED, "status of a check", path);
+    holds(jsonpath_check(bytes, strlen(path), WHOLE, &refusal) == JSONPATH_PATH_REFUSED, "status of a check", path);
     holds(refusal.kind == kind && refusal.position == position, "refusal of a check", path);
     size_t length = strlen(message), told = 0;
     memset(answer.out, UNTOUCHED, ROOM);
-    holds(jsonpath_message(bytes, strlen(path), answer.out, length - 1, &told) == JSONPATH_NO_ROOM, "short room", path);
+    holds(jsonpath_message(bytes, strlen(path), WHOLE, answer.out, length - 1, &told) == JSONPATH_NO_ROOM, "short room", path);
     holds(told == length && is_untouched(answer.out, ROOM), "short room is written", path);
-    holds(jsonpath_message(bytes, strlen(path), answer.out, ROOM, &told) == JSONPATH_DONE, "status of a message", path);
+    holds(jsonpath_message(bytes, strlen(path), WHOLE, answer.out, ROOM, &told) == JSONPATH_DONE, "status of a message", path);
     holds(told == length && !memcmp(answer.out, message, length), "message", path);
     holds(is_untouched(answer.out + length, ROOM - length), "message is too long", path);
     free(answer.out);
@@ -133,7 +136,7 @@ static void hints(const char *path, const char *hint) {
     for (int at = 0; at < (length ? 3 : 2); at++) {
         struct answer answer = lent(rooms[at]);
         int fits = length <= rooms[at];
-        uint8_t status = jsonpath_hint(bytes, strlen(path), answer.out, rooms[at], &answer.length);
+        uint8_t status = jsonpath_hint(bytes, strlen(path), WHOLE, answer.out, rooms[at], &answer.length);
         holds(status == (fits ? JSONPATH_DONE : JSONPATH_NO_ROOM), "status of a hint", path);
         holds(answer.length == length, "length of a hint", path);
         holds(!fits || !memcmp(answer.out, hint, length), "hint", path);
@@ -159,23 +162,23 @@ static void texts(void) {
     struct jsonpath_refusal refusal;
     size_t length = 1;
     memset(&refusal, UNTOUCHED, sizeof refusal);
-    holds(jsonpath_check((const uint8_t *)"$..a", 4, &refusal) == JSONPATH_DONE, "accepted", "$..a");
-    holds(jsonpath_check((const uint8_t *)"$\xff", 2, &refusal) == JSONPATH_NOT_UTF8, "not UTF-8", "$\\xff");
+    holds(jsonpath_check((const uint8_t *)"$..a", 4, WHOLE, &refusal) == JSONPATH_DONE, "accepted", "$..a");
+    holds(jsonpath_check((const uint8_t *)"$\xff", 2, WHOLE, &refusal) == JSONPATH_NOT_UTF8, "not UTF-8", "$\\xff");
     holds(is_untouched(&refusal, sizeof refusal), "refusal is written by a check", "$..a");
     uint8_t out[1] = {UNTOUCHED};
-    holds(jsonpath_message((const uint8_t *)"$", 1, out, 0, &length) == JSONPATH_DONE, "message of a path", "$");
+    holds(jsonpath_message((const uint8_t *)"$", 1, WHOLE, out, 0, &length) == JSONPATH_DONE, "message of a path", "$");
     holds(length == 0, "message of a path is not empty", "$");
     length = 7;
-    holds(jsonpath_message((const uint8_t *)"\xff", 1, out, 1, &length) == JSONPATH_NOT_UTF8, "message", "\\xff");
+    holds(jsonpath_message((const uint8_t *)"\xff", 1, WHOLE, out, 1, &length) == JSONPATH_NOT_UTF8, "message", "\\xff");
     holds(length == 7 && out[0] == UNTOUCHED, "message is written", "\\xff");
-    holds(jsonpath_hint((const uint8_t *)"\xff", 1, out, 1, &length) == JSONPATH_NOT_UTF8, "hint", "\\xff");
+    holds(jsonpath_hint((const uint8_t *)"\xff", 1, WHOLE, out, 1, &length) == JSONPATH_NOT_UTF8, "hint", "\\xff");
     holds(length == 7 && out[0] == UNTOUCHED, "hint is written", "\\xff");
     granted = 0;
-    uint8_t status = jsonpath_hint((const uint8_t *)"$..a", 4, out, 1, &length);
+    uint8_t status = jsonpath_hint((const uint8_t *)"$..a", 4, WHOLE, out, 1, &length);
     granted = SIZE_MAX;
     holds(status == JSONPATH_NO_MEMORY, "hint without memory", "$..a");
     holds(length == 7 && out[0] == UNTOUCHED, "hint is written without memory", "$..a");
-    holds(jsonpath_check((const uint8_t *)"$\0", 2, &refusal) == JSONPATH_PATH_REFUSED, "NUL", "$\\0");
+    holds(jsonpath_check((const uint8_t *)"$\0", 2, WHOLE, &refusal) == JSONPATH_PATH_REFUSED, "NUL", "$\\0");
     holds(refusal.kind == JSONPATH_TEXT_AFTER_PATH && refusal.position == 2, "refusal of NUL", "$\\0");
     holds(jsonpath_version() == 702, "version", "0.7.2");
 }
@@ -817,7 +820,7 @@ static void is_refused(const char *path, const char *document, size_t length, ui
         status = jsonpath_document_new((const uint8_t *)document, length, &with.document, &position);
     } else {
         char message[ROOM] = "", printed[2 * ROOM];
-        jsonpath_message((const uint8_t *)path, strlen(path), (uint8_t *)message, ROOM, &position);
+        jsonpath_message((const uint8_t *)path, strlen(path), WHOLE, (uint8_t *)message, ROOM, &position);
         snprintf(printed, sizeof printed, "jsonpath: path: at position %zu, %s\n", refusal.position, message);
         holds(!strcmp(printed, line), "line of a refusal", path);
     }

@@ -139,18 +139,18 @@ struct question {
     jsonpath_document **document;
     jsonpath_nodes **nodes;
     size_t index;
-    uint8_t form;
+    uint8_t form, numbers;
     struct jsonpath_limits limits;
 };
 
 typedef uint8_t writer(const struct question *asked, uint8_t *out, size_t out_length, size_t *length);
 
 static uint8_t write_message(const struct question *asked, uint8_t *out, size_t out_length, size_t *length) {
-    return jsonpath_message(asked->path_text.bytes, asked->path_text.length, out, out_length, length);
+    return jsonpath_message(asked->path_text.bytes, asked->path_text.length, asked->numbers, out, out_length, length);
 }
 
 static uint8_t write_hint(const struct question *asked, uint8_t *out, size_t out_length, size_t *length) {
-    return jsonpath_hint(asked->path_text.bytes, asked->path_text.length, out, out_length, length);
+    return jsonpath_hint(asked->path_text.bytes, asked->path_text.length, asked->numbers, out, out_length, length);
 }
 
 static uint8_t write_path(const struct question *asked, uint8_t *out, size_t out_length, size_t *length) {
@@ -265,11 +265,11 @@ static jsonpath_path *compiled_root(void) {
 }
 
 /* Holds the calls on a path's text to what compiling it answered. */
-static void check_text(struct text text, uint8_t status, struct jsonpath_refusal wanted) {
-    struct question asked = {.path_text = text};
+static void check_text(struct text text, uint8_t numbers, uint8_t status, struct jsonpath_refusal wanted) {
+    struct question asked = {.path_text = text, .numbers = numbers};
     struct jsonpath_refusal refusal = {MARK, UNTOUCHED};
     struct text message, hint;
-    HOLD(jsonpath_check(text.bytes, text.length, &refusal) == status);
+    HOLD(jsonpath_check(text.bytes, text.length, numbers, &refusal) == status);
     HOLD(refusal.kind == wanted.kind && refusal.position == wanted.position);
     uint8_t said = status == JSONPATH_NOT_UTF8 ? status : JSONPATH_DONE;
     HOLD(ask_all(write_message, &asked, &message) == said && message.length <= 100);
@@ -571,7 +571,8 @@ static void check_no_document(struct question asked) {
     size_t count = UNTOUCHED;
     uint8_t exists = MARK;
     jsonpath_nodes *nodes = NULL;
-    hold_refused(write_report, &asked, JSONPATH_DOCUMENT_REFUSED);
+    /* The call with two texts takes whole numbers, by which the path may be none. */
+    if (asked.numbers == JSONPATH_WHOLE_NUMBERS) hold_refused(write_report, &asked, JSONPATH_DOCUMENT_REFUSED);
     hold_refused(write_lines, &asked, JSONPATH_EMPTY_HANDLE);
     HOLD(jsonpath_count(asked.path, asked.document, &count) == JSONPATH_EMPTY_HANDLE);
     HOLD(jsonpath_exists(asked.path, asked.document, &exists) == JSONPATH_EMPTY_HANDLE);
@@ -584,8 +585,9 @@ static void check_path(struct question asked, uint8_t numbers) {
     struct jsonpath_refusal refusal;
     jsonpath_path *path = NULL;
     asked.path = &path;
+    asked.numbers = numbers;
     uint8_t status = compile(asked.path_text, numbers, &path, &refusal);
-    check_text(asked.path_text, status, refusal);
+    check_text(asked.path_text, numbers, status, refusal);
     if (status == JSONPATH_PATH_REFUSED) show_refusal(asked.path_text, refusal);
     if (status != JSONPATH_DONE) {
         check_refused(asked.path_text, status, &path);

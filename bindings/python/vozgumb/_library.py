@@ -43,8 +43,8 @@ class NodeFields(ctypes.Structure):
 TEXT, OUT, HANDLE = (c_char_p, c_size_t), (c_char_p, c_size_t, POINTER(c_size_t)), POINTER(c_void_p)
 # The parameters of each call that answers a status.
 PARAMETERS: dict[str, tuple[Any, ...]] = {
-    "message": (*TEXT, *OUT),
-    "hint": (*TEXT, *OUT),
+    "message": (*TEXT, c_uint8, *OUT),
+    "hint": (*TEXT, c_uint8, *OUT),
     "path_new": (*TEXT, c_uint8, HANDLE, POINTER(Refusal)),
     "path_text": (HANDLE, *OUT),
     "document_new": (*TEXT, HANDLE, POINTER(c_size_t)),

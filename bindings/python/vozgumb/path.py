@@ -79,7 +79,7 @@ class JsonPath:
         arguments = NUMBERS[numbers], self._handle.pointer, refusal
         status = LIBRARY.jsonpath_path_new(data, len(data), *arguments)
         if status == PATH_REFUSED:
-            _refuse(text, data, refusal)
+            _refuse(text, data, NUMBERS[numbers], refusal)
         check(status)
         out = Out(len(data) + SMALL_ROOM)
         check(out.status(LIBRARY.jsonpath_path_text, self._handle.pointer))
@@ -178,11 +178,11 @@ def _utf8(text: str) -> bytes:
         raise PathError(text, PathErrorKind.NOT_UTF8, position, "not UTF-8") from error
 
 
-def _refuse(text: str, data: bytes, refusal: Refusal) -> NoReturn:
-    """Raises the refusal of a path's text."""
+def _refuse(text: str, data: bytes, numbers: int, refusal: Refusal) -> NoReturn:
+    """Raises the refusal of a path's text by a rule for numbers."""
     message, hint = Out(SMALL_ROOM), Out(SMALL_ROOM)
-    check(message.status(LIBRARY.jsonpath_message, data, len(data)))
-    check(hint.status(LIBRARY.jsonpath_hint, data, len(data)))
+    check(message.status(LIBRARY.jsonpath_message, data, len(data), numbers))
+    check(hint.status(LIBRARY.jsonpath_hint, data, len(data), numbers))
     raise PathError(text, refusal.kind, refusal.position, message.text(), hint.text() or None)
 
 

@@ -114,10 +114,10 @@ pub struct ParseError {
 const LONGEST_WORDS: usize = 100;
 
 impl ParseError {
-    /// The error of a path that is refused so.
-    pub(crate) fn of(path: &str, refusal: Refusal) -> ParseError {
-        let message = written(LONGEST_WORDS, |out| ffi::message(path, out));
-        let hint = written(LONGEST_WORDS, |out| ffi::hint(path, out));
+    /// The error of a path that is refused so by a rule for numbers.
+    pub(crate) fn of(path: &str, numbers: u8, refusal: Refusal) -> ParseError {
+        let message = written(LONGEST_WORDS, |out| ffi::message(path, numbers, out));
+        let hint = written(LONGEST_WORDS, |out| ffi::hint(path, numbers, out));
         let (Ok((message, _)), Ok((hint, _))) = (message, hint) else {
             return ParseError::no_memory();
         };

@@ -168,6 +168,7 @@ extern "C" {
     fn jsonpath_message(
         path: *const c_uchar,
         path_length: usize,
+        numbers: u8,
         out: *mut c_uchar,
         out_length: usize,
         length: *mut usize,
@@ -175,6 +176,7 @@ extern "C" {
     fn jsonpath_hint(
         path: *const c_uchar,
         path_length: usize,
+        numbers: u8,
         out: *mut c_uchar,
         out_length: usize,
         length: *mut usize,
@@ -289,19 +291,19 @@ fn write(
     (status, length)
 }
 
-/// Writes the message of a path's refusal.
-pub(crate) fn message(path: &str, out: &mut Vec<u8>) -> (Status, usize) {
+/// Writes the message of a path's refusal by a rule for numbers.
+pub(crate) fn message(path: &str, numbers: u8, out: &mut Vec<u8>) -> (Status, usize) {
     write(out, |bytes, room, length| {
         // SAFETY: The text is read, the vector and its length are written.
-        unsafe { jsonpath_message(path.as_ptr(), path.len(), bytes, room, length) }
+        unsafe { jsonpath_message(path.as_ptr(), path.len(), numbers, bytes, room, length) }
     })
 }
 
-/// Writes what was probably meant by a path that is refused, or nothing.
-pub(crate) fn hint(path: &str, out: &mut Vec<u8>) -> (Status, usize) {
+/// Writes what was probably meant by a path that is refused by a rule for numbers, or nothing.
+pub(crate) fn hint(path: &str, numbers: u8, out: &mut Vec<u8>) -> (Status, usize) {
     write(out, |bytes, room, length| {
         // SAFETY: The text is read, the vector and its length are written.
-        unsafe { jsonpath_hint(path.as_ptr(), path.len(), bytes, room, length) }
+        unsafe { jsonpath_hint(path.as_ptr(), path.len(), numbers, bytes, room, length) }
     })
 }
 

@@ -87,7 +87,7 @@ impl JsonPath {
     pub fn parse_with(text: &str, numbers: Numbers) -> Result<JsonPath, ParseError> {
         let handle =
             PathHandle::compile(text, numbers as u8).map_err(|(status, refusal)| match status {
-                Status::PathRefused => ParseError::of(text, refusal),
+                Status::PathRefused => ParseError::of(text, numbers as u8, refusal),
                 _ => ParseError::no_memory(),
             })?;
         let (printed, _) =

@@ -6,15 +6,13 @@
 #![tactic(auto)]
 
 ghost use Rattle.std.specs.Prelude.{◌≤◌, ◌+◌, ◌*◌, length, IfOk};
-ghost use Rattle.serde_json_path_functions.specs.Functions.{Fits};
+ghost use Rattle.serde_json_path_functions.specs.Functions.{Fits, whole_numbers};
 ghost use Rattle.serde_json_path_functions.specs.Patterns.{before_builtin, builtin_functions};
-ghost use Rattle.serde_json_path_parser.specs.Parse.{IsParseOf};
-ghost use Rattle.serde_json_path_parser.specs.Reported.{ReportsFirst};
-ghost use Rattle.serde_json_path.specs.Paths.{path_signatures, path_view};
+ghost use Rattle.serde_json_path.specs.Paths.{IsRead, path_signatures};
 
 use serde_json::Value;
 use serde_json_path::functions::{Builtin, CachedPatterns, PatternStore};
-use serde_json_path::{JsonPath, ParseError, QueryError, TextSource, parse_source};
+use serde_json_path::{JsonPath, Numbers, ParseError, QueryError, TextSource, parse_source};
 use std::alloc::{AllocError, Global};
 use std::io;
 use thiserror::Error;
@@ -46,17 +44,12 @@ enum Failure {
 /// Parses a path, and takes the looks at its text off those that are left.
 fn parse(alloc: Global, text: &str, looks: &mut u128) -> Result<JsonPath, ParseError>
     requires { 32 * (length text.now + 1) ≤ looks.old }
-    ensures parse { IsParseOf path_view
-        (before_builtin builtin_functions).signature text.now result }
-    ensures reported { ReportsFirst path_view
-        (before_builtin builtin_functions).signature text.now result }
-    ensures fits { IfOk result (λ path.
-        Fits (before_builtin builtin_functions) (path_signatures path)) }
+    ensures read { IsRead whole_numbers (before_builtin builtin_functions) text.now result }
     ensures falls { looks.new ≤ looks.old }
     ensures spends { looks.old ≤ looks.new + 32 * (length text.now + 1) }
 {
     let mut source = TextSource::new(text);
-    let parsed = parse_source(alloc, &mut source, &Builtin);
+    let parsed = parse_source(alloc, &mut source, &Builtin, Numbers::Whole);
     *looks -= source.looks();
     parsed
 }

@@ -27,7 +27,7 @@ struct PathReading {
     several: bool,
     /// Whether a refusal has a hint.
     hints: bool,
-    /// How the comparisons of paths take numbers.
+    /// The rule for numbers, by which paths are read and compare.
     numbers: Numbers,
 }
 
@@ -48,11 +48,8 @@ impl PathReading {
         number: usize,
         streams: &mut Streams<'_, W, E>,
     ) -> Result<Option<AskedPath>, Stop> {
-        let e = match JsonPath::parse(self.alloc, text) {
-            Ok(path) => {
-                let path = path.with_numbers(self.numbers);
-                return Ok(Some(AskedPath { path }));
-            }
+        let e = match JsonPath::parse_by(self.alloc, text, self.numbers) {
+            Ok(path) => return Ok(Some(AskedPath { path })),
             Err(e) => e,
         };
         if e.kind() == ParseErrorKind::NoMemory {
@@ -107,7 +104,7 @@ fn paths_text<I: Inputs, W: Write, E: Write>(
     }
 }
 
-/// How comparisons take numbers, as the options say.
+/// The rule for numbers, as the options say.
 fn numbers_of(options: &Options<'_>) -> Numbers {
     if options.whole_numbers {
         Numbers::Whole

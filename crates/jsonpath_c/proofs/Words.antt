@@ -1,8 +1,8 @@
 -- The words of definitions and lemmas that proofs cite, from one place.
-pub use Rattle.jsonpath_c.specs.Exports.{IsReportedWith, IsTold, hint_text}
+pub use Rattle.jsonpath_c.specs.Exports.{IsRefusedWith, IsTold, hint_text, rule_of}
 pub use Rattle.jsonpath_c.specs.Handles.{AreFirstLines, AreFirstNodes, IsBeyond, IsNodeBeyond, all_name_bytes, name_bytes}
 pub use Rattle.jsonpath_c.specs.Inside.{AreWithin, FilledLines, FilledList, HasNoRoomFor, IsLeftAfter, TookLines, TookList}
-pub use Rattle.jsonpath_c.specs.Words.{CallsByPatternOn, Form, IsLine, IsLineOfEach, IsNoPath, IsReportIn, IsUtf8, KeptNode, Located, builtin_functions, compact_lines, first_places, kept, located, message_of, rest}
+pub use Rattle.jsonpath_c.specs.Words.{CallsByPatternOn, Form, IsLine, IsLineOfEach, IsNoPath, IsReportIn, IsUtf8, KeptNode, Located, builtin_functions, compact_lines, first_places, kept, located, message_of, rest, whole_numbers}
 pub use Rattle.jsonpath_c.specs.declared.bounded.BoundedLines.{BoundedLines}
 pub use Rattle.jsonpath_c.specs.declared.bounded_list.BoundedList.{BoundedList}
 pub use Rattle.jsonpath_c.specs.declared.limits.Limits.{Limits}

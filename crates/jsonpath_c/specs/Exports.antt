@@ -1,6 +1,6 @@
 -- What the exports answer, and what they write.
-use Rattle.std.specs.Prelude.{◌≡◌, ◌≢◌, ◌<◌, ◌≤◌, ◌⊎◌, ◌↔◌, ℕ, List, [], ◌++◌, drop, length, Err}
-use Rattle.jsonpath_c.specs.Words.{unwrap_or, IsUtf8, chars, Data, path_view, builtin_functions, IsAccepted, kind_of, position_of, IsParseOf, ReportsFirst, ParseError, ParseErrorKind, ExpectedRoot, BadMemberName, ExpectedClosingBracket, ExpectedEndingQuote, BadEscape, ControlCharacter, ExpectedSelector, IntegerOutOfRange, ExponentOrEmptyFraction, NumberOutOfRange, ExpectedExpression, ExpectedClosingParenthesis, ExpectedComparisonOperator, NonSingularQuery, UndefinedFunction, WrongNumberOfArguments, WrongArgumentType, WrongReturnType, NestedTooDeep, TextAfterPath, FractionTooLong, NoMemory, Query, hint_of, ReadsAs, Form, IsNoPath, CallsByPatternOn, IsReportIn}
+use Rattle.std.specs.Prelude.{◌≡◌, ◌≢◌, ◌<◌, ◌≤◌, ◌⊎◌, ◌↔◌, ℕ, ◌==◌, if◌then◌else◌, List, [], ◌++◌, drop, length, Err}
+use Rattle.jsonpath_c.specs.Words.{Numbers, all_numbers, whole_numbers, unwrap_or, IsUtf8, chars, Data, builtin_functions, IsAccepted, kind_of, position_of, IsRead, ParseError, ParseErrorKind, ExpectedRoot, BadMemberName, ExpectedClosingBracket, ExpectedEndingQuote, BadEscape, ControlCharacter, ExpectedSelector, IntegerOutOfRange, ExponentOrEmptyFraction, NumberOutOfRange, ExpectedExpression, ExpectedClosingParenthesis, ExpectedComparisonOperator, NonSingularQuery, UndefinedFunction, WrongNumberOfArguments, WrongArgumentType, WrongReturnType, NestedTooDeep, TextAfterPath, FractionTooLong, NoMemory, Query, hint_of, ReadsAs, Form, IsNoPath, CallsByPatternOn, IsReportIn}
 use Rattle.jsonpath_c.specs.declared.refusal.Refusal.{Refusal}
 
 -- ---- texts
@@ -22,9 +22,13 @@ pub record AnswersText (Is : List ℕ → Type 0) (old_out new_out : List ℕ) (
 
 -- ---- paths
 
--- a text is a path under the built-in functions
-abbrev pub IsPath : List ℕ → Type 0
-IsPath path = (q : Query) × IsAccepted builtin_functions.signature (chars path) q
+-- the rule for numbers that a number names: 0 is whole numbers
+abbrev pub rule_of : ℕ → Numbers
+rule_of number = if number == 0 then whole_numbers else all_numbers
+
+-- by a rule for numbers a text is a path under the built-in functions
+abbrev pub IsPath : Numbers → List ℕ → Type 0
+IsPath rule path = (q : Query) × IsAccepted rule builtin_functions.signature (chars path) q
 
 -- the number of a kind of refusal; want of memory is no refusal
 abbrev pub number_of : ParseErrorKind → ℕ
@@ -51,43 +55,31 @@ number_of TextAfterPath = 20
 number_of FractionTooLong = 21
 number_of NoMemory = 0
 
--- what the parse answers of a text, under the built-in functions, is this refusal, which is not for want of memory
-abbrev pub IsRefusedWith : List ℕ → ParseError → Type 0
-IsRefusedWith path e = IsParseOf path_view builtin_functions.signature path (Err e) × (kind_of e ≢ NoMemory)
-
--- and is the refusal that the parse reports
-abbrev pub IsReportedWith : List ℕ → ParseError → Type 0
-IsReportedWith path e = IsRefusedWith path e × ReportsFirst path_view builtin_functions.signature path (Err e)
+-- a text is read as a path with this refusal, under the built-in functions, and not for want of memory
+abbrev pub IsRefusedWith : Numbers → List ℕ → ParseError → Type 0
+IsRefusedWith rule path e = IsRead rule builtin_functions path (Err e) × (kind_of e ≢ NoMemory)
 
 -- what was probably meant by a text that is refused so, or an empty text where no slip is known
 abbrev pub hint_text : List ℕ → ParseError → List ℕ
 hint_text path e = unwrap_or (hint_of (kind_of e) (position_of e) path) []
 
--- a text is refused as a path with the kind and the position of an error
-abbrev pub IsRefusalBy : (List ℕ → ParseError → Type 0) → List ℕ → Refusal → Type 0
-IsRefusalBy IsRefusedBy path refusal =
-    (e : ParseError) × IsRefusedBy path e × (refusal.kind ≡ number_of (kind_of e)) × (refusal.position ≡ position_of e)
-
 -- a text is refused as a path, and this says why and where
-abbrev pub IsRefusalOf : List ℕ → Refusal → Type 0
-IsRefusalOf path refusal = IsRefusalBy IsRefusedWith path refusal
+abbrev pub IsRefusalOf : Numbers → List ℕ → Refusal → Type 0
+IsRefusalOf rule path refusal = (e : ParseError)
+    × IsRefusedWith rule path e × (refusal.kind ≡ number_of (kind_of e)) × (refusal.position ≡ position_of e)
 
--- and it is the refusal that the parse reports
-abbrev pub IsReportedRefusalOf : List ℕ → Refusal → Type 0
-IsReportedRefusalOf path refusal = IsRefusalBy IsReportedWith path refusal
-
--- What a call that reads a path answers, with what holds of 0, and with `refusal` before and after.
-pub record AnswersPath (Done : Type 0) (path : List ℕ) (old_refusal new_refusal : Refusal) (status : ℕ) : Type 0 where
+-- What a call that reads a path by a rule for numbers answers, with what holds of 0, and with `refusal` before and after.
+pub record AnswersPath (Done : Type 0) (rule : Numbers) (path : List ℕ) (old_refusal new_refusal : Refusal) (status : ℕ) : Type 0 where
   pub statuses : (status ≡ 0) ⊎ (status ≡ 1) ⊎ (status ≡ 4) ⊎ (status ≡ 6)
   pub done : status ≡ 0 → Done
-  pub refused : status ≡ 1 → IsRefusalOf path new_refusal
-  pub reported : status ≡ 1 → IsReportedRefusalOf path new_refusal
+  pub refused : status ≡ 1 → IsRefusalOf rule path new_refusal
   pub not_utf8 : (status ≡ 6) ↔ (IsUtf8 path → ⊥)
   pub kept_refusal : status ≢ 1 → new_refusal ≡ old_refusal
 
 -- what is told of a text: of a refusal this, and of a path nothing
-abbrev pub IsTold : (ParseError → List ℕ) → List ℕ → List ℕ → Type 0
-IsTold told_of path text = (IsPath path × (text ≡ [])) ⊎ ((e : ParseError) × IsReportedWith path e × (text ≡ told_of e))
+abbrev pub IsTold : (ParseError → List ℕ) → Numbers → List ℕ → List ℕ → Type 0
+IsTold told_of rule path text =
+    (IsPath rule path × (text ≡ [])) ⊎ ((e : ParseError) × IsRefusedWith rule path e × (text ≡ told_of e))
 
 -- ---- lines
 
@@ -96,8 +88,7 @@ pub record AnswersLines (form : Form) (path document old_out new_out : List ℕ)
   pub statuses : status ≤ 6
   pub done : status ≡ 0 → (text : List ℕ) × IsReportIn form builtin_functions path document text × IsPut text old_out new_out new_size
   pub no_room : status ≡ 5 → (text : List ℕ) × IsReportIn form builtin_functions path document text × FindsNoRoom text old_out new_size
-  pub path_refused : status ≡ 1 → IsRefusalOf path new_refusal
-  pub path_reported : status ≡ 1 → IsReportedRefusalOf path new_refusal
+  pub path_refused : status ≡ 1 → IsRefusalOf whole_numbers path new_refusal
   pub path_first : IsUtf8 path → IsNoPath builtin_functions path → (status ≡ 1) ⊎ (status ≡ 4)
   pub not_json : status ≡ 2 → (d : Data) → ReadsAs document d → ⊥
   pub pattern_refused : status ≡ 3 → CallsByPatternOn builtin_functions path document

@@ -1,7 +1,7 @@
 -- What handles hold, and what calls answer of it.
 use Rattle.std.specs.Prelude.{◌≡◌, ◌≢◌, ◌==◌, ◌≤◌, ◌<◌, ◌+◌, ◌++◌, ◌⊎◌, ◌↔◌, if◌then◌else◌, ℕ, pos, Bool, true, false, List, [], ◌∷◌, Option, None, length, map, slice_get}
-use Rattle.jsonpath_c.specs.Words.{float_zero, sum_by, MatchOption, chars, Data, view, path_rule, path_tree, with_rule_of, CallsByPattern, Selects, FunctionSet, Numbers, whole_numbers, all_numbers, builtin_functions, first_places, Located, Step, by_name, by_position, at, normal, pointer, KeptNode, kept, location_of, NodeInfo, Null, False, True, Integer, Unsigned, Double, String, Array, Object, IsAccepted, IsLine, IsLineOfEach, compact_lines, Form, LocationAndValue, Location, Value}
-use Rattle.jsonpath_c.specs.Exports.{IsPut, FindsNoRoom}
+use Rattle.jsonpath_c.specs.Words.{float_zero, sum_by, MatchOption, chars, Data, view, path_rule, path_tree, with_rule_of, CallsByPattern, Selects, FunctionSet, builtin_functions, first_places, Located, Step, by_name, by_position, at, normal, pointer, KeptNode, kept, location_of, NodeInfo, Null, False, True, Integer, Unsigned, Double, String, Array, Object, IsAccepted, IsLine, IsLineOfEach, compact_lines, Form, LocationAndValue, Location, Value}
+use Rattle.jsonpath_c.specs.Exports.{IsPut, FindsNoRoom, rule_of}
 use Rattle.jsonpath_c.specs.declared.compiled.Compiled.{Compiled}
 use Rattle.jsonpath_c.specs.declared.handle.document.Document.{Document}
 use Rattle.jsonpath_c.specs.declared.handle.nodes.Nodes.{Nodes}
@@ -29,10 +29,6 @@ pub record AreLent {A B : Type 0} (old new : Option A) (old_other new_other : Op
 
 -- ---- paths
 
--- the rule for numbers that a number names: 0 is whole numbers
-abbrev pub rule_of : ℕ → Numbers
-rule_of number = if number == 0 then whole_numbers else all_numbers
-
 -- the functions under which a compiled path runs
 abbrev pub functions_of : Compiled → FunctionSet
 functions_of c = with_rule_of c.path builtin_functions
@@ -40,7 +36,8 @@ functions_of c = with_rule_of c.path builtin_functions
 -- a path's handle holds the path that a text is, by the rule that a number names
 abbrev pub HoldsPathOf : List ℕ → ℕ → Option Compiled → Type 0
 HoldsPathOf text numbers handle = MatchOption handle ⊥ (λ c.
-    IsAccepted builtin_functions.signature (chars text) (path_tree c.path) × (path_rule c.path ≡ rule_of numbers))
+    IsAccepted (rule_of numbers) builtin_functions.signature (chars text) (path_tree c.path)
+    × (path_rule c.path ≡ rule_of numbers))
 
 -- ---- paths and documents
 

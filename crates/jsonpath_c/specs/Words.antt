@@ -11,7 +11,7 @@ pub use Rattle.nullable_box.specs.Held.{held}
 pub use Rattle.serde_json.specs.Data.{Data, string}
 pub use Rattle.serde_json.specs.View.{view}
 pub use Rattle.serde_json_path.specs.Fitting.{FitsBuiltin, FitsBuiltin-prop}
-pub use Rattle.serde_json_path.specs.Paths.{path_rule, path_signatures, path_tree, path_view, with_rule_of}
+pub use Rattle.serde_json_path.specs.Paths.{IsRead, path_rule, path_signatures, path_tree, with_rule_of}
 pub use Rattle.serde_json_path_core.specs.PatternCalls.{CallsByPattern}
 pub use Rattle.serde_json_path_core.specs.Selects.{OnlyMemoryOrPattern, Selects}
 pub use Rattle.serde_json_path_core.specs.Walks.{document_of, query_of, rest, set_of}
@@ -26,8 +26,6 @@ pub use Rattle.serde_json_path_nodes.specs.Text.{normal, pointer}
 pub use Rattle.serde_json_path_nodes.specs.Views.{located}
 pub use Rattle.serde_json_path_parser.specs.Accepted.{IsAccepted}
 pub use Rattle.serde_json_path_parser.specs.Errors.{kind_of, message_of, position_of}
-pub use Rattle.serde_json_path_parser.specs.Parse.{IsParseOf}
-pub use Rattle.serde_json_path_parser.specs.Reported.{ReportsFirst}
 pub use Rattle.serde_json_path_parser.specs.declared.error.ParseError.{ParseError}
 pub use Rattle.serde_json_path_parser.specs.declared.error.ParseErrorKind.{ParseErrorKind}
 pub use Rattle.serde_json_path_parser.specs.declared.error.ParseErrorKind.TheVariants.{BadEscape, BadMemberName, ControlCharacter, ExpectedClosingBracket, ExpectedClosingParenthesis, ExpectedComparisonOperator, ExpectedEndingQuote, ExpectedExpression, ExpectedRoot, ExpectedSelector, ExponentOrEmptyFraction, FractionTooLong, IntegerOutOfRange, NestedTooDeep, NoMemory, NonSingularQuery, NumberOutOfRange, TextAfterPath, UndefinedFunction, WrongArgumentType, WrongNumberOfArguments, WrongReturnType}

@@ -2,8 +2,8 @@
 
 ghost use Rattle.std.specs.Prelude.{◌≡◌, ◌≢◌, ◌⊎◌, None};
 ghost use Rattle.jsonpath_c.specs.Words.{MatchOption, path_tree, numbers_view, query_text};
-ghost use Rattle.jsonpath_c.specs.Exports.{AnswersPath, AnswersText};
-ghost use Rattle.jsonpath_c.specs.Handles.{AreLent, BothHold, HoldsPathOf, IsLent, rule_of};
+ghost use Rattle.jsonpath_c.specs.Exports.{AnswersPath, AnswersText, rule_of};
+ghost use Rattle.jsonpath_c.specs.Handles.{AreLent, BothHold, HoldsPathOf, IsLent};
 
 use crate::compiled::Compiled;
 use crate::handle::path::PathHandle;
@@ -15,7 +15,7 @@ use serde_json_path::{JsonPath, Numbers};
 use std::alloc::Global;
 
 /// The rule for numbers that a number names.
-fn rule(numbers: u8) -> Numbers
+pub(crate) fn rule(numbers: u8) -> Numbers
     ensures { numbers_view result ≡ rule_of numbers }
 {
     match numbers {
@@ -24,7 +24,7 @@ fn rule(numbers: u8) -> Numbers
     }
 }
 
-/// Compiles a path under the built-in functions, whose comparisons take whole numbers where `numbers` is 0, and else all: 0 with
+/// Compiles a path under the built-in functions, by whole numbers where `numbers` is 0, and else by all: 0 with
 /// the path in its handle, in the place of what was there; 1 with the refusal, 4 without memory, 6 where it is not UTF-8.
 #[unsafe(no_mangle)]
 pub extern "C" fn jsonpath_path_new(
@@ -34,15 +34,15 @@ pub extern "C" fn jsonpath_path_new(
     path: &mut PathHandle,
     refusal: &mut Refusal,
 ) -> u8
-    ensures path { AnswersPath (HoldsPathOf text.now numbers path.new.value) text.now refusal.old
-        refusal.new result }
+    ensures path { AnswersPath (HoldsPathOf text.now numbers path.new.value) (rule_of numbers)
+        text.now refusal.old refusal.new result }
     ensures kept { result ≢ 0 → path.new.value ≡ path.old.value }
 {
     let Ok(text) = str::from_utf8(text) else {
         return NOT_UTF8;
     };
-    let parsed = match JsonPath::parse(alloc, text) {
-        Ok(parsed) => parsed.with_numbers(rule(numbers)),
+    let parsed = match JsonPath::parse_by(alloc, text, rule(numbers)) {
+        Ok(parsed) => parsed,
         Err(e) => return put_refusal(&e, refusal),
     };
     match Box::new(alloc, Compiled::new(parsed)) {

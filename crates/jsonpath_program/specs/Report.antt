@@ -33,13 +33,13 @@ refusal_of _ = refusal.NotJson
 
 -- the text is no path under the set: it is accepted with no tree
 abbrev pub IsNoPath : FunctionSet → List ℕ → Type 0
-IsNoPath F path = (q : tree.Query) → IsAccepted F.signature (chars path) q → ⊥
+IsNoPath F path = (q : tree.Query) → IsAccepted whole_numbers F.signature (chars path) q → ⊥
 
 -- the text is a path of which some call goes by a pattern that `regex` reads, on a document that the bytes read as;
 -- comparisons take whole numbers
 abbrev pub CallsByPatternOn : FunctionSet → List ℕ → List ℕ → Type 0
 CallsByPatternOn F path document =
-    (q : tree.Query) × (d : Data) × IsAccepted F.signature (chars path) q × ReadsAs document d × CallsByPattern (with_rule whole_numbers F) d q
+    (q : tree.Query) × (d : Data) × IsAccepted whole_numbers F.signature (chars path) q × ReadsAs document d × CallsByPattern (with_rule whole_numbers F) d q
 
 -- The text is what a form shows, compactly, of the path's result on the document, under the set's functions. Comparisons
 -- take whole numbers.
@@ -47,7 +47,7 @@ pub record IsReportIn (form : Form) (F : FunctionSet) (path document text : List
   pub query : tree.Query
   pub value : Data
   pub nodes : List Located
-  pub accepted : IsAccepted F.signature (chars path) query
+  pub accepted : IsAccepted whole_numbers F.signature (chars path) query
   pub reads : ReadsAs document value
   pub selects : Selects (with_rule whole_numbers F) query value nodes
   pub lines : AreLines (compact_lines form) [] nodes text
@@ -60,8 +60,8 @@ IsReportOf = IsReportIn LocationAndValue
 pub record IsReport (form : Form) (F : FunctionSet) (path document : List ℕ) (result : Result (String Global) ReportError) : Type 0 where
   pub lines : IfOk result (λ text. IsReportIn form F path document (string_bytes text))
   -- a path is refused as the parse refuses it, and before the document is looked at
-  pub path_refused : (e : ParseError) → result ≡ Err (Path e) → IsParseOf path_view F.signature path (Err e)
-  pub path_reported : (e : ParseError) → result ≡ Err (Path e) → ReportsFirst path_view F.signature path (Err e)
+  pub path_refused : (e : ParseError) → result ≡ Err (Path e) → IsParseOf path_view whole_numbers F.signature path (Err e)
+  pub path_reported : (e : ParseError) → result ≡ Err (Path e) → ReportsFirst path_view whole_numbers F.signature path (Err e)
   pub path_first : IsNoPath F path → (e : ParseError) × (result ≡ Err (Path e))
   pub not_json : result ≡ Err (Document refusal.NotJson) → (d : Data) → ReadsAs document d → ⊥
   pub pattern_refused : result ≡ Err (Query Pattern) → CallsByPatternOn F path document

@@ -4,7 +4,7 @@ ghost use Rattle.std.specs.Prelude.{◌≡◌, [], List, IfOk, string_bytes};
 ghost use Rattle.serde_json.specs.Data.{Data};
 ghost use Rattle.serde_json.specs.View.{view};
 ghost use Rattle.serde_json_path_nodes.specs.Location.{Located};
-ghost use Rattle.serde_json_path_functions.specs.Functions.{Fits, with_rule};
+ghost use Rattle.serde_json_path_functions.specs.Functions.{Fits, whole_numbers, with_rule};
 ghost use Rattle.serde_json_path_functions.specs.Patterns.{before_builtin};
 ghost use Rattle.serde_json_path_core.specs.Selects.{OnlyMemoryOrPattern, Selects};
 ghost use Rattle.serde_json_path.specs.Paths.{path_view};
@@ -20,7 +20,7 @@ use jsonpath_document::{DocumentError as ReadError, DocumentFault, read_document
 use jsonpath_lines::{Form, Output, write_nodes};
 use serde_json::Value;
 use serde_json_path::functions::{Both, CachedPatterns, Functions, PatternStore};
-use serde_json_path::{ParseError, QueryError};
+use serde_json_path::{Numbers, ParseError, QueryError};
 use serde_json_path_core::walk;
 use serde_json_path_parser::{TextSource, parse};
 use serde_json_path_syntax::Checked;
@@ -173,9 +173,9 @@ pub fn report_under<F: Functions + Drop>(
 
     // A path is refused as the parse refuses it, and before the document is looked at.
     ensures path_refused { (e : path_error.ParseError) → result ≡ Err (ReportError.Path e)
-        → IsParseOf path_view (F.set functions).signature path.now (Err e) }
+        → IsParseOf path_view whole_numbers (F.set functions).signature path.now (Err e) }
     ensures path_reported { (e : path_error.ParseError) → result ≡ Err (ReportError.Path e)
-        → ReportsFirst path_view (F.set functions).signature path.now (Err e) }
+        → ReportsFirst path_view whole_numbers (F.set functions).signature path.now (Err e) }
     ensures path_first { IsNoPath (F.set functions) path.now
         → (e : path_error.ParseError) × (result ≡ Err (ReportError.Path e)) }
 
@@ -189,7 +189,8 @@ pub fn report_under<F: Functions + Drop>(
         → (d : Data) × ReadsAs document.now d }
 {
     let mut source = TextSource::new(path);
-    let path = parse(alloc, &mut source, &functions).map_err(ReportError::Path)?;
+    let parsed = parse(alloc, &mut source, &functions, Numbers::Whole);
+    let path = parsed.map_err(ReportError::Path)?;
     let text = room(alloc);
     let value = self::document(alloc, document).map_err(ReportError::Document)?;
     let text = selected(alloc, form, text, &path, &value, functions).map_err(ReportError::Query)?;

@@ -2,6 +2,7 @@
 
 ghost use Rattle.std.specs.Prelude.{◌≡◌, ◌≢◌, ◌↔◌, ◌⊎◌, ℕ, List, length, codes, OnOk};
 ghost use Rattle.std.specs.Io.KnownBytes.{Appends, IsAtEnd};
+ghost use Rattle.serde_json_path_functions.specs.Functions.{whole_numbers};
 ghost use Rattle.serde_json_path_functions.specs.Patterns.{builtin_functions};
 ghost use Rattle.serde_json_path.specs.Paths.{path_view};
 ghost use Rattle.serde_json_path_parser.specs.Errors.{kind_of, position_of};
@@ -184,8 +185,8 @@ pub fn run<R: Read, W: Write, E: Write>(
         (codes "usage: jsonpath PATH\n") }
     ensures path_reported { result ≡ 1 → (path : List ℕ) × IsOneWord words.now path
         × ((e : path_error.ParseError)
-        × IsParseOf path_view builtin_functions.signature path (Err e)
-        × ReportsFirst path_view builtin_functions.signature path (Err e)
+        × IsParseOf path_view whole_numbers builtin_functions.signature path (Err e)
+        × ReportsFirst path_view whole_numbers builtin_functions.signature path (Err e)
         × AppendsBeginning (E.contents err.old) (E.contents err.new)
         (line_of (ReportError.Path e))) }
     ensures path_first { (path : List ℕ) → IsOneWord words.now path

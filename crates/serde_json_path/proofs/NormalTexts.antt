@@ -9,7 +9,7 @@ use Rattle.serde_json_path_syntax.specs.Depth.{segments_depth}
 use Rattle.serde_json_path_core.specs.Meaning.{IsResult}
 use Rattle.serde_json_path_core.specs.Inside.Computed.{chosen, itself, placed, results_from}
 use Rattle.serde_json_path_core.proofs.Meaning.Derived.{computed_result}
-use Rattle.serde_json_path_functions.specs.Functions.{Signature, FunctionSet}
+use Rattle.serde_json_path_functions.specs.Functions.{Numbers, Signature, FunctionSet}
 use Rattle.serde_json_path_syntax.specs.Calls.{calls_in_segments}
 use Rattle.serde_json_path.specs.Laws.{selector_to, segments_to, ArePositionsWritten}
 use Rattle.std.specs.Str.{chars}
@@ -58,9 +58,9 @@ node_selected F top node e =
 -- ---- the normalised path of a location is accepted, with the tree that goes down its steps
 
 -- a bracket with a selector alone, and more brackets
-module _ (s : Step) (bytes : List ℕ) (segs : Segments) (more : List ℕ) where
-  bracket_spelt : Spelt (ReadsSelector (selector_to s)) bytes → Spelt (ReadSegments segs) more
-      → Spelt (ReadSegments (segment child (long_hand (selector (selector_to s) no_selectors)) segs)) ((codes "[" ++ bytes ++ codes "]") ++ more)
+module _ (rule : Numbers) (s : Step) (bytes : List ℕ) (segs : Segments) (more : List ℕ) where
+  bracket_spelt : Spelt (ReadsSelector rule (selector_to s)) bytes → Spelt (ReadSegments rule segs) more
+      → Spelt (ReadSegments rule (segment child (long_hand (selector (selector_to s) no_selectors)) segs)) ((codes "[" ++ bytes ++ codes "]") ++ more)
   bracket_spelt x y =
       let bracket = codes "[" ++ x.characters ++ codes "]" in
       record {
@@ -69,16 +69,16 @@ module _ (s : Step) (bytes : List ℕ) (segs : Segments) (more : List ℕ) where
         is_so = ([], bracket, y.characters, tt, ([], x.characters, [], tt, (x.characters, [], x.is_so, refl, sym (append-nil x.characters)), tt, refl), y.is_so, refl);
       }
 
-steps_spelt : (steps : List Step) → IsProper steps → ArePositionsWritten steps → Spelt (ReadSegments (segments_to steps)) (flat_map normal_step steps)
-steps_spelt [] proper written = spelt_nothing refl
-steps_spelt (by_name bytes ∷ steps) proper written = bracket_spelt (by_name bytes) _ _ _ (quoted_spelt bytes proper.0) (steps_spelt steps proper.1 written)
-steps_spelt (by_position p ∷ steps) proper written = bracket_spelt (by_position p) _ _ _ (position_spelt p written.0) (steps_spelt steps proper written.1)
+steps_spelt : (rule : Numbers) (steps : List Step) → IsProper steps → ArePositionsWritten steps → Spelt (ReadSegments rule (segments_to steps)) (flat_map normal_step steps)
+steps_spelt rule [] proper written = spelt_nothing refl
+steps_spelt rule (by_name bytes ∷ steps) proper written = bracket_spelt rule (by_name bytes) _ _ _ (quoted_spelt bytes proper.0) (steps_spelt rule steps proper.1 written)
+steps_spelt rule (by_position p ∷ steps) proper written = bracket_spelt rule (by_position p) _ _ _ (position_spelt p written.0) (steps_spelt rule steps proper written.1)
 
 -- the normalised path of a location is accepted
-pub normal_accepted : (signature : List ℕ → Option Signature) (steps : List Step) → IsProper steps → ArePositionsWritten steps
-    → IsAccepted signature (chars (normal steps)) (query root (segments_to steps))
-normal_accepted signature steps proper written =
-    let x = steps_spelt steps proper written in
+pub normal_accepted : (rule : Numbers) (signature : List ℕ → Option Signature) (steps : List Step) → IsProper steps → ArePositionsWritten steps
+    → IsAccepted rule signature (chars (normal steps)) (query root (segments_to steps))
+normal_accepted rule signature steps proper written =
+    let x = steps_spelt rule steps proper written in
     let spells = spell_both (spell_sign 36 (omega arith)) x.spells in
     let text : chars (normal steps) ≡ codes "$" ++ x.characters = ap chars (sym spells.encoded) ∙ chars-encodes (codes "$" ++ x.characters) spells.scalars in
     record {

@@ -2,27 +2,20 @@
 use Rattle.std.specs.Prelude.{◌≡◌, ◌++◌, ℕ, List, Result, Ok, Err, codes}
 use Rattle.std.specs.Fmt.{decimal}
 use Rattle.serde_json.specs.Data.{Data, string}
+use Rattle.serde_json_path_functions.specs.Functions.{whole_numbers}
 use Rattle.serde_json_path_functions.specs.Patterns.{builtin_functions}
 use Rattle.serde_json_path_parser.specs.Errors.{message_of, position_of}
-use Rattle.serde_json_path_parser.specs.Parse.{IsParseOf}
-use Rattle.serde_json_path_parser.specs.Reported.{ReportsFirst}
-use Rattle.serde_json_path.specs.Paths.{path_view}
+use Rattle.serde_json_path.specs.Paths.{IsRead}
 use Rattle.serde_json_path.specs.declared.path.JsonPath.{JsonPath}
 use Rattle.serde_json_path.specs.declared.json.FromJsonError.{FromJsonError}
 use Rattle.serde_json_path.specs.declared.json.FromJsonError.TheVariants.{NotAString, Path}
 
--- A string is accepted as a parse of its text with the built-in functions accepts it, and every other value is not a string.
+-- A string is read as its text is with the built-in functions, and every other value is not a string.
 abbrev pub IsReadFrom : Data → Result JsonPath FromJsonError → Type 0
-IsReadFrom (string text) (Ok path) = IsParseOf path_view builtin_functions.signature text (Ok path)
-IsReadFrom (string text) (Err (Path e)) = IsParseOf path_view builtin_functions.signature text (Err e)
+IsReadFrom (string text) (Ok path) = IsRead whole_numbers builtin_functions text (Ok path)
+IsReadFrom (string text) (Err (Path e)) = IsRead whole_numbers builtin_functions text (Err e)
 IsReadFrom (string text) (Err NotAString) = ⊥
 IsReadFrom value answer = answer ≡ Err NotAString
-
--- a string is refused as that parse refuses it
-abbrev pub IsReportedFrom : Data → Result JsonPath FromJsonError → Type 0
-IsReportedFrom (string text) (Ok path) = ReportsFirst path_view builtin_functions.signature text (Ok path)
-IsReportedFrom (string text) (Err (Path e)) = ReportsFirst path_view builtin_functions.signature text (Err e)
-IsReportedFrom _ _ = Unit {0}
 
 -- what the error prints: that of the parse, where the string is refused
 abbrev pub from_json_error_text : FromJsonError → List ℕ

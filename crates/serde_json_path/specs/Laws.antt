@@ -10,7 +10,7 @@ use Rattle.serde_json_path_syntax.specs.Tree.{Query, query, root, Segments, no_s
 use Rattle.serde_json_path_syntax.specs.Calls.{calls_of}
 use Rattle.serde_json_path_syntax.specs.Depth.{depth}
 use Rattle.serde_json_path_core.specs.Meaning.{IsResult}
-use Rattle.serde_json_path_functions.specs.Functions.{FunctionSet, Signature, Fits, both}
+use Rattle.serde_json_path_functions.specs.Functions.{Numbers, FunctionSet, Signature, Fits, both}
 use Rattle.serde_json_path_parser.specs.Accepted.{IsAccepted}
 
 -- each index can be written
@@ -35,9 +35,11 @@ tree_to location = query root (segments_to location)
 
 -- What a normalised path is (RFC 9535, section 2.7).
 pub record IsNormal (location : List Step) : Type 0 where
-  -- it is accepted with the location's tree, whatever functions are declared, and with no other
-  pub accepted : (signature : List ℕ → Option Signature) → IsAccepted signature (chars (normal location)) (tree_to location)
-  pub only : (signature : List ℕ → Option Signature) (q : Query) → IsAccepted signature (chars (normal location)) q → q ≡ tree_to location
+  -- it is accepted with the location's tree, by both rules for numbers and whatever functions are declared, and with no other
+  pub accepted : (rule : Numbers) (signature : List ℕ → Option Signature)
+      → IsAccepted rule signature (chars (normal location)) (tree_to location)
+  pub only : (rule : Numbers) (signature : List ℕ → Option Signature) (q : Query)
+      → IsAccepted rule signature (chars (normal location)) q → q ≡ tree_to location
   -- that tree calls nothing, and nests nothing
   pub no_calls : calls_of (tree_to location) ≡ []
   pub flat : depth (tree_to location) ≡ 0

@@ -3,8 +3,6 @@
 ghost use Rattle.std.specs.Prelude.{◌≡◌, Some, IfOk};
 ghost use Rattle.serde_json.specs.Data.{string};
 ghost use Rattle.serde_json.specs.View.{view};
-ghost use Rattle.serde_json_path_functions.specs.Functions.{Fits};
-ghost use Rattle.serde_json_path_functions.specs.Patterns.{builtin_functions};
 
 use crate::path::JsonPath;
 use serde_json::Value;
@@ -39,8 +37,8 @@ impl fmt::Display for FromJsonError {
 impl Error for FromJsonError {}
 
 impl JsonPath {
-    ghost use Rattle.serde_json_path.specs.FromJson.{IsReadFrom, IsReportedFrom};
-    ghost use Rattle.serde_json_path.specs.Paths.{path_signatures, path_tree};
+    ghost use Rattle.serde_json_path.specs.FromJson.{IsReadFrom};
+    ghost use Rattle.serde_json_path.specs.Paths.{path_tree};
     ghost use Rattle.serde_json_path_syntax.specs.Text.{query_text};
 
     /// Reads a path from a JSON string, whose text is parsed as `parse` does (RFC 9535, section 2.1).
@@ -51,9 +49,7 @@ impl JsonPath {
     /// let path = JsonPath::from_json(alloc, &config["path"])?;
     /// ```
     pub fn from_json(alloc: Global, value: &Value) -> Result<JsonPath, FromJsonError>
-        ensures read { IsReadFrom (view value.now) result }
-        ensures reported { IsReportedFrom (view value.now) result }
-        ensures fits { IfOk result (λ path. Fits builtin_functions (path_signatures path)) }
+        ensures { IsReadFrom (view value.now) result }
     {
         match value.as_str() {
             Some(text) => JsonPath::parse(alloc, text).map_err(FromJsonError::Path),

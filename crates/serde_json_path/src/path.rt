@@ -34,9 +34,7 @@ pub struct JsonPath {
 }
 
 impl JsonPath {
-    ghost use Rattle.serde_json_path_parser.specs.Parse.{IsParseOf};
-    ghost use Rattle.serde_json_path_parser.specs.Reported.{ReportsFirst};
-    ghost use Rattle.serde_json_path.specs.Paths.{path_tree, path_signatures, path_rule, path_view, with_rule_of};
+    ghost use Rattle.serde_json_path.specs.Paths.{IsRead, path_tree, path_signatures, path_rule, with_rule_of};
 
     /// The path `$`, which selects the document itself. It calls nothing, so it fits every function set. It allocates nothing.
     pub fn new(alloc: Global) -> JsonPath
@@ -59,18 +57,30 @@ impl JsonPath {
     /// let path = JsonPath::parse(alloc, "$.store.book[?@.isbn].title")?;
     /// ```
     pub fn parse(alloc: Global, path_str: &str) -> Result<JsonPath, ParseError>
-        ensures parse { IsParseOf path_view builtin_functions.signature path_str.now result }
-        ensures reported { ReportsFirst path_view builtin_functions.signature path_str.now result }
-        ensures fits { IfOk result (λ path. Fits builtin_functions (path_signatures path)) }
+        ensures { IsRead whole_numbers builtin_functions path_str.now result }
     {
-        JsonPath::parse_with(alloc, path_str, &Builtin)
+        JsonPath::parse_by(alloc, path_str, Numbers::Whole)
+    }
+
+    /// Parses a path by a rule for numbers, which the path keeps. Filters call the built-in functions; for those of a set, see
+    /// [`parse_source`].
+    ///
+    /// By `Numbers::Whole` this is `parse`. By `Numbers::All` any literal may be an argument of a function, as the RFC has it
+    /// (RFC 9535, section 2.4.3), and comparisons take all numbers.
+    ///
+    /// ```text
+    /// let path = JsonPath::parse_by(alloc, "$[?length(@.name) > 1.5]", Numbers::All)?;
+    /// ```
+    pub fn parse_by(alloc: Global, path_str: &str, numbers: Numbers) -> Result<JsonPath, ParseError>
+        ensures { IsRead (numbers_view numbers) builtin_functions path_str.now result }
+    {
+        let mut source = TextSource::new(path_str);
+        parse_source(alloc, &mut source, &Builtin, numbers)
     }
 
     /// Parses a path, as `parse` does. This is not `std::str::FromStr`, because it takes an allocator.
     pub fn from_str(alloc: Global, path_str: &str) -> Result<JsonPath, ParseError>
-        ensures parse { IsParseOf path_view builtin_functions.signature path_str.now result }
-        ensures reported { ReportsFirst path_view builtin_functions.signature path_str.now result }
-        ensures fits { IfOk result (λ path. Fits builtin_functions (path_signatures path)) }
+        ensures { IsRead whole_numbers builtin_functions path_str.now result }
     {
         JsonPath::parse(alloc, path_str)
     }
@@ -87,15 +97,10 @@ impl JsonPath {
         path_str: &str,
         functions: &F,
     ) -> Result<JsonPath, ParseError>
-        ensures parse { IsParseOf path_view (before_builtin (F.set functions.now)).signature
-            path_str.now result }
-        ensures reported { ReportsFirst path_view (before_builtin (F.set functions.now)).signature
-            path_str.now result }
-        ensures fits { IfOk result (λ path.
-            Fits (before_builtin (F.set functions.now)) (path_signatures path)) }
+        ensures { IsRead whole_numbers (before_builtin (F.set functions.now)) path_str.now result }
     {
         let mut source = TextSource::new(path_str);
-        parse_source(alloc, &mut source, functions)
+        parse_source(alloc, &mut source, functions, Numbers::Whole)
     }
 
     /// The same path, whose comparisons take numbers by that rule (RFC 9535, section 2.3.5.2.2).

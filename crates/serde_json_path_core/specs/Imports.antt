@@ -1,7 +1,7 @@
 -- What the definitions take from the crates below, from one place.
 pub use Rattle.serde_json.specs.Data.{Data, Items, Members, Num, array, boolean, float, item, member, no_items, no_members, null, null as null_data, number, number as number_data, object, put, string}
 pub use Rattle.serde_json.specs.Events.{items_len}
-pub use Rattle.serde_json.specs.Find.{as_array, as_integer, get, get_item, get_member, of_integer}
+pub use Rattle.serde_json.specs.Find.{as_array, as_integer, get, get_item, get_member}
 pub use Rattle.serde_json.specs.View.{items_view, members_view, number_view, view, view_step}
 pub use Rattle.serde_json.specs.declared.value.Value.{Value}
 pub use Rattle.serde_json_path_functions.specs.Functions.{Fits, FunctionSet, KeepsTypes, Kind, Numbers, Signature, Term, all_numbers, kind_of_term, logical, nodes, of_logical, of_nodes, of_value, value, whole_numbers, with_rule}
@@ -11,7 +11,7 @@ pub use Rattle.serde_json_path_functions.specs.declared.error.QueryError.{QueryE
 pub use Rattle.serde_json_path_functions.specs.declared.error.QueryError.TheVariants.{Memory, Pattern}
 pub use Rattle.serde_json_path_nodes.specs.Location.{DescentBefore, Located, Step, StepBefore, at, by_name, by_position, child_at}
 pub use Rattle.serde_json_path_nodes.specs.Views.{located, node_value, step_view}
-pub use Rattle.serde_json_path_numbers.specs.Numbers.{AreEqualNumbers, IsInLiteralRange, IsLessNumber, document_number, literal_number}
+pub use Rattle.serde_json_path_numbers.specs.Numbers.{AreEqualNumbers, IsInLiteralRange, IsLessNumber, document_number, literal_held, literal_number}
 pub use Rattle.serde_json_path_numbers.specs.Views.{exact_view}
 pub use Rattle.serde_json_path_syntax.specs.Calls.{OfEach, calls_from, calls_in_and, calls_in_argument, calls_in_basic, calls_in_operand, calls_in_or, calls_in_segment, calls_in_segments, calls_in_selector, calls_of}
 pub use Rattle.serde_json_path_syntax.specs.Flat.{and_at, and_in, ands_in, argument_at, argument_in, arguments_in, basic_at, basic_in, call_at, operand_at, held_view, or_at, ors_in, part_query, branch_at, branch_in, branches, branches_named, segment_at, segment_in, segment_kind_in, segment_kind_view, segments_at, segments_in}

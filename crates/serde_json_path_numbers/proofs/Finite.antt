@@ -1,6 +1,10 @@
 -- Numbers of literals are in range, and finite.
 use Rattle.serde_json_path_numbers.proofs.Words.{nat_tests, ◌≡◌, ℕ, ◌*◌, ◌^◌, ◌<◌, Bool, true, false, T, refl, ◌∙◌, arith, lit<, to_z, of_z, ℤ, pos, int_div, unsigned_abs, Some, w128, float_is_finite, Float, binary64, round, le, units, odd, literal_double, IsInLiteralRange, NumbersAreFinite, is_exact, Integer, Double}
 use Rattle.std.proofs.lemmas.Int.{ints}
+use Rattle.std.proofs.Common.{option_map, unwrap_or}
+use Rattle.serde_json.specs.Data.{null, number}
+use Rattle.serde_json.specs.Find.{of_float}
+use Rattle.serde_json_path_numbers.specs.Numbers.{literal_held}
 use Rattle.serde_json_path_numbers.proofs.Forms.{finite_integer}
 use lib.Ieee.Exact.{HasValue, round_exact}
 use lib.Ieee.Back.{round_whole}
@@ -39,3 +43,7 @@ double_is_exact b x h e = grind (arith, nat_tests, finite_rounded, size_in_range
 
 pub all_finite : NumbersAreFinite
 all_finite = grind (arith, nat_tests, finite_integer, finite_rounded, size_in_range)
+
+-- a literal with a fraction is held as its double
+pub held_as_double : (b : ℤ) (x : Float) → IsInLiteralRange b → Some x ≡ literal_double b → unwrap_or (option_map number (of_float x)) null ≡ number (literal_held b)
+held_as_double b x h e = grind (arith, nat_tests, finite_rounded, size_in_range)

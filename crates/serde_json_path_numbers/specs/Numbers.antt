@@ -3,6 +3,7 @@ use Rattle.std.specs.Prelude.{suc, ◌*◌, ◌-◌, ◌%◌, ◌^◌, ◌==◌,
 use Rattle.std.specs.Float.Ieee.{Float, fin, eq, lt, binary64}
 use Rattle.fast_float.specs.Rounding.{nearest_to_decimal}
 use Rattle.serde_json.specs.Data.{Num, unsigned, negative, float}
+use Rattle.serde_json.specs.Find.{of_integer}
 
 -- the integer as an exact number
 abbrev pub integer : ℤ → Float
@@ -26,6 +27,12 @@ abbrev pub literal_double : ℤ → Option Float
 literal_double b =
     if unsigned_abs b % 1000000000 == 0 then None
     else Some (nearest_to_decimal binary64 (int_lt b (pos 0)) (unsigned_abs b) (negsuc 8))
+
+-- the number that a document would hold for a literal of that many billionths
+abbrev pub literal_held : ℤ → Num
+literal_held b =
+    if unsigned_abs b % 1000000000 == 0 then of_integer (int_div b (pos 1000000000))
+    else float (nearest_to_decimal binary64 (int_lt b (pos 0)) (unsigned_abs b) (negsuc 8))
 
 -- a literal's number is from -2 ^ 63 to 2 ^ 64 - 1; this is in billionths
 abbrev pub IsInLiteralRange : ℤ → Type 0

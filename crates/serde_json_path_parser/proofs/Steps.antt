@@ -1,8 +1,8 @@
 -- Steps of the code: rows of items that a loop reads, how the builder grows by them, arguments, and what stands in filters.
-use Rattle.serde_json_path_parser.proofs.Words.{◌↔◌, append-nil, map-append, name_of, names_of, calls_in_segments, calls_from, calls_in_arguments, KeepsParts, KeepsTrees, calls_in, AreDeclared, MayFinish, deepest, names_in, IsTyped, depth, Part, query, root, Segments, Call, call, Arguments, SyntaxBuilder, Signature, Grows, Parsed, Failure, Reader, Ghosts, SegmentKind, Segment, ArePartsOf, segment_list, length-append, Branch, IsPart, ArePartsFor, parts_for_kept, Fails, GrowsFrom, ◌>>=◌, many, Selector, LogicalOr, LogicalAnd, Basic, Deeper, a_selector, an_and, a_basic, segment_branch, segment_branches, selector_branches, or_branches, and_branches, calls_in_selectors, calls_in_or, calls_in_and, selector_list, or_list, and_list, past_blanks, is_at, are_at, begins, opens, opens_next, level, read_segment, read_selector, read_and, read_basic, no_arguments, argument, Argument, Kind, ExpectedClosingParenthesis, calls_in_argument, IsAsRead, MakesArguments, refusal, ends_argument, read_argument, read_some_arguments, nat_tests, Literal, ExpectedExpression, Operand, literal, word, past_word, read_literal_word, literal_word, of_value, kind_view, is_result, ◌==◌, filter, byte_count, read_or, read_call, IsTrue, is_singular, is_whole, is_value_literal, number, IsValueLiteral, Query, IsSingular, result_kind, WrongReturnType, called, cond, ◌≡◌, ◌≤◌, ℕ, List, [], ◌∷◌, ◌++◌, inl, inr, Some, Option, Result, Ok, Err, refl, sym, ap, subst, ◌∙◌, append_assoc, ◌<◌, Bool, true, false, length, arith, drop, None, zero, suc, ◌-◌, Memory, Refused, Context, read_filter, LongHand, MakesSo, calls_in_branch, same_from_decides, IsComparable, argument_branch, read_comparable, queried, refusal_at, NonSingularQuery, read_negated_test, read_test}
+use Rattle.serde_json_path_parser.proofs.Words.{Numbers, ◌↔◌, append-nil, map-append, name_of, names_of, calls_in_segments, calls_from, calls_in_arguments, KeepsParts, KeepsTrees, calls_in, AreDeclared, MayFinish, deepest, names_in, IsTyped, depth, Part, query, root, Segments, Call, call, Arguments, SyntaxBuilder, Signature, Grows, Parsed, Failure, Reader, Ghosts, SegmentKind, Segment, ArePartsOf, segment_list, length-append, Branch, IsPart, ArePartsFor, parts_for_kept, Fails, GrowsFrom, ◌>>=◌, many, Selector, LogicalOr, LogicalAnd, Basic, Deeper, a_selector, an_and, a_basic, segment_branch, segment_branches, selector_branches, or_branches, and_branches, calls_in_selectors, calls_in_or, calls_in_and, selector_list, or_list, and_list, past_blanks, is_at, are_at, begins, opens, opens_next, level, read_segment, read_selector, read_and, read_basic, no_arguments, argument, Argument, Kind, ExpectedClosingParenthesis, calls_in_argument, IsAsRead, MakesArguments, refusal, ends_argument, read_argument, read_some_arguments, nat_tests, Literal, ExpectedExpression, Operand, literal, word, past_word, read_literal_word, literal_word, of_value, kind_view, is_result, ◌==◌, filter, byte_count, read_or, read_call, IsTrue, is_singular, is_whole, is_value_literal, number, Query, IsSingular, result_kind, WrongReturnType, called, cond, ◌≡◌, ◌≤◌, ℕ, List, [], ◌∷◌, ◌++◌, inl, inr, Some, Option, Result, Ok, Err, refl, sym, ap, subst, ◌∙◌, append_assoc, ◌<◌, Bool, true, false, length, arith, drop, None, zero, suc, ◌-◌, Memory, Refused, Context, read_filter, LongHand, MakesSo, calls_in_branch, same_from_decides, IsComparable, argument_branch, read_comparable, queried, refusal_at, NonSingularQuery, read_negated_test, read_test}
 use Rattle.serde_json_path_syntax.proofs.Names.Finishing.{may_finish}
 use Rattle.serde_json_path_syntax.proofs.Lists.{in_append}
-use Rattle.serde_json_path_parser.proofs.Grammar.Calls.{level_laws, amount_whole, whole_amount}
+use Rattle.serde_json_path_parser.proofs.Grammar.Calls.{level_laws}
 use Rattle.serde_json_path_parser.proofs.Grammar.LogicalExpressions.{next_basic_consumes, next_and_consumes}
 use Rattle.serde_json_path_parser.proofs.Grammar.Segments as segments
 use Rattle.serde_json_path_parser.proofs.Reading.{first_fails, begins_differs, Consumes, many_end, many_err, many_more, with_front, ok_is}
@@ -199,12 +199,12 @@ module _ {A B : Type 0} {row : Row A B} (law : IsRow row) where
 
 -- ---- the rows that are read at a level: segments, selectors, and what `||` and `&&` join
 
-module _ (signature : List ℕ → Option Signature) (deeper : Deeper) where
+module _ (rule : Numbers) (signature : List ℕ → Option Signature) (deeper : Deeper) where
   abbrev pub segment_row : Context → Row (SegmentKind × Segment) (List (SegmentKind × Segment))
   segment_row here = record {
     more = opens_next;
     before = past_blanks;
-    item = read_segment (read_filter signature deeper) here;
+    item = read_segment (read_filter rule signature deeper) here;
     branch = segment_branch;
     branches = λ ss. segment_branches (segment_list ss);
     calls = λ ss. calls_in_segments (segment_list ss);
@@ -216,7 +216,7 @@ module _ (signature : List ℕ → Option Signature) (deeper : Deeper) where
   selector_row = record {
     more = is_at ",";
     before = λ cs. past_blanks (drop 1 cs);
-    item = read_selector (read_filter signature deeper);
+    item = read_selector (read_filter rule signature deeper);
     branch = a_selector;
     branches = λ ss. selector_branches (selector_list ss);
     calls = λ ss. calls_in_selectors (selector_list ss);
@@ -228,7 +228,7 @@ module _ (signature : List ℕ → Option Signature) (deeper : Deeper) where
   or_row = record {
     more = are_at "||";
     before = λ cs. past_blanks (drop 2 cs);
-    item = read_and signature deeper;
+    item = read_and rule signature deeper;
     branch = an_and;
     branches = λ xs. or_branches (or_list xs);
     calls = λ xs. calls_in_or (or_list xs);
@@ -240,7 +240,7 @@ module _ (signature : List ℕ → Option Signature) (deeper : Deeper) where
   and_row = record {
     more = are_at "&&";
     before = λ cs. past_blanks (drop 2 cs);
-    item = read_basic signature deeper;
+    item = read_basic rule signature deeper;
     branch = a_basic;
     branches = λ bs. and_branches (and_list bs);
     calls = λ bs. calls_in_and (and_list bs);
@@ -248,37 +248,37 @@ module _ (signature : List ℕ → Option Signature) (deeper : Deeper) where
     least = 1;
   }
 
-module _ (signature : List ℕ → Option Signature) (n : ℕ) where
+module _ (rule : Numbers) (signature : List ℕ → Option Signature) (n : ℕ) where
   abbrev here : Deeper
-  here = level signature n
+  here = level rule signature n
 
-  pub segments_stand : (at : Context) → IsRow (segment_row signature here at)
+  pub segments_stand : (at : Context) → IsRow (segment_row rule signature here at)
   segments_stand at = record {
-    consumes = segments.next_segment_consumes signature n here (level_laws signature n) at;
+    consumes = segments.next_segment_consumes rule signature n here (level_laws rule signature n) at;
     branches = record { none = refl; some = λ s ss. refl };
     calls = record { none = refl; some = λ s ss. refl };
   }
 
-  pub segment_shorter : (at : Context) (cs rest : List ℕ) (x : SegmentKind × Segment) → begins opens cs ≡ true → read_segment (read_filter signature here) at cs ≡ Ok (x, rest) → length rest < length cs
-  segment_shorter at = segments.segment_shorter signature n here (level_laws signature n) at
+  pub segment_shorter : (at : Context) (cs rest : List ℕ) (x : SegmentKind × Segment) → begins opens cs ≡ true → read_segment (read_filter rule signature here) at cs ≡ Ok (x, rest) → length rest < length cs
+  segment_shorter at = segments.segment_shorter rule signature n here (level_laws rule signature n) at
 
-  pub selectors_stand : IsRow (selector_row signature here)
+  pub selectors_stand : IsRow (selector_row rule signature here)
   selectors_stand = record {
-    consumes = segments.next_selector_consumes signature n here (level_laws signature n);
+    consumes = segments.next_selector_consumes rule signature n here (level_laws rule signature n);
     branches = record { none = refl; some = λ s ss. refl };
     calls = record { none = refl; some = λ s ss. refl };
   }
 
-  pub ors_stand : IsRow (or_row signature here)
+  pub ors_stand : IsRow (or_row rule signature here)
   ors_stand = record {
-    consumes = next_and_consumes signature n here (level_laws signature n);
+    consumes = next_and_consumes rule signature n here (level_laws rule signature n);
     branches = record { none = refl; some = λ x xs. refl };
     calls = record { none = refl; some = λ x xs. refl };
   }
 
-  pub ands_stand : IsRow (and_row signature here)
+  pub ands_stand : IsRow (and_row rule signature here)
   ands_stand = record {
-    consumes = next_basic_consumes signature n here (level_laws signature n);
+    consumes = next_basic_consumes rule signature n here (level_laws rule signature n);
     branches = record { none = refl; some = λ b bs. refl };
     calls = record { none = refl; some = λ b bs. refl };
   }
@@ -324,13 +324,13 @@ one_more {parts = parts} {read = read} {others = others} a so_far put is grown e
 
 -- ---- where the first of them is refused, or does not end
 
-module _ (signature : List ℕ → Option Signature) (deeper : Deeper) (start : ℕ) where
-  pub first_refused : (kinds : List Kind) (cs : List ℕ) (s : Failure) → Fails s (read_argument signature deeper cs) → Fails s (read_some_arguments signature deeper start kinds cs)
+module _ (rule : Numbers) (signature : List ℕ → Option Signature) (deeper : Deeper) (start : ℕ) where
+  pub first_refused : (kinds : List Kind) (cs : List ℕ) (s : Failure) → Fails s (read_argument rule signature deeper cs) → Fails s (read_some_arguments rule signature deeper start kinds cs)
   first_refused [] cs s h = first_fails s _ _ h
   first_refused (kind ∷ kinds) cs s h = first_fails s _ _ h
 
-  pub first_open : (kinds : List Kind) (cs : List ℕ) (a : Argument × List ℕ) → read_argument signature deeper cs ≡ Ok a → begins ends_argument a.1 ≡ false
-      → read_some_arguments signature deeper start kinds cs ≡ Err (refusal ExpectedClosingParenthesis LongHand a.1)
+  pub first_open : (kinds : List Kind) (cs : List ℕ) (a : Argument × List ℕ) → read_argument rule signature deeper cs ≡ Ok a → begins ends_argument a.1 ≡ false
+      → read_some_arguments rule signature deeper start kinds cs ≡ Err (refusal ExpectedClosingParenthesis LongHand a.1)
   first_open [] cs a read no_end = rw (read, no_end) refl
   first_open (kind ∷ kinds) cs a read no_end = rw (read, no_end) refl
 
@@ -348,17 +348,17 @@ literal_word_reads cs = grind (arith, nat_tests)
 -- ---- the steps of the code within a filter
 
 -- how what stands in a filter, a parenthesis or a call is read one level deeper
-pub level_down : (signature : List ℕ → Option Signature) (n m : ℕ) → 0 < n → m ≡ n - 1 → level signature n ≡ record {
-  expression = λ start cs. read_or signature (level signature m) cs;
-  call_of = λ start f cs. read_call signature (level signature m) start f (signature f) cs;
+pub level_down : (rule : Numbers) (signature : List ℕ → Option Signature) (n m : ℕ) → 0 < n → m ≡ n - 1 → level rule signature n ≡ record {
+  expression = λ start cs. read_or rule signature (level rule signature m) cs;
+  call_of = λ start f cs. read_call rule signature (level rule signature m) start f (signature f) cs;
 }
 unfolding level
-level_down signature zero m l e = absurd (omega (arith, l))
-level_down signature (suc n) m l e = let same : m ≡ n = omega (arith, e) in rw same refl
+level_down rule signature zero m l e = absurd (omega (arith, l))
+level_down rule signature (suc n) m l e = let same : m ≡ n = omega (arith, e) in rw same refl
 
-module _ (signature : List ℕ → Option Signature) (deeper : Deeper) where
+module _ (rule : Numbers) (signature : List ℕ → Option Signature) (deeper : Deeper) where
   -- a selector that begins with `?` is a filter
-  pub at_mark : (cs : List ℕ) → is_at "?" cs ≡ true → read_selector (read_filter signature deeper) cs ≡ (deeper.expression (byte_count cs) (past_blanks (drop 1 cs)) >>= λ e. Ok (filter e.0, e.1))
+  pub at_mark : (cs : List ℕ) → is_at "?" cs ≡ true → read_selector (read_filter rule signature deeper) cs ≡ (deeper.expression (byte_count cs) (past_blanks (drop 1 cs)) >>= λ e. Ok (filter e.0, e.1))
   at_mark cs mark =
       let other : (k : ℕ) → (k == 63) ≡ false → begins (λ c. c == k) cs ≡ false = λ k differs. begins_differs (λ c. c == 63) k cs differs mark in
       rw (other 39 refl, other 34 refl, other 42 refl, other 58 refl, mark) refl
@@ -375,7 +375,7 @@ abbrev pub operand_of : Argument → Operand
 operand_of (operand o) = o
 operand_of (logical_argument e) = literal null
 
-module _ (signature : List ℕ → Option Signature) (builder : SyntaxBuilder) (part : Part) where
+module _ (rule : Numbers) (signature : List ℕ → Option Signature) (builder : SyntaxBuilder) (part : Part) where
   -- the type of a call's result, which its part keeps
   pub kept_result : (a : Argument) (c : Call) (kind : Option Kind) → IsArgumentOf signature builder part a → a ≡ operand (called c) → result_of_operand builder part ≡ kind → result_kind signature c ≡ kind
   kept_result a c kind is same keeps = sym (subst (IsArgumentOf signature builder part) same is).1 ∙ keeps
@@ -383,7 +383,7 @@ module _ (signature : List ℕ → Option Signature) (builder : SyntaxBuilder) (
   module _ (deeper : Deeper) (start : ℕ) (x : Operand) (rest : List ℕ) where
     -- what is no literal is read as a test after `!`
     pub no_literal : (form : ArgumentRef) → ((l : _) → form ≡ forms.Literal l → ⊥) → IsSeenAs builder part form (operand x)
-        → read_negated_test signature deeper start x rest ≡ read_test signature deeper true start x rest
+        → read_negated_test rule signature deeper start x rest ≡ read_test rule signature deeper true start x rest
     no_literal (forms.Literal l) other h = absurd (other l refl)
     no_literal (forms.Query q) other h = rw (ap operand_of h.1) refl
     no_literal (forms.Call kind) other h = rw (ap operand_of h.1) refl
@@ -391,7 +391,7 @@ module _ (signature : List ℕ → Option Signature) (builder : SyntaxBuilder) (
 
     -- what is neither a query nor a call may be compared
     pub plain_read : (form : ArgumentRef) → ((q : _) → form ≡ forms.Query q → ⊥) → ((kind : _) → form ≡ forms.Call kind → ⊥) → IsSeenAs builder part form (operand x)
-        → read_comparable signature deeper start x rest ≡ Ok (x, rest)
+        → read_comparable rule signature deeper start x rest ≡ Ok (x, rest)
     plain_read (forms.Literal l) other no_call h = rw (ap operand_of h) refl
     plain_read (forms.Query q) other no_call h = absurd (other q refl)
     plain_read (forms.Call kind) other no_call h = absurd (no_call kind refl)
@@ -399,21 +399,21 @@ module _ (signature : List ℕ → Option Signature) (builder : SyntaxBuilder) (
 
     -- what is neither a literal nor a call may be tested
     pub plain_test : (negated : Bool) (form : ArgumentRef) → ((l : _) → form ≡ forms.Literal l → ⊥) → ((kind : _) → form ≡ forms.Call kind → ⊥) → IsSeenAs builder part form (operand x)
-        → IsTested x × (read_test signature deeper negated start x rest ≡ Ok (test negated x, rest))
+        → IsTested x × (read_test rule signature deeper negated start x rest ≡ Ok (test negated x, rest))
     plain_test negated (forms.Literal l) other no_call h = absurd (other l refl)
     plain_test negated (forms.Query q) other no_call h = rw (ap operand_of h.1) (tt, refl)
     plain_test negated (forms.Call kind) other no_call h = absurd (no_call kind refl)
     plain_test negated forms.Logical other no_call h = absurd cc
 
 -- what is read as a side of a comparison may be one
-pub comparable_read : (signature : List ℕ → Option Signature) (deeper : Deeper) (start : ℕ) (o a : Operand) (cs rest : List ℕ) → read_comparable signature deeper start o cs ≡ Ok (a, rest) → IsComparable a
-comparable_read signature deeper start (literal l) a cs rest e = subst (λ (y : Operand × List ℕ). IsComparable y.0) (ok_is (literal l, cs) (a, rest) e) tt
-comparable_read signature deeper start (queried q) a cs rest e = by (is_singular q) refl e
+pub comparable_read : (rule : Numbers) (signature : List ℕ → Option Signature) (deeper : Deeper) (start : ℕ) (o a : Operand) (cs rest : List ℕ) → read_comparable rule signature deeper start o cs ≡ Ok (a, rest) → IsComparable a
+comparable_read rule signature deeper start (literal l) a cs rest e = subst (λ (y : Operand × List ℕ). IsComparable y.0) (ok_is (literal l, cs) (a, rest) e) tt
+comparable_read rule signature deeper start (queried q) a cs rest e = by (is_singular q) refl e
   where
     by : (b : Bool) → is_singular q ≡ b → cond {A = Parsed Operand} b (Ok (queried q, cs)) (Err (refusal_at NonSingularQuery LongHand start)) ≡ Ok (a, rest) → IsComparable a
     by true is e = subst (λ (y : Operand × List ℕ). IsComparable y.0) (ok_is (queried q, cs) (a, rest) e) (singular_query q is)
     by false is e = absurd cc
-comparable_read signature deeper start (called c) a cs rest e = by (is_result of_value (result_kind signature c)) e
+comparable_read rule signature deeper start (called c) a cs rest e = by (is_result of_value (result_kind signature c)) e
   where
     by : (b : Bool) → cond {A = Parsed Operand} b (Ok (called c, cs)) (Err (refusal_at WrongReturnType LongHand start)) ≡ Ok (a, rest) → IsComparable a
     by true e = subst (λ (y : Operand × List ℕ). IsComparable y.0) (ok_is (called c, cs) (a, rest) e) tt
@@ -422,8 +422,3 @@ comparable_read signature deeper start (called c) a cs rest e = by (is_result of
 -- a test that says whether a query is a singular one
 pub singular_by : (b : Bool) (q : Query) → IsTrue b ↔ IsSingular q → is_singular q ≡ b
 singular_by b q h = same_from_decides (is_singular q) b (singular_query q, query_singular q) h
-
--- a test that says whether a literal is one for a parameter of values
-pub value_by : (b : Bool) (l : Literal) → IsTrue b ↔ IsValueLiteral l → b ≡ is_value_literal l
-value_by b (number amount) h = same_from_decides b (is_whole amount) h (whole_amount amount, λ w. amount_whole amount w.0 w.1)
-value_by b _ h = h.1 tt

@@ -2,7 +2,7 @@
 -- 2.3.5 and 2.4), on lists of characters. An operand is read before its use is known; what follows
 -- it decides. Each piece takes the blanks after it, but for segments.
 use Rattle.std.specs.Prelude.{ℕ, zero, suc, ◌==◌, ◌&&◌, ◌||◌, Bool, true, false, List, [], ◌∷◌, length, drop, codes, bytes_eq, Option, Some, None, Result, Ok, Err, if◌then◌else◌}
-use Rattle.serde_json_path_parser.specs.Imports.{is_singular, QueryKind, root, current, Query, query, Segments, Selector, filter, LogicalOr, no_or, or, LogicalAnd, no_and, and, Basic, paren, relation, test, Operand, literal, queried, called, Call, call, Arguments, no_arguments, argument, Argument, operand, logical_argument, text, number, truth, null, Operator, equal, not_equal, less, less_or_equal, greater, greater_or_equal, result_kind, deepest, Kind, of_value, Signature, code}
+use Rattle.serde_json_path_parser.specs.Imports.{Numbers, is_singular, QueryKind, root, current, Query, query, Segments, Selector, filter, LogicalOr, no_or, or, LogicalAnd, no_and, and, Basic, paren, relation, test, Operand, literal, queried, called, Call, call, Arguments, no_arguments, argument, Argument, operand, logical_argument, text, number, truth, null, Operator, equal, not_equal, less, less_or_equal, greater, greater_or_equal, result_kind, deepest, Kind, of_value, Signature, code}
 use Rattle.serde_json_path_parser.specs.declared.error.ParseErrorKind.TheVariants.{ExpectedRoot, ExpectedExpression, ExpectedClosingParenthesis, ExpectedComparisonOperator, NonSingularQuery, UndefinedFunction, WrongNumberOfArguments, WrongArgumentType, WrongReturnType, NestedTooDeep, TextAfterPath}
 use Rattle.serde_json_path_parser.specs.declared.error.Context.TheVariants as context
 use Rattle.serde_json_path_parser.specs.declared.error.Refusal.{Refusal}
@@ -86,7 +86,7 @@ pub record Deeper : Type 0 where
   pub expression : ℕ → List ℕ → Parsed LogicalOr
   pub call_of : ℕ → List ℕ → List ℕ → Parsed Call
 
-module _ (signature : List ℕ → Option Signature) (deeper : Deeper) where
+module _ (rule : Numbers) (signature : List ℕ → Option Signature) (deeper : Deeper) where
   -- at `?`
   abbrev pub read_filter : List ℕ → Parsed Selector
   read_filter cs =
@@ -232,7 +232,7 @@ module _ (signature : List ℕ → Option Signature) (deeper : Deeper) where
       else Err (refusal ExpectedClosingParenthesis context.LongHand a.1)
   read_some_arguments start (kind ∷ kinds) cs = read_argument cs >>= λ a.
       if begins ends_argument a.1 then
-      (if suits signature a.0 kind then
+      (if suits rule signature a.0 kind then
       ((if is_at "," a.1 then read_some_arguments start kinds (past_blanks (drop 1 a.1))
       else read_end start kinds (drop 1 a.1)) >>= λ more.
       Ok (argument a.0 more.0, more.1))
@@ -250,7 +250,7 @@ module _ (signature : List ℕ → Option Signature) (deeper : Deeper) where
   read_call start name (Some s) cs =
       read_arguments start s.params (past_blanks cs) >>= λ args. Ok (call name args.0, args.1)
 
-module _ (signature : List ℕ → Option Signature) where
+module _ (rule : Numbers) (signature : List ℕ → Option Signature) where
   -- so many filters, parentheses and calls may stand within each other
   unfoldable pub level : ℕ → Deeper
   level zero = record {
@@ -258,8 +258,8 @@ module _ (signature : List ℕ → Option Signature) where
     call_of = λ start name cs. Err (refusal_at NestedTooDeep context.LongHand start);
   }
   level (suc n) = record {
-    expression = λ start cs. read_or signature (level n) cs;
-    call_of = λ start name cs. read_call signature (level n) start name (signature name) cs;
+    expression = λ start cs. read_or rule signature (level n) cs;
+    call_of = λ start name cs. read_call rule signature (level n) start name (signature name) cs;
   }
 
   -- ---- the whole text
@@ -267,7 +267,7 @@ module _ (signature : List ℕ → Option Signature) where
   unfoldable pub read_path : List ℕ → Result Segments Refusal
   read_path cs =
       if is_at "$" cs then
-      (read_segments (read_filter signature (level deepest)) context.Path (drop 1 cs) >>= λ ss.
+      (read_segments (read_filter rule signature (level deepest)) context.Path (drop 1 cs) >>= λ ss.
       if length ss.1 == 0 then Ok (segment_list ss.0)
       else Err (refusal TextAfterPath context.Path ss.1))
       else Err (refusal ExpectedRoot context.Path cs)

@@ -1,15 +1,15 @@
 -- Laws of the grammar and of the typed grammar.
 use Rattle.std.specs.Prelude.{◌≡◌, ℕ, List, Option}
-use Rattle.serde_json_path_parser.specs.Imports.{IsUtf8, chars, Query, query_text, Signature}
+use Rattle.serde_json_path_parser.specs.Imports.{IsUtf8, chars, Numbers, Query, query_text, Signature}
 use Rattle.serde_json_path_parser.specs.Accepted.{IsAccepted}
 use Rattle.serde_json_path_parser.specs.Grammar.{Reads}
 
 -- a text is accepted with one tree at most
 abbrev pub OneTreeAtMost : Type 0
-OneTreeAtMost = (signature : List ℕ → Option Signature) (text : List ℕ) (p q : Query)
-    → IsAccepted signature text p → IsAccepted signature text q → p ≡ q
+OneTreeAtMost = (rule : Numbers) (signature : List ℕ → Option Signature) (text : List ℕ) (p q : Query)
+    → IsAccepted rule signature text p → IsAccepted rule signature text q → p ≡ q
 
 -- a tree that some text reads as has its own printed text read as it
 abbrev pub PrintedTextReadsBack : Type 0
-PrintedTextReadsBack = (text : List ℕ) (q : Query)
-    → IsUtf8 text → Reads q (chars text) → Reads q (chars (query_text q))
+PrintedTextReadsBack = (rule : Numbers) (text : List ℕ) (q : Query)
+    → IsUtf8 text → Reads rule q (chars text) → Reads rule q (chars (query_text q))

@@ -1,7 +1,7 @@
 -- Acceptance: which texts a parse accepts, each with which tree, and what it may refuse for want of
 -- memory.
 use Rattle.std.specs.Prelude.{◌≡◌, ◌≢◌, ℕ, ◌<◌, ◌⊎◌, Bool, false, List, ◌++◌, length, codes, Option, Result, IfOk, IfErr, IsErrAnd}
-use Rattle.serde_json_path_parser.specs.Imports.{result_map_both, chars, Checked, tree_of, signatures_of, rule_of, Query, AreCalled, Signature, Numbers, whole_numbers}
+use Rattle.serde_json_path_parser.specs.Imports.{result_map_both, chars, Checked, tree_of, signatures_of, rule_of, Query, AreCalled, Signature, Numbers}
 use Rattle.serde_json_path_parser.specs.declared.error.ParseErrorKind.TheVariants.{NoMemory}
 use Rattle.serde_json_path_parser.specs.declared.error.ParseError.{ParseError}
 use Rattle.serde_json_path_parser.specs.Lexical.{◌∈◌, begins, is_blank, IsBlank, opens}
@@ -25,19 +25,19 @@ pub record ParsedQuery : Type 0 where
   pub signatures : List (List ℕ × Signature)
   pub rule : Numbers
 
--- What a parse answers of a text, which is given by the bytes of its UTF-8.
-pub record IsParse (signature : List ℕ → Option Signature) (text : List ℕ) (answer : Result ParsedQuery ParseError) : Type 0 where
+-- What a parse by a rule for numbers answers of a text, which is given by the bytes of its UTF-8.
+pub record IsParse (rule : Numbers) (signature : List ℕ → Option Signature) (text : List ℕ) (answer : Result ParsedQuery ParseError) : Type 0 where
   -- what is accepted is in the typed grammar, with this tree
-  pub accepted : IfOk answer (λ read. IsAccepted signature (chars text) read.tree)
+  pub accepted : IfOk answer (λ read. IsAccepted rule signature (chars text) read.tree)
   -- it keeps the names that it calls, each once, and no other
   pub kept : IfOk answer (λ read. AreCalled read.signatures read.tree)
-  -- its comparisons take whole numbers
-  pub whole : IfOk answer (λ read. read.rule ≡ whole_numbers)
+  -- its comparisons take numbers by the rule
+  pub ruled : IfOk answer (λ read. read.rule ≡ rule)
   -- and is accepted with no other tree
-  pub only : IfOk answer (λ read. (q : Query) → IsAccepted signature (chars text) q → q ≡ read.tree)
+  pub only : IfOk answer (λ read. (q : Query) → IsAccepted rule signature (chars text) q → q ≡ read.tree)
   -- a refusal, unless memory was refused, means that the text is accepted with no tree
   pub refused : IfErr answer (λ e.
-      kind_of e ≢ NoMemory → (q : Query) → IsAccepted signature (chars text) q → ⊥)
+      kind_of e ≢ NoMemory → (q : Query) → IsAccepted rule signature (chars text) q → ⊥)
   -- want of memory is one error, at position 1,
   pub memory : IfErr answer (λ e. kind_of e ≡ NoMemory → e ≡ no_memory)
   -- and is never reported where there is nothing to store,
@@ -47,9 +47,9 @@ pub record IsParse (signature : List ℕ → Option Signature) (text : List ℕ)
   pub too_long : length text ≡ greatest_usize → IsErrAnd answer (λ e. kind_of e ≡ NoMemory)
 
 -- the same of a result that is seen as a tree and its signatures
-abbrev pub IsParseOf : {A : Type 0} → (A → ParsedQuery) → (List ℕ → Option Signature) → List ℕ
+abbrev pub IsParseOf : {A : Type 0} → (A → ParsedQuery) → Numbers → (List ℕ → Option Signature) → List ℕ
     → Result A ParseError → Type 0
-IsParseOf view signature text result = IsParse signature text (result_map_both view (λ e. e) result)
+IsParseOf view rule signature text result = IsParse rule signature text (result_map_both view (λ e. e) result)
 
 -- a finished query, seen so
 abbrev pub checked_view : Checked → ParsedQuery

@@ -1,6 +1,6 @@
 -- Which refusal a parse reports. What a parse accepts is in `Parse`.
 use Rattle.std.specs.Prelude.{◌≡◌, ◌≢◌, ℕ, ◌+◌, ◌-◌, ◌<◌, ◌≤◌, ◌↔◌, false, List, ◌++◌, length, take, drop, codes, Option, Some, None, Result, Ok, Err, IfErr, IsErrAnd}
-use Rattle.serde_json_path_parser.specs.Imports.{result_map_both, chars, IsCharBoundary, Query, Signature}
+use Rattle.serde_json_path_parser.specs.Imports.{result_map_both, chars, IsCharBoundary, Numbers, Query, Signature}
 use Rattle.serde_json_path_parser.specs.declared.error.ParseErrorKind.TheVariants.{ExpectedRoot, UndefinedFunction, TextAfterPath, NoMemory}
 use Rattle.serde_json_path_parser.specs.declared.error.ParseError.{ParseError}
 use Rattle.serde_json_path_parser.specs.declared.error.Refusal.{Refusal}
@@ -22,8 +22,8 @@ reported total (Err r) = Some (record {
 
 -- The refusal that is met first as a text is read from left to right: its kind, how its message
 -- begins, and its position. There is none where the text is read to its end.
-abbrev pub first_refusal : (List ℕ → Option Signature) → List ℕ → Option ParseError
-first_refusal signature text = reported (length text) (read_path signature (chars text))
+abbrev pub first_refusal : Numbers → (List ℕ → Option Signature) → List ℕ → Option ParseError
+first_refusal rule signature text = reported (length text) (read_path rule signature (chars text))
 
 -- a name with `(` at once after it stands there, and no function of that name is declared (RFC
 -- 9535, section 2.4)
@@ -33,16 +33,16 @@ IsUndeclared signature rest =
     × (signature f ≡ None)
 
 -- What a refusal, if that is the answer, says of a text, which is given by the bytes of its UTF-8.
-pub record Reports (signature : List ℕ → Option Signature) (text : List ℕ) (answer : Result ParsedQuery ParseError) : Type 0 where
+pub record Reports (rule : Numbers) (signature : List ℕ → Option Signature) (text : List ℕ) (answer : Result ParsedQuery ParseError) : Type 0 where
   -- it is the one that is met first, unless memory was refused
-  pub first : IfErr answer (λ e. kind_of e ≢ NoMemory → first_refusal signature text ≡ Some e)
+  pub first : IfErr answer (λ e. kind_of e ≢ NoMemory → first_refusal rule signature text ≡ Some e)
   -- a missing root is reported exactly where a text whose end has a position does not begin with
   -- `$`
   pub missing_root : IsErrAnd answer (λ e. kind_of e ≡ ExpectedRoot)
       ↔ ((length text < greatest_usize) × (begins is_dollar (chars text) ≡ false))
   -- text after the path is reported only where the bytes before the position are an accepted text
   pub text_after : IfErr answer (λ e. kind_of e ≡ TextAfterPath
-      → (q : Query) × IsAccepted signature (chars (take (position_of e - 1) text)) q)
+      → (q : Query) × IsAccepted rule signature (chars (take (position_of e - 1) text)) q)
   -- an undefined function is reported only where a name that is not declared stands, with `(` at
   -- once after it
   pub undefined : IfErr answer (λ e. kind_of e ≡ UndefinedFunction
@@ -51,7 +51,7 @@ pub record Reports (signature : List ℕ → Option Signature) (text : List ℕ)
   pub position : IfErr answer (λ e. (1 ≤ position_of e) × IsCharBoundary text (position_of e - 1))
 
 -- the same of a result that is seen as a tree and its signatures
-abbrev pub ReportsFirst : {A : Type 0} → (A → ParsedQuery) → (List ℕ → Option Signature) → List ℕ
+abbrev pub ReportsFirst : {A : Type 0} → (A → ParsedQuery) → Numbers → (List ℕ → Option Signature) → List ℕ
     → Result A ParseError → Type 0
-ReportsFirst view signature text result =
-    Reports signature text (result_map_both view (λ e. e) result)
+ReportsFirst view rule signature text result =
+    Reports rule signature text (result_map_both view (λ e. e) result)

@@ -5,7 +5,7 @@
 //!
 //! ```text
 //! let mut source = TextSource::new("$..book[-1:].title");
-//! let query = parse(alloc, &mut source, &Builtin)?;
+//! let query = parse(alloc, &mut source, &Builtin, Numbers::Whole)?;
 //! ```
 //!
 //! Definitions are in `specs/`: `Lexical` has names, strings and numbers, `Grammar` which text reads as which tree, `Accepted`

@@ -15,6 +15,7 @@ mod stretch;
 ghost use Rattle.std.specs.Prelude.{◌≡◌, ◌+◌, ◌-◌, ◌*◌, ◌^◌, ◌<◌, ◌≤◌, max, true, length, IfOk, IfErr};
 ghost use Rattle.serde_json_path_syntax.specs.Parts.{signatures_of};
 ghost use Rattle.serde_json_path_functions.specs.Functions.{Fits};
+ghost use Rattle.serde_json_path_functions.specs.Terms.{numbers_view};
 ghost use Rattle.serde_json_path_parser.specs.Source.{greatest_usize};
 ghost use Rattle.serde_json_path_parser.specs.Errors.{kind_of, position_of, is_seen_at_next};
 ghost use Rattle.serde_json_path_parser.specs.Parse.{IsParseOf, checked_view};
@@ -24,13 +25,15 @@ use crate::error::{Failure, ParseError};
 use crate::parser::query::parse_path;
 use crate::parser::reader::Reader;
 use crate::source::PathSource;
-use serde_json_path_functions::Functions;
+use serde_json_path_functions::{Functions, Numbers};
 use serde_json_path_syntax::Checked;
 use std::alloc::Global;
 
 /// Parses the path that a source holds, from left to right, looking at the text only through `byte`.
 ///
-/// Filters may call only functions of this set, and the query fits it. A text of n bytes is looked at no more than
+/// Filters may call only functions of this set, and the query fits it. By `Numbers::Whole` an argument that is a number
+/// has no fraction; by `Numbers::All` any literal may be an argument (RFC 9535, section 2.4.3). The query's comparisons
+/// take numbers by the same rule. A text of n bytes is looked at no more than
 /// 32(n + 1) times. Where a root, a name, a selector or a closing bracket is missing, the parser looks at most one byte
 /// past the one that does not fit.
 ///
@@ -39,18 +42,19 @@ use std::alloc::Global;
 ///
 /// ```text
 /// let mut source = TextSource::new("$..book[-1:].title");
-/// let checked = parse(alloc, &mut source, &Builtin)?;
+/// let checked = parse(alloc, &mut source, &Builtin, Numbers::Whole)?;
 /// ```
 #[tactic(auto, using(crate::proofs::Grammar::Paths::of_parses))]
 pub fn parse<S: PathSource, F: Functions>(
     alloc: Global,
     source: &mut S,
     functions: &F,
+    numbers: Numbers,
 ) -> Result<Checked, ParseError>
-    ensures parse { IsParseOf checked_view (F.set functions.now).signature
+    ensures parse { IsParseOf checked_view (numbers_view numbers) (F.set functions.now).signature
         (S.observed source.old).text result }
-    ensures reported { ReportsFirst checked_view (F.set functions.now).signature
-        (S.observed source.old).text result }
+    ensures reported { ReportsFirst checked_view (numbers_view numbers)
+        (F.set functions.now).signature (S.observed source.old).text result }
     // The signatures that the query keeps are those of the set.
     ensures fits { IfOk result (λ checked. Fits (F.set functions.now) (signatures_of checked)) }
     // The source's text is unchanged.
@@ -69,7 +73,7 @@ pub fn parse<S: PathSource, F: Functions>(
         return Err(Failure::Memory.in_text(0));
     }
     let mut reader = Reader::new(source);
-    let read = parse_path(alloc, &mut reader, functions);
+    let read = parse_path(alloc, &mut reader, functions, numbers);
     let total = reader.len();
     reader.close();
     match read {
@@ -87,6 +91,8 @@ pub(crate) struct Parser<'f, F: Functions> {
     pub(crate) alloc: Global,
     /// The functions that may be called.
     pub(crate) functions: &'f F,
+    /// Which numbers may be arguments.
+    pub(crate) numbers: Numbers,
     /// How many more filters, parentheses and calls may be nested here.
     pub(crate) depth: u8,
 }
@@ -96,11 +102,13 @@ impl<'f, F: Functions> Parser<'f, F> {
     pub(crate) fn deeper(&self) -> Parser<'f, F>
         requires { 0 < self.now.depth }
         ensures functions { result.functions.now ≡ self.now.functions.now }
+        ensures numbers { result.numbers ≡ self.now.numbers }
         ensures depth { result.depth ≡ self.now.depth - 1 }
     {
         Parser {
             alloc: self.alloc,
             functions: self.functions,
+            numbers: self.numbers,
             depth: self.depth - 1,
         }
     }

@@ -1,15 +1,8 @@
 -- Well-typed queries (RFC 9535, section 2.4.3): each call names a declared function, has one argument for each parameter,
 -- of a form that the parameter takes, and stands where its result may stand.
-use Rattle.std.specs.Prelude.{◌≡◌, ℕ, ℤ, pos, ◌*ℤ◌, List, [], ◌∷◌, ◌⊎◌, Option, Some, option_map}
-use Rattle.serde_json_path_syntax.specs.Tree.{Query, query, Segments, no_segments, segment, Segment, dot_name, dot_wildcard, long_hand, Selectors, no_selectors, selector, Selector, name, wildcard, index, slice, filter, LogicalOr, no_or, or, LogicalAnd, no_and, and, Basic, paren, relation, test, Operand, literal, queried, called, Call, call, Arguments, no_arguments, argument, Argument, operand, logical_argument, Literal, text, number, truth, null, IsSingular}
+use Rattle.std.specs.Prelude.{◌≡◌, ℕ, List, [], ◌∷◌, ◌⊎◌, Option, Some, option_map}
+use Rattle.serde_json_path_syntax.specs.Tree.{Query, query, Segments, no_segments, segment, Segment, dot_name, dot_wildcard, long_hand, Selectors, no_selectors, selector, Selector, name, wildcard, index, slice, filter, LogicalOr, no_or, or, LogicalAnd, no_and, and, Basic, paren, relation, test, Operand, literal, queried, called, Call, call, Arguments, no_arguments, argument, Argument, operand, logical_argument, IsSingular}
 use Rattle.serde_json_path_functions.specs.Functions.{Kind, of_value, of_nodes, of_logical, Signature}
-
--- a literal that a parameter of type Value takes: by this project's own rule a number is whole
-abbrev pub IsValueLiteral : Literal → Type 0
-IsValueLiteral (number amount) = (whole : ℤ) × (amount ≡ (whole *ℤ pos 1000000000))
-IsValueLiteral (text t) = Unit {0}
-IsValueLiteral (truth b) = Unit {0}
-IsValueLiteral null = Unit {0}
 
 -- a result that may stand as a test
 abbrev pub IsTestKind : Option Kind → Type 0
@@ -86,7 +79,7 @@ module _ (signature : List ℕ → Option Signature) where
 
     -- what a parameter of that type takes
     pub IsTypedOperand : Operand → Kind → Type 0
-    IsTypedOperand (literal l) of_value = IsValueLiteral l
+    IsTypedOperand (literal l) of_value = Unit {0}
     IsTypedOperand (literal l) _ = ⊥
     IsTypedOperand (queried q) of_value = IsTyped q × IsSingular q
     IsTypedOperand (queried q) _ = IsTyped q

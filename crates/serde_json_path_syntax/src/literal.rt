@@ -29,9 +29,8 @@ pub struct NumberLiteral {
 }
 
 impl NumberLiteral {
-    ghost use Rattle.std.specs.Prelude.{◌↔◌, IsSome, IsTrue, IfSome, int_div, pos};
-    ghost use Rattle.serde_json_path_syntax.specs.Words.{number, of_integer, view, literal_number, exact_view, number_amount, whole_amount, IsValueLiteral};
-    ghost use Rattle.serde_json_path_syntax.specs.Tree as tree;
+    ghost use Rattle.std.specs.Prelude.{◌↔◌, IsSome, IfSome};
+    ghost use Rattle.serde_json_path_syntax.specs.Words.{number, view, literal_held, literal_number, exact_view, number_amount, whole_amount};
 
     /// The number of that many billionths, or `None` if it is out of range.
     pub fn from_billionths(billionths: i128) -> Option<NumberLiteral>
@@ -66,13 +65,6 @@ impl NumberLiteral {
         }
     }
 
-    /// Whether the number has no fraction.
-    fn is_whole(&self) -> bool
-        ensures { IsTrue result ↔ IsValueLiteral (tree.number (number_amount self.now)) }
-    {
-        self.billionths % ONE == 0
-    }
-
     /// The number by which exact comparisons take it: its integer or, with a fraction, the double nearest to it (RFC 8259,
     /// section 6).
     #[inline]
@@ -82,11 +74,14 @@ impl NumberLiteral {
         ExactNumber::of_literal(self.billionths, self.double)
     }
 
-    /// The whole part, rounded toward zero, as a document's number.
+    /// The number as a document would hold it: its integer or, with a fraction, the double nearest to it.
+    #[tactic(auto, using(crate::proofs::Words::held_as_double))]
     pub fn value(&self) -> Value
-        ensures { view result
-            ≡ number (of_integer (int_div (number_amount self.now) (pos 1000000000))) }
+        ensures { view result ≡ number (literal_held (number_amount self.now)) }
     {
+        if let Some(double) = self.double {
+            return Value::from(double);
+        }
         let whole = self.billionths / ONE;
         if whole < 0 {
             Value::from(whole as i64)
@@ -137,20 +132,8 @@ pub enum LiteralValue {
 }
 
 impl LiteralValue {
-    ghost use Rattle.std.specs.Prelude.{◌≡◌, ◌↔◌, IfOk, IsTrue};
-    ghost use Rattle.serde_json_path_syntax.specs.Words.{held_view, literal_fits, IsValueLiteral};
-
-    /// Whether the literal may be an argument of type Value: any literal but a number with a fraction. The RFC takes those too
-    /// (RFC 9535, section 2.4.3); this project does not.
-    #[tactic(auto, using(crate::proofs::Typing::Typings::written_is_value))]
-    pub fn is_value(&self) -> bool
-        ensures { IsTrue result ↔ IsValueLiteral (held_view self.now) }
-    {
-        match self {
-            LiteralValue::Number(number) => number.is_whole(),
-            LiteralValue::Value(_) => true,
-        }
-    }
+    ghost use Rattle.std.specs.Prelude.{◌≡◌, IfOk};
+    ghost use Rattle.serde_json_path_syntax.specs.Words.{held_view, literal_fits};
 
     /// A copy of the literal. An error comes only where memory is refused.
     pub(crate) fn try_clone(&self) -> Result<LiteralValue, AllocError>

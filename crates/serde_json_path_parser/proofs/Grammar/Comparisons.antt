@@ -1,5 +1,5 @@
 -- Operands, comparisons and tests, by what holds one level deeper.
-use Rattle.serde_json_path_parser.proofs.Words.{◌==◌, codes, bytes_eq, ℤ, and_parts, ReadSegments, is_digit, is_exponent, nat_le, ◌&&◌, bytes_eq-Decides, QueryKind, root, current, query, Call, Literal, text, number, truth, null, Segments, call, Signature, ExpectedExpression, is_at, begins, is_small_letter, is_function_char, IsFunctionName, IsQuote, AllPass, is_blank, is_name_char, IsNumber, opens, IsLiteral, Reads, ReadsCall, query_sign, Parsed, past_blanks, byte_count, read_string, segment_list, begins_int, Operand, literal, called, Deeper, word, past_word, begins_call, read_literal_word, read_query, read_named_call, read_text, read_operand, ◌>>=◌, Basic, relation, test, queried, Operator, equal, less, greater, result_kind, IsTestKind, Kind, of_value, of_nodes, of_logical, NonSingularQuery, WrongReturnType, ExpectedComparisonOperator, IsBlank, operator_sign, is_result, read_operator, read_comparable, read_test, read_right_side, read_relation, read_basic_from, ℕ, ◌<◌, ◌≡◌, inl, inr, true, false, List, [], ◌∷◌, ◌++◌, drop, Option, Ok, refl, sym, ap, ◌∙◌, append_assoc, Bool, arith, cond, Some, None, subst, LongHand, read_named, or_parts, begins_operator, IsTypedOperand, operand_depth, ReadsOperand, ◌≤◌}
+use Rattle.serde_json_path_parser.proofs.Words.{Numbers, ◌==◌, codes, bytes_eq, ℤ, and_parts, ReadSegments, is_digit, is_exponent, nat_le, ◌&&◌, bytes_eq-Decides, QueryKind, root, current, query, Call, Literal, text, number, truth, null, Segments, call, Signature, ExpectedExpression, is_at, begins, is_small_letter, is_function_char, IsFunctionName, IsQuote, AllPass, is_blank, is_name_char, IsNumber, opens, IsLiteral, Reads, ReadsCall, query_sign, Parsed, past_blanks, byte_count, read_string, segment_list, begins_int, Operand, literal, called, Deeper, word, past_word, begins_call, read_literal_word, read_query, read_named_call, read_text, read_operand, ◌>>=◌, Basic, relation, test, queried, Operator, equal, less, greater, result_kind, IsTestKind, Kind, of_value, of_nodes, of_logical, NonSingularQuery, WrongReturnType, ExpectedComparisonOperator, IsBlank, operator_sign, is_result, read_operator, read_comparable, read_test, read_right_side, read_relation, read_basic_from, ℕ, ◌<◌, ◌≡◌, inl, inr, true, false, List, [], ◌∷◌, ◌++◌, drop, Option, Ok, refl, sym, ap, ◌∙◌, append_assoc, Bool, arith, cond, Some, None, subst, LongHand, read_named, or_parts, begins_operator, IsTypedOperand, operand_depth, ReadsOperand, ◌≤◌}
 use Rattle.serde_json_path_parser.proofs.Grammar.LogicalForms.{query_singular, IsGoodQuery, IsGoodCall, DeeperLaws, ends_operand, IsCallText, IsOperandText, singular_query, ends_basic, IsBasicText, IsComparableText, begins_operand, operand_begins, as_expression, no_blank_begins}
 use Rattle.serde_json_path_parser.proofs.Grammar.Numbers.{number_outcome, goes_on, number_first, number_again}
 use Rattle.serde_json_path_parser.proofs.Reading.{whole, front_each, front_begins, some_begun, begins_front, begins_where, differs, begins_differs, front_all, past_run, no_blank, blanks_of, begins_not, Spaced, after_one, Read, after_two, made_spaced, read_spaced, guarded, along, choose, inner, past_spaced, remade, Outcome, past_text, read_as, refused, onward, gives, Inner}
@@ -13,11 +13,11 @@ use Rattle.serde_json_path_parser.proofs.Grammar.Strings.{string_outcome, string
 word_is_name : (cs : List ℕ) → begins is_small_letter cs ≡ true → IsFunctionName (word cs) (word cs)
 word_is_name cs e = record { first = front_begins is_function_char is_small_letter cs (λ c h. rw h refl) e; passes = front_each is_function_char cs; bytes_of = refl }
 
-module _ (signature : List ℕ → Option Signature) (n : ℕ) (deeper : Deeper) (laws : DeeperLaws signature n deeper) where
+module _ (rule : Numbers) (signature : List ℕ → Option Signature) (n : ℕ) (deeper : Deeper) (laws : DeeperLaws rule signature n deeper) where
   -- ---- what a reading gives
 
   abbrev OperandOutcome : List ℕ → Parsed Operand → Type 0
-  OperandOutcome cs answer = Outcome (Spaced (IsOperandText signature n)) (Inner signature) cs answer
+  OperandOutcome cs answer = Outcome (Spaced (IsOperandText rule signature n)) (Inner signature) cs answer
 
   -- a literal word and the blanks after it
   word_outcome : (cs bytes : List ℕ) (l : Literal) → ((t : List ℕ) → t ≡ bytes → IsLiteral l t) → bytes_eq (word cs) bytes ≡ true → OperandOutcome cs (Ok (literal l, past_blanks (past_word cs)))
@@ -34,18 +34,18 @@ module _ (signature : List ℕ → Option Signature) (n : ℕ) (deeper : Deeper)
   quoted_outcome quote cs is e = inner (along (after_one quote cs e) (made_spaced (λ bytes. literal (text bytes)) (λ t bytes h. (tt, h)) (string_outcome quote is (drop 1 cs))))
 
   pub query_outcome : (kind : QueryKind) (sign : ℕ) (cs : List ℕ) → query_sign kind ≡ sign ∷ [] → begins (λ c. c == sign) cs ≡ true
-      → Outcome (Spaced (λ t q. IsGoodQuery signature n q × Reads q t)) (Inner signature) cs (read_query signature deeper kind cs)
+      → Outcome (Spaced (λ t q. IsGoodQuery signature n q × Reads rule q t)) (Inner signature) cs (read_query rule signature deeper kind cs)
   query_outcome kind sign cs is e =
       past_spaced (sign ∷ []) (after_one sign cs e)
-      (made_spaced (λ ss. query kind (segment_list ss)) (λ t ss h. (h.0, (t, h.1, ap (λ (l : List ℕ). l ++ t) (sym is)))) (segments_outcome signature n deeper laws LongHand (drop 1 cs)))
+      (made_spaced (λ ss. query kind (segment_list ss)) (λ t ss h. (h.0, (t, h.1, ap (λ (l : List ℕ). l ++ t) (sym is)))) (segments_outcome rule signature n deeper laws LongHand (drop 1 cs)))
 
-  pub named_call_outcome : (cs : List ℕ) → begins_call cs ≡ true → Outcome (Spaced (IsCallText signature n)) (Inner signature) cs (read_named_call signature deeper cs)
+  pub named_call_outcome : (cs : List ℕ) → begins_call cs ≡ true → Outcome (Spaced (IsCallText rule signature n)) (Inner signature) cs (read_named_call rule signature deeper cs)
   unfolding read_named_call
   named_call_outcome cs begun =
       let parts = and_parts (begins is_small_letter cs) (is_at "(" (past_word cs)) begun in
       laws.call_outcome cs (word cs) (drop 1 (past_word cs)) (word_is_name cs parts.0) (whole is_function_char cs ∙ ap (λ (l : List ℕ). word cs ++ l) (after_one 40 (past_word cs) parts.1))
 
-  pub operand_outcome : (cs : List ℕ) → OperandOutcome cs (read_operand signature deeper cs)
+  pub operand_outcome : (cs : List ℕ) → OperandOutcome cs (read_operand rule signature deeper cs)
   operand_outcome cs =
       choose (quoted_outcome 39 cs (inl refl)) (λ _.
       choose (quoted_outcome 34 cs (inr refl)) (λ _.
@@ -82,17 +82,17 @@ word_alone w rest passes follows =
     let passed : past_word (w ++ rest) ≡ rest = past_run is_function_char w rest passes none in
     (front_all is_function_char w rest passes none, passed, ap (is_at "(") passed ∙ none_after (λ c. c == 40) rest (λ c e. grind (arith, e)) (λ c e. grind (arith, e)) follows)
 
-module _ (signature : List ℕ → Option Signature) (n : ℕ) (deeper : Deeper) (laws : DeeperLaws signature n deeper) where
+module _ (rule : Numbers) (signature : List ℕ → Option Signature) (n : ℕ) (deeper : Deeper) (laws : DeeperLaws rule signature n deeper) where
   -- ---- queries and calls
 
-  pub query_again : (kind : QueryKind) (sign : ℕ) (a : List ℕ) (segs : Segments) (rest : List ℕ) → IsGoodQuery signature n (query kind segs) → ReadSegments segs a → Follows ends_operand rest
-      → read_query signature deeper kind (sign ∷ (a ++ rest)) ≡ Ok (query kind segs, past_blanks rest)
+  pub query_again : (kind : QueryKind) (sign : ℕ) (a : List ℕ) (segs : Segments) (rest : List ℕ) → IsGoodQuery signature n (query kind segs) → ReadSegments rule segs a → Follows ends_operand rest
+      → read_query rule signature deeper kind (sign ∷ (a ++ rest)) ≡ Ok (query kind segs, past_blanks rest)
   query_again kind sign a segs rest good reads follows =
       let closed = begins_where ends_operand opens false (past_blanks rest) (λ c e. grind (arith, e)) follows in
-      let read = segments_again signature n deeper laws LongHand a segs rest (good, reads) (none_after is_name_char rest blank_no_name ends_no_name follows) closed in
+      let read = segments_again rule signature n deeper laws LongHand a segs rest (good, reads) (none_after is_name_char rest blank_no_name ends_no_name follows) closed in
       rw (read, same_segments segs) refl
 
-  pub named_call_again : (t : List ℕ) (c : Call) (rest : List ℕ) → IsGoodCall signature n c → ReadsCall c t → (begins_call (t ++ rest) ≡ true) × (read_named_call signature deeper (t ++ rest) ≡ Ok (c, past_blanks rest))
+  pub named_call_again : (t : List ℕ) (c : Call) (rest : List ℕ) → IsGoodCall signature n c → ReadsCall rule c t → (begins_call (t ++ rest) ≡ true) × (read_named_call rule signature deeper (t ++ rest) ≡ Ok (c, past_blanks rest))
   unfolding read_named_call
   named_call_again t (call f args) rest good (m, j, a, k, name, before, are, closing, e) =
       let inside = 40 ∷ ((j ++ (a ++ (k ++ 41 ∷ []))) ++ rest) in
@@ -105,10 +105,10 @@ module _ (signature : List ℕ → Option Signature) (n : ℕ) (deeper : Deeper)
   -- ---- literals
 
   abbrev read : List ℕ → Parsed Operand
-  read cs = read_operand signature deeper cs
+  read cs = read_operand rule signature deeper cs
 
   -- at a letter stands a call or a literal word
-  at_letter : (cs : List ℕ) → begins is_small_letter cs ≡ true → read cs ≡ read_named signature deeper cs
+  at_letter : (cs : List ℕ) → begins is_small_letter cs ≡ true → read cs ≡ read_named rule signature deeper cs
   at_letter cs letter =
       let other : (k : ℕ) → is_small_letter k ≡ false → begins (λ c. c == k) cs ≡ false = λ k none. begins_differs is_small_letter k cs none letter in
       rw (other 39 refl, other 34 refl, other 64 refl, other 36 refl, letter) refl
@@ -131,7 +131,7 @@ module _ (signature : List ℕ → Option Signature) (n : ℕ) (deeper : Deeper)
 
   -- ---- operands
 
-  pub operand_again : (t : List ℕ) (o : Operand) (rest : List ℕ) → IsOperandText signature n t o → Follows ends_operand rest → read_operand signature deeper (t ++ rest) ≡ Ok (o, past_blanks rest)
+  pub operand_again : (t : List ℕ) (o : Operand) (rest : List ℕ) → IsOperandText rule signature n t o → Follows ends_operand rest → read_operand rule signature deeper (t ++ rest) ≡ Ok (o, past_blanks rest)
   operand_again t (literal (text bytes)) rest h follows =
       let s = string_again t bytes rest h.1 in
       ap (λ (l : List ℕ). read (l ++ rest)) s.3 ∙ quoted_again s.0 (s.1 ++ rest) bytes rest s.2 s.4
@@ -206,7 +206,7 @@ test_result of_value e = absurd cc
 test_result of_nodes e = inl refl
 test_result of_logical e = inr refl
 
-module _ (signature : List ℕ → Option Signature) (n : ℕ) where
+module _ (rule : Numbers) (signature : List ℕ → Option Signature) (n : ℕ) where
   -- a well-typed call whose result is no value may stand as a test
   pub may_test : (c : Call) → IsGoodCall signature n c → is_result of_value (result_kind signature c) ≡ false → IsTestKind (result_kind signature c)
   may_test (call f args) good e =
@@ -214,12 +214,12 @@ module _ (signature : List ℕ → Option Signature) (n : ℕ) where
       let result : result_kind signature (call f args) ≡ Some typed.0.result = rw typed.1 refl in
       subst IsTestKind (sym result) (test_result typed.0.result (ap (is_result of_value) (sym result) ∙ e))
 
-module _ (signature : List ℕ → Option Signature) (n : ℕ) (deeper : Deeper) (laws : DeeperLaws signature n deeper) where
+module _ (rule : Numbers) (signature : List ℕ → Option Signature) (n : ℕ) (deeper : Deeper) (laws : DeeperLaws rule signature n deeper) where
   -- ---- what a reading gives
 
   -- an operand of this text, which stands before
-  comparable_outcome : (is : List ℕ → Operand → Type 0) (start before t : List ℕ) (o : Operand) (cs : List ℕ) → IsOperandText signature n t o → start ≡ before ++ cs → ((a : Operand) → IsComparableText signature n t a → is before a)
-      → Outcome is (Inner signature) start (read_comparable signature deeper (byte_count start) o cs)
+  comparable_outcome : (is : List ℕ → Operand → Type 0) (start before t : List ℕ) (o : Operand) (cs : List ℕ) → IsOperandText rule signature n t o → start ≡ before ++ cs → ((a : Operand) → IsComparableText rule signature n t a → is before a)
+      → Outcome is (Inner signature) start (read_comparable rule signature deeper (byte_count start) o cs)
   comparable_outcome is start before t (literal l) cs h split good = gives (literal l, cs) (record { text = before; is_so = good (literal l) ((tt, omega arith), h.1); split = split })
   comparable_outcome is start before t (queried q) cs h split good = guarded NonSingularQuery LongHand (inl refl) (λ e.
       gives (queried q, cs) (record { text = before; is_so = good (queried q) (((h.0.0, singular_query q e), h.0.1), h.1); split = split }))
@@ -227,23 +227,23 @@ module _ (signature : List ℕ → Option Signature) (n : ℕ) (deeper : Deeper)
       gives (called c, cs) (record { text = before; is_so = good (called c) (((h.0.0, value_result (result_kind signature c) e), h.0.1), h.1); split = split }))
 
   -- what is read as a test of an operand is one of the text that good says
-  pub test_outcome : (is : List ℕ → Basic → Type 0) (negated : Bool) (start : List ℕ) (o : Operand × List ℕ) → Read (Spaced (IsOperandText signature n)) start o
-      → ((o : Operand) (t : List ℕ) → (IsTypedOperand signature o of_logical × (operand_depth o ≤ n)) × ReadsOperand o t → is t (test negated o))
-      → Outcome (Spaced is) (Inner signature) start (read_test signature deeper negated (byte_count start) o.0 o.1)
+  pub test_outcome : (is : List ℕ → Basic → Type 0) (negated : Bool) (start : List ℕ) (o : Operand × List ℕ) → Read (Spaced (IsOperandText rule signature n)) start o
+      → ((o : Operand) (t : List ℕ) → (IsTypedOperand signature o of_logical × (operand_depth o ≤ n)) × ReadsOperand rule o t → is t (test negated o))
+      → Outcome (Spaced is) (Inner signature) start (read_test rule signature deeper negated (byte_count start) o.0 o.1)
   test_outcome is negated start (literal l, cs) s good = past_text s.text s.split (refused ExpectedComparisonOperator LongHand (inl refl))
   test_outcome is negated start (queried q, cs) s good = read_as (test negated (queried q)) s (good (queried q))
   test_outcome is negated start (called c, cs) s good =
-      choose (λ e. refused WrongReturnType LongHand (inl refl)) (λ e. read_as (test negated (called c)) s (λ t h. good (called c) t (((h.0.0, may_test signature n c h.0 e), h.0.1), h.1)))
+      choose (λ e. refused WrongReturnType LongHand (inl refl)) (λ e. read_as (test negated (called c)) s (λ t h. good (called c) t (((h.0.0, may_test rule signature n c h.0 e), h.0.1), h.1)))
 
-  right_side_outcome : (cs : List ℕ) → Outcome (Spaced (IsComparableText signature n)) (Inner signature) cs (read_right_side signature deeper cs)
-  right_side_outcome cs = onward (operand_outcome signature n deeper laws cs) (λ o e s.
-      comparable_outcome (Spaced (IsComparableText signature n)) cs s.text s.is_so.0 o.0 o.1 s.is_so.2 s.split (λ a h. (s.is_so.0, s.is_so.1, h, s.is_so.3, s.is_so.4)))
+  right_side_outcome : (cs : List ℕ) → Outcome (Spaced (IsComparableText rule signature n)) (Inner signature) cs (read_right_side rule signature deeper cs)
+  right_side_outcome cs = onward (operand_outcome rule signature n deeper laws cs) (λ o e s.
+      comparable_outcome (Spaced (IsComparableText rule signature n)) cs s.text s.is_so.0 o.0 o.1 s.is_so.2 s.split (λ a h. (s.is_so.0, s.is_so.1, h, s.is_so.3, s.is_so.4)))
 
-  pub basic_from_outcome : (start : List ℕ) (o : Operand × List ℕ) → Read (Spaced (IsOperandText signature n)) start o → Outcome (Spaced (IsBasicText signature n)) (Inner signature) start (read_basic_from signature deeper (byte_count start) o.0 o.1)
+  pub basic_from_outcome : (start : List ℕ) (o : Operand × List ℕ) → Read (Spaced (IsOperandText rule signature n)) start o → Outcome (Spaced (IsBasicText rule signature n)) (Inner signature) start (read_basic_from rule signature deeper (byte_count start) o.0 o.1)
   basic_from_outcome start o s = by_operator (read_operator o.1) (operator_found o.1)
     where
-      by_operator : (op : Option (Operator × List ℕ)) → Found o.1 op → Outcome (Spaced (IsBasicText signature n)) (Inner signature) start (read_relation signature deeper (byte_count start) o.0 op o.1)
-      by_operator None found = test_outcome (IsBasicText signature n) false start o s (λ o t h. h)
+      by_operator : (op : Option (Operator × List ℕ)) → Found o.1 op → Outcome (Spaced (IsBasicText rule signature n)) (Inner signature) start (read_relation rule signature deeper (byte_count start) o.0 op o.1)
+      by_operator None found = test_outcome (IsBasicText rule signature n) false start o s (λ o t h. h)
       by_operator (Some op) found =
           let t = s.is_so.0 in
           let k = s.is_so.1 in
@@ -252,7 +252,7 @@ module _ (signature : List ℕ → Option Signature) (n : ℕ) (deeper : Deeper)
           let split : start ≡ (t ++ sign) ++ past_blanks op.1 =
           s.split ∙ ap (λ (l : List ℕ). l ++ o.1) s.is_so.4 ∙ ap (λ (l : List ℕ). (t ++ k) ++ l) (found ∙ ap (λ (l : List ℕ). operator_sign op.0 ++ l) (whole is_blank op.1))
           ∙ regrouped t k (operator_sign op.0) j (past_blanks op.1) in
-          onward (comparable_outcome (λ u a. IsComparableText signature n t a × (u ≡ t ++ sign)) start (t ++ sign) t o.0 (past_blanks op.1) s.is_so.2 split (λ a h. (h, refl))) (λ a e r.
+          onward (comparable_outcome (λ u a. IsComparableText rule signature n t a × (u ≡ t ++ sign)) start (t ++ sign) t o.0 (past_blanks op.1) s.is_so.2 split (λ a h. (h, refl))) (λ a e r.
           past_spaced r.text r.split (remade (λ b. relation a.0 op.0 b) (λ u b h. (
             ((r.is_so.0.0.0, h.0.0), omega (arith, r.is_so.0.0.1, h.0.1)),
             (t, sign, u, r.is_so.0.1, (k, j, s.is_so.3, front_each is_blank op.1, refl), h.1, ap (λ (l : List ℕ). l ++ u) r.is_so.1 ∙ append_assoc t sign u),
@@ -263,41 +263,41 @@ module _ (signature : List ℕ → Option Signature) (n : ℕ) (deeper : Deeper)
 
   -- ---- what is good is read
 
-  as_operand : (a : Operand) (t : List ℕ) → IsComparableText signature n t a → IsOperandText signature n t a
+  as_operand : (a : Operand) (t : List ℕ) → IsComparableText rule signature n t a → IsOperandText rule signature n t a
   as_operand (literal l) t h = (tt, h.1)
   as_operand (queried q) t h = ((h.0.0.0, h.0.1), h.1)
   as_operand (called c) t h = ((h.0.0.0, h.0.1), h.1)
 
-  comparable_again : (start : List ℕ) (a : Operand) (t cs : List ℕ) → IsComparableText signature n t a → read_comparable signature deeper (byte_count start) a cs ≡ Ok (a, cs)
+  comparable_again : (start : List ℕ) (a : Operand) (t cs : List ℕ) → IsComparableText rule signature n t a → read_comparable rule signature deeper (byte_count start) a cs ≡ Ok (a, cs)
   comparable_again start (literal l) t cs h = refl
   comparable_again start (queried q) t cs h = rw (query_singular q h.0.0.1) refl
   comparable_again start (called c) t cs h = rw h.0.0.1 refl
 
-  pub test_again : (negated : Bool) (start : List ℕ) (o : Operand) (cs : List ℕ) → IsTypedOperand signature o of_logical → read_test signature deeper negated (byte_count start) o cs ≡ Ok (test negated o, cs)
+  pub test_again : (negated : Bool) (start : List ℕ) (o : Operand) (cs : List ℕ) → IsTypedOperand signature o of_logical → read_test rule signature deeper negated (byte_count start) o cs ≡ Ok (test negated o, cs)
   test_again negated start (literal l) cs h = absurd h
   test_again negated start (queried q) cs h = refl
   test_again negated start (called c) cs h = rw (test_no_value (result_kind signature c) h.1) refl
 
   -- an operand, and what it is made after it
   abbrev pub compared : List ℕ → Parsed Basic
-  compared cs = read_operand signature deeper cs >>= λ o. read_basic_from signature deeper (byte_count cs) o.0 o.1
+  compared cs = read_operand rule signature deeper cs >>= λ o. read_basic_from rule signature deeper (byte_count cs) o.0 o.1
 
-  pub relation_again : (t : List ℕ) (left : Operand) (op : Operator) (right : Operand) (rest : List ℕ) → IsBasicText signature n t (relation left op right) → Follows ends_basic rest
+  pub relation_again : (t : List ℕ) (left : Operand) (op : Operator) (right : Operand) (rest : List ℕ) → IsBasicText rule signature n t (relation left op right) → Follows ends_basic rest
       → compared (t ++ rest) ≡ Ok (relation left op right, past_blanks rest)
   relation_again t left op right rest (good, (a, s, b, is_left, (j, k, before, after, sign), is_right, same)) follows =
       let here = operator_sign op ++ (k ++ (b ++ rest)) in
       let start = a ++ (j ++ here) in
       let whole : t ++ rest ≡ start = ap (λ (l : List ℕ). l ++ rest) (same ∙ ap (λ (l : List ℕ). a ++ (l ++ b)) sign) ∙ regrouped a j (operator_sign op) k b rest in
-      let left_good : IsComparableText signature n a left = ((good.0.0, omega (arith, good.1)), is_left) in
-      let right_good : IsComparableText signature n b right = ((good.0.1, omega (arith, good.1)), is_right) in
+      let left_good : IsComparableText rule signature n a left = ((good.0.0, omega (arith, good.1)), is_left) in
+      let right_good : IsComparableText rule signature n b right = ((good.0.1, omega (arith, good.1)), is_right) in
       let o = as_operand right b right_good in
-      let first = operand_begins right b rest o.1 in
+      let first = operand_begins rule right b rest o.1 in
       let sign_ends = operator_ends op (k ++ (b ++ rest)) in
       let past : past_blanks (j ++ here) ≡ here = past_run is_blank j here before (begins_where ends_operand is_blank false here (λ c e. no_blank ends_operand c refl refl refl refl e) sign_ends) in
-      let left_read : read_operand signature deeper start ≡ Ok (left, here) =
-      operand_again signature n deeper laws a left (j ++ here) (as_operand left a left_good) (ap (begins ends_operand) past ∙ sign_ends)
+      let left_read : read_operand rule signature deeper start ≡ Ok (left, here) =
+      operand_again rule signature n deeper laws a left (j ++ here) (as_operand left a left_good) (ap (begins ends_operand) past ∙ sign_ends)
       ∙ ap (λ (l : List ℕ). Ok (left, l)) past in
-      let right_read = operand_again signature n deeper laws b right rest o (basic_ends_operand rest follows) in
+      let right_read = operand_again rule signature n deeper laws b right rest o (basic_ends_operand rest follows) in
       let found = operator_again op (k ++ (b ++ rest)) (no_equals k (b ++ rest) after first) in
       ap compared whole ∙ rw (left_read, found)
       (rw (past_run is_blank k (b ++ rest) after (no_blank_begins (b ++ rest) (as_expression (b ++ rest) first)), comparable_again start left a (b ++ rest) left_good, right_read, comparable_again (b ++ rest) right b (past_blanks rest) right_good) refl)
@@ -305,7 +305,7 @@ module _ (signature : List ℕ → Option Signature) (n : ℕ) (deeper : Deeper)
       regrouped : (a j o k b d : List ℕ) → (a ++ ((j ++ (o ++ k)) ++ b)) ++ d ≡ a ++ (j ++ (o ++ (k ++ (b ++ d))))
       regrouped a j o k b d = simp append_assoc refl
 
-  pub tested : (t : List ℕ) (o : Operand) (rest : List ℕ) → IsOperandText signature n t o → Follows ends_basic rest → compared (t ++ rest) ≡ read_test signature deeper false (byte_count (t ++ rest)) o (past_blanks rest)
+  pub tested : (t : List ℕ) (o : Operand) (rest : List ℕ) → IsOperandText rule signature n t o → Follows ends_basic rest → compared (t ++ rest) ≡ read_test rule signature deeper false (byte_count (t ++ rest)) o (past_blanks rest)
   tested t o rest h follows =
-      rw (operand_again signature n deeper laws t o rest h (basic_ends_operand rest follows))
-      (ap (λ op. read_relation signature deeper (byte_count (t ++ rest)) o op (past_blanks rest)) (no_operator (past_blanks rest) (begins_where ends_basic begins_operator false (past_blanks rest) (λ c e. grind (arith, e)) follows)))
+      rw (operand_again rule signature n deeper laws t o rest h (basic_ends_operand rest follows))
+      (ap (λ op. read_relation rule signature deeper (byte_count (t ++ rest)) o op (past_blanks rest)) (no_operator (past_blanks rest) (begins_where ends_basic begins_operator false (past_blanks rest) (λ c e. grind (arith, e)) follows)))

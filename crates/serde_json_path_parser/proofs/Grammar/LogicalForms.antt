@@ -1,5 +1,5 @@
 -- What is good at a level, and its texts: what may follow an operand or an expression, how each begins, and filters by what holds one level deeper.
-use Rattle.serde_json_path_parser.proofs.Words.{comparable_is, ◌==◌, ◌||◌, Segments, no_segments, segment, Segment, dot_name, long_hand, no_selectors, selector, Selector, filter, LogicalOr, Signature, is_at, begins, ReadsSelector, past_blanks, Query, query, child, descendant, name, index, Call, call, Arguments, IsSingularSegment, AreSingular, IsSingular, and_parts, IsTyped, AreTypedSegments, IsTypedSegment, IsTypedSelector, IsTypedOr, IsTypedCall, depth, segments_depth, segment_depth, selector_depth, or_depth, call_depth, IsBlank, IsFunctionName, IsLiteral, Reads, ReadsOr, ReadsCall, ReadArguments, byte_count, Operand, literal, called, is_singular_segment, are_singular, is_singular, Deeper, IsTypedComparable, IsTypedAnd, ReadsAnd, IsTypedBasic, ReadsOperand, operand_depth, basic_depth, LogicalAnd, ReadsBasic, Basic, and_depth, root, current, no_or, or, no_and, and, paren, relation, test, queried, Literal, text, number, truth, is_blank, is_digit, is_small_letter, SegmentKind, ReadSegments, ReadsSegment, ◌≡◌, ℕ, true, List, [], ◌++◌, Option, Ok, ◌+◌, ◌≤◌, Bool, ◌∷◌, refl, arith, false, ap, ◌∙◌, append_assoc, drop, read_filter, begins_test, IsTypedOperand, Kind, of_value, of_logical}
+use Rattle.serde_json_path_parser.proofs.Words.{Numbers, comparable_is, ◌==◌, ◌||◌, Segments, no_segments, segment, Segment, dot_name, long_hand, no_selectors, selector, Selector, filter, LogicalOr, Signature, is_at, begins, ReadsSelector, past_blanks, Query, query, child, descendant, name, index, Call, call, Arguments, IsSingularSegment, AreSingular, IsSingular, and_parts, IsTyped, AreTypedSegments, IsTypedSegment, IsTypedSelector, IsTypedOr, IsTypedCall, depth, segments_depth, segment_depth, selector_depth, or_depth, call_depth, IsBlank, IsFunctionName, IsLiteral, Reads, ReadsOr, ReadsCall, ReadArguments, byte_count, Operand, literal, called, is_singular_segment, are_singular, is_singular, Deeper, IsTypedComparable, IsTypedAnd, ReadsAnd, IsTypedBasic, ReadsOperand, operand_depth, basic_depth, LogicalAnd, ReadsBasic, Basic, and_depth, root, current, no_or, or, no_and, and, paren, relation, test, queried, Literal, text, number, truth, is_blank, is_digit, is_small_letter, SegmentKind, ReadSegments, ReadsSegment, ◌≡◌, ℕ, true, List, [], ◌++◌, Option, Ok, ◌+◌, ◌≤◌, Bool, ◌∷◌, refl, arith, false, ap, ◌∙◌, append_assoc, drop, read_filter, begins_test, IsTypedOperand, Kind, of_value, of_logical}
 use Rattle.serde_json_path_parser.proofs.Reading.{Inner, Outcome, Past, remade, after_sign, Spaced, some_begun, begins_front, begins_where, no_blank, blanks_of, past_run, front_each}
 use Rattle.serde_json_path_parser.proofs.Rows.{Follows}
 use Rattle.serde_json_path_parser.proofs.Grammar.Numbers.{number_first}
@@ -58,45 +58,45 @@ module _ (signature : List ℕ → Option Signature) (n : ℕ) where
 
 -- ---- texts of what is good
 
-module _ (signature : List ℕ → Option Signature) (n : ℕ) where
+module _ (rule : Numbers) (signature : List ℕ → Option Signature) (n : ℕ) where
   abbrev pub IsOperandText : List ℕ → Operand → Type 0
-  IsOperandText t o = IsGoodOperand signature n o × ReadsOperand o t
+  IsOperandText t o = IsGoodOperand signature n o × ReadsOperand rule o t
 
   abbrev pub IsComparableText : List ℕ → Operand → Type 0
-  IsComparableText t a = (IsTypedComparable signature a × (operand_depth a ≤ n)) × ReadsOperand a t
+  IsComparableText t a = (IsTypedComparable signature a × (operand_depth a ≤ n)) × ReadsOperand rule a t
 
   abbrev pub IsBasicText : List ℕ → Basic → Type 0
-  IsBasicText t b = (IsTypedBasic signature b × (basic_depth b ≤ n)) × ReadsBasic b t
+  IsBasicText t b = (IsTypedBasic signature b × (basic_depth b ≤ n)) × ReadsBasic rule b t
 
   abbrev pub IsAndText : List ℕ → LogicalAnd → Type 0
-  IsAndText t e = (IsTypedAnd signature e × (and_depth e ≤ n)) × ReadsAnd e t
+  IsAndText t e = (IsTypedAnd signature e × (and_depth e ≤ n)) × ReadsAnd rule e t
 
   abbrev pub IsOrText : List ℕ → LogicalOr → Type 0
-  IsOrText t e = (IsTypedOr signature e × (or_depth e ≤ n)) × ReadsOr e t
+  IsOrText t e = (IsTypedOr signature e × (or_depth e ≤ n)) × ReadsOr rule e t
 
   abbrev pub IsSelectorText : List ℕ → Selector → Type 0
-  IsSelectorText t sel = (IsTypedSelector signature sel × (selector_depth sel ≤ n)) × ReadsSelector sel t
+  IsSelectorText t sel = (IsTypedSelector signature sel × (selector_depth sel ≤ n)) × ReadsSelector rule sel t
 
   abbrev pub IsSegmentText : SegmentKind → List ℕ → Segment → Type 0
-  IsSegmentText kind t seg = (IsTypedSegment signature seg × (segment_depth seg ≤ n)) × ReadsSegment seg kind t
+  IsSegmentText kind t seg = (IsTypedSegment signature seg × (segment_depth seg ≤ n)) × ReadsSegment rule seg kind t
 
   abbrev pub AreSegmentsText : List ℕ → Segments → Type 0
-  AreSegmentsText t segs = (AreTypedSegments signature segs × (segments_depth segs ≤ n)) × ReadSegments segs t
+  AreSegmentsText t segs = (AreTypedSegments signature segs × (segments_depth segs ≤ n)) × ReadSegments rule segs t
 
   abbrev pub IsInsideText : List ℕ → LogicalOr → Type 0
-  IsInsideText t e = IsGoodInside signature n e × ReadsOr e t
+  IsInsideText t e = IsGoodInside signature n e × ReadsOr rule e t
 
   abbrev pub IsCallText : List ℕ → Call → Type 0
-  IsCallText t c = IsGoodCall signature n c × ReadsCall c t
+  IsCallText t c = IsGoodCall signature n c × ReadsCall rule c t
 
 -- ---- how filters, parentheses and calls are read at such a level
 
 -- What is read is good and in the grammar, and a refusal stands from where they begin on; and what is good is read.
-pub record DeeperLaws (signature : List ℕ → Option Signature) (n : ℕ) (deeper : Deeper) : Type 0 where
-  pub inside_outcome : (before start cs : List ℕ) → start ≡ before ++ cs → Outcome (Spaced (Past before (IsInsideText signature n))) (Inner signature) start (deeper.expression (byte_count start) cs)
-  pub inside_again : (start t : List ℕ) (e : LogicalOr) (rest : List ℕ) → IsGoodInside signature n e → ReadsOr e t → Follows ends_or rest → deeper.expression (byte_count start) (t ++ rest) ≡ Ok (e, past_blanks rest)
-  pub call_outcome : (start f cs : List ℕ) → IsFunctionName f f → start ≡ f ++ (40 ∷ cs) → Outcome (Spaced (IsCallText signature n)) (Inner signature) start (deeper.call_of (byte_count start) f cs)
-  pub call_again : (start f : List ℕ) (args : Arguments) (j a k rest : List ℕ) → IsGoodCall signature n (call f args) → IsBlank j → ReadArguments args a → IsBlank k
+pub record DeeperLaws (rule : Numbers) (signature : List ℕ → Option Signature) (n : ℕ) (deeper : Deeper) : Type 0 where
+  pub inside_outcome : (before start cs : List ℕ) → start ≡ before ++ cs → Outcome (Spaced (Past before (IsInsideText rule signature n))) (Inner signature) start (deeper.expression (byte_count start) cs)
+  pub inside_again : (start t : List ℕ) (e : LogicalOr) (rest : List ℕ) → IsGoodInside signature n e → ReadsOr rule e t → Follows ends_or rest → deeper.expression (byte_count start) (t ++ rest) ≡ Ok (e, past_blanks rest)
+  pub call_outcome : (start f cs : List ℕ) → IsFunctionName f f → start ≡ f ++ (40 ∷ cs) → Outcome (Spaced (IsCallText rule signature n)) (Inner signature) start (deeper.call_of (byte_count start) f cs)
+  pub call_again : (start f : List ℕ) (args : Arguments) (j a k rest : List ℕ) → IsGoodCall signature n (call f args) → IsBlank j → ReadArguments rule args a → IsBlank k
       → deeper.call_of (byte_count start) f ((j ++ (a ++ (k ++ 41 ∷ []))) ++ rest) ≡ Ok (call f args, past_blanks rest)
 
 -- ---- singular queries
@@ -136,48 +136,48 @@ literal_begins (number amount) t rest h = number_first begins_operand true t amo
 literal_begins (truth true) t rest h = ap (λ (x : List ℕ). begins begins_operand (x ++ rest)) h
 literal_begins _ t rest h = ap (λ (x : List ℕ). begins begins_operand (x ++ rest)) h
 
-query_begins : (q : Query) (t rest : List ℕ) → Reads q t → begins begins_test (t ++ rest) ≡ true
-query_begins (query root segs) t rest h = ap (λ (x : List ℕ). begins begins_test (x ++ rest)) h.2
-query_begins (query current segs) t rest h = ap (λ (x : List ℕ). begins begins_test (x ++ rest)) h.2
+query_begins : (rule : Numbers) (q : Query) (t rest : List ℕ) → Reads rule q t → begins begins_test (t ++ rest) ≡ true
+query_begins rule (query root segs) t rest h = ap (λ (x : List ℕ). begins begins_test (x ++ rest)) h.2
+query_begins rule (query current segs) t rest h = ap (λ (x : List ℕ). begins begins_test (x ++ rest)) h.2
 
-call_begins : (c : Call) (t rest : List ℕ) → ReadsCall c t → begins begins_test (t ++ rest) ≡ true
-call_begins (call f args) t rest (n, j, a, k, is_name, before, is, after, e) =
+call_begins : (rule : Numbers) (c : Call) (t rest : List ℕ) → ReadsCall rule c t → begins begins_test (t ++ rest) ≡ true
+call_begins rule (call f args) t rest (n, j, a, k, is_name, before, is, after, e) =
     begins_where is_small_letter begins_test true (t ++ rest) (λ c e. grind (arith, e))
     (ap (λ (x : List ℕ). begins is_small_letter (x ++ rest)) e ∙ ap (begins is_small_letter) (append_assoc n _ rest) ∙ begins_front is_small_letter true n _ (some_begun is_small_letter n is_name.first) is_name.first)
 
 -- what may be tested
-pub test_begins : (signature : List ℕ → Option Signature) (o : Operand) (t rest : List ℕ) → IsTypedOperand signature o of_logical → ReadsOperand o t → begins begins_test (t ++ rest) ≡ true
-test_begins signature (literal l) t rest typed h = absurd typed
-test_begins signature (queried q) t rest typed h = query_begins q t rest h
-test_begins signature (called c) t rest typed h = call_begins c t rest h
+pub test_begins : (rule : Numbers) (signature : List ℕ → Option Signature) (o : Operand) (t rest : List ℕ) → IsTypedOperand signature o of_logical → ReadsOperand rule o t → begins begins_test (t ++ rest) ≡ true
+test_begins rule signature (literal l) t rest typed h = absurd typed
+test_begins rule signature (queried q) t rest typed h = query_begins rule q t rest h
+test_begins rule signature (called c) t rest typed h = call_begins rule c t rest h
 
 as_operand : (cs : List ℕ) → begins begins_test cs ≡ true → begins begins_operand cs ≡ true
 as_operand cs e = begins_where begins_test begins_operand true cs (λ c e. grind (arith, e)) e
 
-pub operand_begins : (o : Operand) (t rest : List ℕ) → ReadsOperand o t → begins begins_operand (t ++ rest) ≡ true
-operand_begins (literal l) t rest h = literal_begins l t rest h
-operand_begins (queried q) t rest h = as_operand (t ++ rest) (query_begins q t rest h)
-operand_begins (called c) t rest h = as_operand (t ++ rest) (call_begins c t rest h)
+pub operand_begins : (rule : Numbers) (o : Operand) (t rest : List ℕ) → ReadsOperand rule o t → begins begins_operand (t ++ rest) ≡ true
+operand_begins rule (literal l) t rest h = literal_begins l t rest h
+operand_begins rule (queried q) t rest h = as_operand (t ++ rest) (query_begins rule q t rest h)
+operand_begins rule (called c) t rest h = as_operand (t ++ rest) (call_begins rule c t rest h)
 
 pub as_expression : (cs : List ℕ) → begins begins_operand cs ≡ true → begins begins_expression cs ≡ true
 as_expression cs e = begins_where begins_operand begins_expression true cs (λ c e. grind (arith, e)) e
 
-pub basic_begins : (b : Basic) (t rest : List ℕ) → ReadsBasic b t → begins begins_expression (t ++ rest) ≡ true
-basic_begins (paren false e) t rest h = ap (λ (x : List ℕ). begins begins_expression (x ++ rest)) h.6
-basic_begins (relation left op right) t rest h =
-    ap (λ (x : List ℕ). begins begins_expression (x ++ rest)) h.6 ∙ ap (begins begins_expression) (append_assoc h.0 _ rest) ∙ as_expression (h.0 ++ ((h.1 ++ h.2) ++ rest)) (operand_begins left h.0 ((h.1 ++ h.2) ++ rest) h.3)
-basic_begins (test false o) t rest h = as_expression (t ++ rest) (operand_begins o t rest h)
-basic_begins _ t rest h = ap (λ (x : List ℕ). begins begins_expression (x ++ rest)) h.4
+pub basic_begins : (rule : Numbers) (b : Basic) (t rest : List ℕ) → ReadsBasic rule b t → begins begins_expression (t ++ rest) ≡ true
+basic_begins rule (paren false e) t rest h = ap (λ (x : List ℕ). begins begins_expression (x ++ rest)) h.6
+basic_begins rule (relation left op right) t rest h =
+    ap (λ (x : List ℕ). begins begins_expression (x ++ rest)) h.6 ∙ ap (begins begins_expression) (append_assoc h.0 _ rest) ∙ as_expression (h.0 ++ ((h.1 ++ h.2) ++ rest)) (operand_begins rule left h.0 ((h.1 ++ h.2) ++ rest) h.3)
+basic_begins rule (test false o) t rest h = as_expression (t ++ rest) (operand_begins rule o t rest h)
+basic_begins rule _ t rest h = ap (λ (x : List ℕ). begins begins_expression (x ++ rest)) h.4
 
-pub and_begins : (e : LogicalAnd) (t rest : List ℕ) → ReadsAnd e t → begins begins_expression (t ++ rest) ≡ true
-and_begins no_and t rest h = absurd h
-and_begins (and b more) t rest h =
-    ap (λ (x : List ℕ). begins begins_expression (x ++ rest)) h.4 ∙ ap (begins begins_expression) (append_assoc h.0 h.1 rest) ∙ basic_begins b h.0 (h.1 ++ rest) h.2
+pub and_begins : (rule : Numbers) (e : LogicalAnd) (t rest : List ℕ) → ReadsAnd rule e t → begins begins_expression (t ++ rest) ≡ true
+and_begins rule no_and t rest h = absurd h
+and_begins rule (and b more) t rest h =
+    ap (λ (x : List ℕ). begins begins_expression (x ++ rest)) h.4 ∙ ap (begins begins_expression) (append_assoc h.0 h.1 rest) ∙ basic_begins rule b h.0 (h.1 ++ rest) h.2
 
-pub or_begins : (e : LogicalOr) (t rest : List ℕ) → ReadsOr e t → begins begins_expression (t ++ rest) ≡ true
-or_begins no_or t rest h = absurd h
-or_begins (or a more) t rest h =
-    ap (λ (x : List ℕ). begins begins_expression (x ++ rest)) h.4 ∙ ap (begins begins_expression) (append_assoc h.0 h.1 rest) ∙ and_begins a h.0 (h.1 ++ rest) h.2
+pub or_begins : (rule : Numbers) (e : LogicalOr) (t rest : List ℕ) → ReadsOr rule e t → begins begins_expression (t ++ rest) ≡ true
+or_begins rule no_or t rest h = absurd h
+or_begins rule (or a more) t rest h =
+    ap (λ (x : List ℕ). begins begins_expression (x ++ rest)) h.4 ∙ ap (begins begins_expression) (append_assoc h.0 h.1 rest) ∙ and_begins rule a h.0 (h.1 ++ rest) h.2
 
 -- none begins with a blank
 pub no_blank_begins : (cs : List ℕ) → begins begins_expression cs ≡ true → begins is_blank cs ≡ false
@@ -185,14 +185,14 @@ no_blank_begins cs e = begins_where begins_expression is_blank false cs (λ c e.
 
 -- ---- what is read as a filter is a good one, each is read, and a refusal stands in its text, by what holds one level deeper
 
-module _ (signature : List ℕ → Option Signature) (n : ℕ) (deeper : Deeper) (laws : DeeperLaws signature n deeper) where
-  pub filter_outcome : (cs : List ℕ) → is_at "?" cs ≡ true → Outcome (Spaced (IsSelectorText signature n)) (Inner signature) cs (read_filter signature deeper cs)
+module _ (rule : Numbers) (signature : List ℕ → Option Signature) (n : ℕ) (deeper : Deeper) (laws : DeeperLaws rule signature n deeper) where
+  pub filter_outcome : (cs : List ℕ) → is_at "?" cs ≡ true → Outcome (Spaced (IsSelectorText rule signature n)) (Inner signature) cs (read_filter rule signature deeper cs)
   filter_outcome cs mark =
       let j = blanks_of (drop 1 cs) in
       remade (λ e. filter e) (λ t e h. (h.1.0, (j, h.0, front_each is_blank (drop 1 cs), h.1.1, h.2))) (laws.inside_outcome (63 ∷ j) cs (past_blanks (drop 1 cs)) (after_sign 63 cs mark))
 
-  pub filter_again : (t : List ℕ) (e : LogicalOr) (rest : List ℕ) → IsSelectorText signature n t (filter e) → Follows ends_selector rest → read_filter signature deeper (t ++ rest) ≡ Ok (filter e, past_blanks rest)
+  pub filter_again : (t : List ℕ) (e : LogicalOr) (rest : List ℕ) → IsSelectorText rule signature n t (filter e) → Follows ends_selector rest → read_filter rule signature deeper (t ++ rest) ≡ Ok (filter e, past_blanks rest)
   filter_again t e rest (good, (k, a, blank, is, same)) closes =
       let inside : past_blanks (drop 1 (t ++ rest)) ≡ a ++ rest =
-      ap (λ (l : List ℕ). past_blanks (drop 1 (l ++ rest))) same ∙ ap past_blanks (append_assoc k a rest) ∙ past_run is_blank k (a ++ rest) blank (no_blank_begins (a ++ rest) (or_begins e a rest is)) in
+      ap (λ (l : List ℕ). past_blanks (drop 1 (l ++ rest))) same ∙ ap past_blanks (append_assoc k a rest) ∙ past_run is_blank k (a ++ rest) blank (no_blank_begins (a ++ rest) (or_begins rule e a rest is)) in
       rw (inside, laws.inside_again (t ++ rest) a e rest good is (begins_where ends_selector ends_or true (past_blanks rest) (λ c e. grind (arith, e)) closes)) refl

@@ -1,5 +1,5 @@
 -- Whole paths, and the promises of a parse.
-use Rattle.serde_json_path_parser.proofs.Words.{◌==◌, encode_utf8_all, all_scalars, chars, IsUtf8, IsCharBoundary, append-nil, length-append, nil_from_length, eqb-true, SegmentKind, Segments, Segment, deepest, Signature, ParseErrorKind, ExpectedRoot, UndefinedFunction, TextAfterPath, NoMemory, IsUndeclared, is_at, begins, Parsed, refusal, opens_next, read_segments, segment_list, opens_after_root, level, read_path, encodes-chars, encodes-append, scalars-chars, IsCharBoundary-at_seam, ◌&&◌, take-append_seam, drop-append_seam, IsCharBoundary-start, chars-encodes, Query, query, root, current, greatest_usize, Refusal, Failure, tree_of, rule_of, whole_numbers, signatures_of, opens, AreCalled, Reports, reported, Fails, IsRefused, IsWithin, error_of, is_dollar, NeedsNoMemory, ParsedQuery, IsParse, checked_view, eq-eqb, length-le-encodes, ◌≡◌, ◌≢◌, ℕ, ◌≤◌, ◌↔◌, true, false, true≢false, List, [], ◌∷◌, ◌++◌, length, drop, Option, Ok, refl, sym, ap, subst, ◌∙◌, arith, ◌+◌, ◌-◌, inl, inr, ◌<◌, take, Some, Err, read_filter, Memory, Refused, is_blank, read_next_segment}
+use Rattle.serde_json_path_parser.proofs.Words.{Numbers, ◌==◌, encode_utf8_all, all_scalars, chars, IsUtf8, IsCharBoundary, append-nil, length-append, nil_from_length, eqb-true, SegmentKind, Segments, Segment, deepest, Signature, ParseErrorKind, ExpectedRoot, UndefinedFunction, TextAfterPath, NoMemory, IsUndeclared, is_at, begins, Parsed, refusal, opens_next, read_segments, segment_list, opens_after_root, level, read_path, encodes-chars, encodes-append, scalars-chars, IsCharBoundary-at_seam, ◌&&◌, take-append_seam, drop-append_seam, IsCharBoundary-start, chars-encodes, Query, query, root, current, greatest_usize, Refusal, Failure, tree_of, rule_of, whole_numbers, signatures_of, opens, AreCalled, Reports, reported, Fails, IsRefused, IsWithin, error_of, is_dollar, NeedsNoMemory, ParsedQuery, IsParse, checked_view, eq-eqb, length-le-encodes, ◌≡◌, ◌≢◌, ℕ, ◌≤◌, ◌↔◌, true, false, true≢false, List, [], ◌∷◌, ◌++◌, length, drop, Option, Ok, refl, sym, ap, subst, ◌∙◌, arith, ◌+◌, ◌-◌, inl, inr, ◌<◌, take, Some, Err, read_filter, Memory, Refused, is_blank, read_next_segment}
 use Rattle.serde_json_path_parser.specs.declared.error.Context.TheVariants as context
 use Rattle.serde_json_path_parser.proofs.Grammar.LogicalForms.{AreSegmentsText}
 use Rattle.serde_json_path_parser.proofs.Grammar.Calls.{level_laws}
@@ -16,26 +16,26 @@ use Rattle.serde_json_path_parser.specs.Laws.{OneTreeAtMost}
 pub all_read : (rest : List ℕ) (bytes : ℕ) → bytes ≡ length (encode_utf8_all rest) → bytes ≡ 0 → (length rest == 0) ≡ true
 all_read rest bytes is none = eq-eqb (length rest) 0 (omega (arith, is, none, length-le-encodes rest))
 
-module _ (signature : List ℕ → Option Signature) where
+module _ (rule : Numbers) (signature : List ℕ → Option Signature) where
   -- the segments of a path
   abbrev pub read_path_segments : List ℕ → Parsed (List (SegmentKind × Segment))
-  read_path_segments cs = read_segments (read_filter signature (level signature deepest)) context.Path cs
+  read_path_segments cs = read_segments (read_filter rule signature (level rule signature deepest)) context.Path cs
 
   -- where no segment begins after `$`, none is read
   pub none_read : (cs ds rest : List ℕ) (c : ℕ) (ss : List (SegmentKind × Segment)) → begins (λ d. d == 36) cs ≡ true → cs ≡ c ∷ ds → read_path_segments ds ≡ Ok (ss, rest) → opens_after_root cs ≡ false → ss ≡ []
   none_read cs ds rest c ss sign split read none =
       let closed : opens_next ds ≡ false = sym (rw (sign, split) refl) ∙ none in
-      let empty = many_end opens_next (read_next_segment (read_filter signature (level signature deepest)) context.Path) ds closed in
+      let empty = many_end opens_next (read_next_segment (read_filter rule signature (level rule signature deepest)) context.Path) ds closed in
       ap (λ (x : List (SegmentKind × Segment) × List ℕ). x.0) (ok_is (ss, rest) ([], ds) (sym read ∙ empty))
 
   -- ---- each path is read
 
-  pub path_again : (t a : List ℕ) (segs : Segments) → AreSegmentsText signature deepest a segs → t ≡ 36 ∷ a → read_path signature t ≡ Ok segs
+  pub path_again : (t a : List ℕ) (segs : Segments) → AreSegmentsText rule signature deepest a segs → t ≡ 36 ∷ a → read_path rule signature t ≡ Ok segs
   unfolding read_path
   path_again t a segs h e =
-      let again = segments_again signature deepest (level signature deepest) (level_laws signature deepest) context.Path a segs [] h refl refl in
+      let again = segments_again rule signature deepest (level rule signature deepest) (level_laws rule signature deepest) context.Path a segs [] h refl refl in
       let all = ap read_path_segments (sym (append-nil a)) ∙ again in
-      ap (read_path signature) e ∙ rw all (ap (λ (ss : Segments). Ok ss) (same_segments segs))
+      ap (read_path rule signature) e ∙ rw all (ap (λ (ss : Segments). Ok ss) (same_segments segs))
 
 -- ---- what a reading gives
 
@@ -44,12 +44,12 @@ inner_differs : (signature : List ℕ → Option Signature) (kind other : ParseE
 inner_differs signature kind other rest outer differs (inl plain) e = true≢false (sym plain ∙ ap is_plain e ∙ outer)
 inner_differs signature kind other rest outer differs (inr undefined) e = differs (sym undefined.0 ∙ e)
 
-module _ (signature : List ℕ → Option Signature) where
+module _ (rule : Numbers) (signature : List ℕ → Option Signature) where
   -- what a kind tells of the whole text, and of its rest from the refusal on
   pub record PathTells (cs : List ℕ) (kind : ParseErrorKind) (rest : List ℕ) : Type 0 where
     pub no_memory : kind ≢ NoMemory
     pub root_missing : (kind ≡ ExpectedRoot) ↔ (is_at "$" cs ≡ false)
-    pub after : kind ≡ TextAfterPath → (path : List ℕ) × (segs : Segments) × AreSegmentsText signature deepest path segs × (cs ≡ 36 ∷ (path ++ rest))
+    pub after : kind ≡ TextAfterPath → (path : List ℕ) × (segs : Segments) × AreSegmentsText rule signature deepest path segs × (cs ≡ 36 ∷ (path ++ rest))
     pub undefined : kind ≡ UndefinedFunction → IsUndeclared signature rest
 
   in_segment : (cs : List ℕ) (kind : ParseErrorKind) (rest : List ℕ) → is_at "$" cs ≡ true → Inner signature kind rest → PathTells cs kind rest
@@ -60,11 +60,11 @@ module _ (signature : List ℕ → Option Signature) where
     undefined = λ e. elim h [ inl plain ↦ absurd (true≢false (sym plain ∙ ap is_plain e)) | inr undefined ↦ undefined.1 ];
   }
 
-  pub path_outcome : (cs : List ℕ) → IsOutcome (λ segs. (a : List ℕ) × AreSegmentsText signature deepest a segs × (cs ≡ 36 ∷ a)) (Stands (PathTells cs) cs) (read_path signature cs)
+  pub path_outcome : (cs : List ℕ) → IsOutcome (λ segs. (a : List ℕ) × AreSegmentsText rule signature deepest a segs × (cs ≡ 36 ∷ a)) (Stands (PathTells cs) cs) (read_path rule signature cs)
   unfolding read_path
   path_outcome cs = choose (λ sign.
       let begun = after_one 36 cs sign in
-      let segments = segments_outcome signature deepest (level signature deepest) (level_laws signature deepest) context.Path (drop 1 cs) in
+      let segments = segments_outcome rule signature deepest (level rule signature deepest) (level_laws rule signature deepest) context.Path (drop 1 cs) in
       onward (stands_so (λ r s. record { before = 36 ∷ s.before; rest = s.rest; split = begun ∙ ap (λ (l : List ℕ). 36 ∷ l) s.split; left = s.left; tells = in_segment cs r.kind s.rest sign s.tells }) segments) (λ ss _ r.
       let split : cs ≡ 36 ∷ (r.text ++ ss.1) = begun ∙ ap (λ (l : List ℕ). 36 ∷ l) r.split in
       choose (λ e. gives (segment_list ss.0) (r.text, r.is_so, split ∙ ap (λ (l : List ℕ). 36 ∷ (r.text ++ l)) (nil_from_length ss.1 (eqb-true (length ss.1) 0 e)) ∙ ap (λ (l : List ℕ). 36 ∷ l) (append-nil r.text))) (λ e.
@@ -103,20 +103,20 @@ boundary text before rest left u split is =
 -- ---- what the whole reading says of a text: the promises of a parse
 
 -- what is read is accepted
-accepted : (signature : List ℕ → Option Signature) (cs a : List ℕ) (segs : Segments) → cs ≡ 36 ∷ a → AreSegmentsText signature deepest a segs → IsAccepted signature cs (query root segs)
-accepted signature cs a segs e h = record { reads = (a, h.1, e); from_root = refl; typed = h.0.0; within_depth = h.0.1 }
+accepted : (rule : Numbers) (signature : List ℕ → Option Signature) (cs a : List ℕ) (segs : Segments) → cs ≡ 36 ∷ a → AreSegmentsText rule signature deepest a segs → IsAccepted rule signature cs (query root segs)
+accepted rule signature cs a segs e h = record { reads = (a, h.1, e); from_root = refl; typed = h.0.0; within_depth = h.0.1 }
 
 -- an accepted tree is what is read
-accepted_read : (signature : List ℕ → Option Signature) (cs : List ℕ) (q : Query) → IsAccepted signature cs q
-    → (segs : Segments) × (q ≡ query root segs) × (read_path signature cs ≡ Ok segs)
-accepted_read signature cs (query current segs) h = let e : current ≡ root = h.from_root in absurd cc
-accepted_read signature cs (query root segs) h = let r = h.reads in (segs, refl, path_again signature cs r.0 segs ((h.typed, h.within_depth), r.1) r.2)
+accepted_read : (rule : Numbers) (signature : List ℕ → Option Signature) (cs : List ℕ) (q : Query) → IsAccepted rule signature cs q
+    → (segs : Segments) × (q ≡ query root segs) × (read_path rule signature cs ≡ Ok segs)
+accepted_read rule signature cs (query current segs) h = let e : current ≡ root = h.from_root in absurd cc
+accepted_read rule signature cs (query root segs) h = let r = h.reads in (segs, refl, path_again rule signature cs r.0 segs ((h.typed, h.within_depth), r.1) r.2)
 
 -- a text is accepted with one tree at most
 pub one_tree_at_most : OneTreeAtMost
-one_tree_at_most signature text p q h g =
-    let r = accepted_read signature text p h in
-    let s = accepted_read signature text q g in
+one_tree_at_most rule signature text p q h g =
+    let r = accepted_read rule signature text p h in
+    let s = accepted_read rule signature text q g in
     r.1 ∙ ap (query root) (ok_is r.0 s.0 (sym r.2 ∙ s.2)) ∙ sym s.1
 
 -- ---- what needs no memory
@@ -147,17 +147,17 @@ text_from text before rest left u split is =
 
 -- ---- what holds of a refusal
 
-record IsRight (signature : List ℕ → Option Signature) (text : List ℕ) (r : Refusal) : Type 0 where
+record IsRight (rule : Numbers) (signature : List ℕ → Option Signature) (text : List ℕ) (r : Refusal) : Type 0 where
   no_memory : r.kind ≢ NoMemory
   root_missing : (r.kind ≡ ExpectedRoot) ↔ (begins is_dollar (chars text) ≡ false)
-  after : r.kind ≡ TextAfterPath → (q : Query) × IsAccepted signature (chars (take (length text - r.left) text)) q
+  after : r.kind ≡ TextAfterPath → (q : Query) × IsAccepted rule signature (chars (take (length text - r.left) text)) q
   undefined : r.kind ≡ UndefinedFunction → IsUndeclared signature (chars (drop (length text - r.left) text))
   placed : (r.left ≤ length text) × IsCharBoundary text (length text - r.left)
 
-module _ (signature : List ℕ → Option Signature) (text : List ℕ) (u : IsUtf8 text) where
-  right : (r : Refusal) → read_path signature (chars text) ≡ Err r → IsRight signature text r
+module _ (rule : Numbers) (signature : List ℕ → Option Signature) (text : List ℕ) (u : IsUtf8 text) where
+  right : (r : Refusal) → read_path rule signature (chars text) ≡ Err r → IsRight rule signature text r
   right r e =
-      let s = (path_outcome signature (chars text)).stands r e in
+      let s = (path_outcome rule signature (chars text)).stands r e in
       let b = boundary text s.before s.rest r.left u s.split s.left in
       record {
         no_memory = s.tells.no_memory;
@@ -165,25 +165,25 @@ module _ (signature : List ℕ → Option Signature) (text : List ℕ) (u : IsUt
         after = λ e.
             let h = s.tells.after e in (
               query root h.1,
-              subst (λ (cs : List ℕ). IsAccepted signature cs (query root h.1)) (sym (path_before text h.0 s.rest r.left u h.3 s.left)) (accepted signature (36 ∷ h.0) h.0 h.1 refl h.2),
+              subst (λ (cs : List ℕ). IsAccepted rule signature cs (query root h.1)) (sym (path_before text h.0 s.rest r.left u h.3 s.left)) (accepted rule signature (36 ∷ h.0) h.0 h.1 refl h.2),
             );
         undefined = λ e. subst (IsUndeclared signature) (sym (text_from text s.before s.rest r.left u s.split s.left)) (s.tells.undefined e);
         placed = (b.0, b.1);
       }
 
   -- where the refusal stands
-  pub within : (s : Failure) (total : ℕ) → total ≡ length text → Fails s (read_path signature (chars text)) → IsWithin s total
+  pub within : (s : Failure) (total : ℕ) → total ≡ length text → Fails s (read_path rule signature (chars text)) → IsWithin s total
   within Memory total t h = tt
   within (Refused r) total t h = let k = (right r h).placed.0 in omega (arith, t, k)
 
   -- ---- the three ends of a parse
 
   -- want of memory, where something has to be stored
-  unstored : (length text < greatest_usize → NeedsNoMemory (chars text) → ⊥) → IsParse signature text (Err (error_of Memory 0))
+  unstored : (length text < greatest_usize → NeedsNoMemory (chars text) → ⊥) → IsParse rule signature text (Err (error_of Memory 0))
   unstored stores = record {
     accepted = tt;
     kept = tt;
-    whole = tt;
+    ruled = tt;
     only = tt;
     refused = λ other. absurd (other refl);
     memory = λ e. refl;
@@ -191,32 +191,32 @@ module _ (signature : List ℕ → Option Signature) (text : List ℕ) (u : IsUt
     too_long = λ e. refl;
   }
 
-  pub too_long : length text ≡ greatest_usize → IsParse signature text (Err (error_of Memory 0))
+  pub too_long : length text ≡ greatest_usize → IsParse rule signature text (Err (error_of Memory 0))
   too_long long = unstored (λ less none. omega (arith, long))
 
-  pub parsed : (short : length text < greatest_usize) (segs : Segments) (checked : Checked) → tree_of checked ≡ query root segs → AreCalled (signatures_of checked) (query root segs) → rule_of checked ≡ whole_numbers → read_path signature (chars text) ≡ Ok segs → IsParse signature text (Ok (checked_view checked))
-  parsed short segs checked tree kept whole e =
-      let s = (path_outcome signature (chars text)).reads segs e in
+  pub parsed : (short : length text < greatest_usize) (segs : Segments) (checked : Checked) → tree_of checked ≡ query root segs → AreCalled (signatures_of checked) (query root segs) → rule_of checked ≡ rule → read_path rule signature (chars text) ≡ Ok segs → IsParse rule signature text (Ok (checked_view checked))
+  parsed short segs checked tree kept ruled e =
+      let s = (path_outcome rule signature (chars text)).reads segs e in
       record {
-        accepted = subst (IsAccepted signature (chars text)) (sym tree) (accepted signature (chars text) s.0 segs s.2 s.1);
+        accepted = subst (IsAccepted rule signature (chars text)) (sym tree) (accepted rule signature (chars text) s.0 segs s.2 s.1);
         kept = subst (AreCalled (signatures_of checked)) (sym tree) kept;
-        whole = whole;
-        only = λ q a. one_tree_at_most signature (chars text) q (tree_of checked) a (subst (IsAccepted signature (chars text)) (sym tree) (accepted signature (chars text) s.0 segs s.2 s.1));
+        ruled = ruled;
+        only = λ q a. one_tree_at_most rule signature (chars text) q (tree_of checked) a (subst (IsAccepted rule signature (chars text)) (sym tree) (accepted rule signature (chars text) s.0 segs s.2 s.1));
         refused = tt;
         memory = tt;
         spares_memory = λ less none. tt;
         too_long = λ long. absurd (omega (arith, long));
       }
 
-  pub refused : (short : length text < greatest_usize) (s : Failure) (total : ℕ) → Fails s (read_path signature (chars text)) → (opens_after_root (chars text) ≡ false → IsRefused s)
-      → IsParse signature text (Err (error_of s total))
+  pub refused : (short : length text < greatest_usize) (s : Failure) (total : ℕ) → Fails s (read_path rule signature (chars text)) → (opens_after_root (chars text) ≡ false → IsRefused s)
+      → IsParse rule signature text (Err (error_of s total))
   refused short Memory total h spares = unstored (λ less none. spares (needs_none (chars text) none))
   refused short (Refused r) total h spares = record {
     accepted = tt;
     kept = tt;
-    whole = tt;
+    ruled = tt;
     only = tt;
-    refused = λ other q a. let f = accepted_read signature (chars text) q a in let e : Ok f.0 ≡ Err r = sym f.2 ∙ h in cc;
+    refused = λ other q a. let f = accepted_read rule signature (chars text) q a in let e : Ok f.0 ≡ Err r = sym f.2 ∙ h in cc;
     memory = λ e. absurd ((right r h).no_memory e);
     spares_memory = λ less none. (right r h).no_memory;
     too_long = λ long. absurd (omega (arith, long));
@@ -224,7 +224,7 @@ module _ (signature : List ℕ → Option Signature) (text : List ℕ) (u : IsUt
 
   -- ---- what is reported at each
 
-  unstored_reported : (length text < greatest_usize → NeedsNoMemory (chars text) → ⊥) → Reports signature text (Err (error_of Memory 0))
+  unstored_reported : (length text < greatest_usize → NeedsNoMemory (chars text) → ⊥) → Reports rule signature text (Err (error_of Memory 0))
   unstored_reported stores = record {
     first = λ other. absurd (other refl);
     missing_root = ((λ e. absurd cc), (λ g. absurd (stores g.0 (inl g.1))));
@@ -233,12 +233,12 @@ module _ (signature : List ℕ → Option Signature) (text : List ℕ) (u : IsUt
     position = (omega arith, IsCharBoundary-start text u);
   }
 
-  pub too_long_reported : length text ≡ greatest_usize → Reports signature text (Err (error_of Memory 0))
+  pub too_long_reported : length text ≡ greatest_usize → Reports rule signature text (Err (error_of Memory 0))
   too_long_reported long = unstored_reported (λ less none. omega (arith, long))
 
-  pub parsed_reported : (read : ParsedQuery) (segs : Segments) → read_path signature (chars text) ≡ Ok segs → Reports signature text (Ok read)
+  pub parsed_reported : (read : ParsedQuery) (segs : Segments) → read_path rule signature (chars text) ≡ Ok segs → Reports rule signature text (Ok read)
   parsed_reported read segs e =
-      let s = (path_outcome signature (chars text)).reads segs e in
+      let s = (path_outcome rule signature (chars text)).reads segs e in
       record {
         first = tt;
         missing_root = ((λ h. absurd h), (λ h. true≢false (sym (ap (begins is_dollar) s.2) ∙ h.1)));
@@ -247,8 +247,8 @@ module _ (signature : List ℕ → Option Signature) (text : List ℕ) (u : IsUt
         position = tt;
       }
 
-  pub refused_reported : (short : length text < greatest_usize) (s : Failure) (total : ℕ) → total ≡ length text → Fails s (read_path signature (chars text)) → (opens_after_root (chars text) ≡ false → IsRefused s)
-      → Reports signature text (Err (error_of s total))
+  pub refused_reported : (short : length text < greatest_usize) (s : Failure) (total : ℕ) → total ≡ length text → Fails s (read_path rule signature (chars text)) → (opens_after_root (chars text) ≡ false → IsRefused s)
+      → Reports rule signature text (Err (error_of s total))
   refused_reported short Memory total t h spares = unstored_reported (λ less none. spares (needs_none (chars text) none))
   refused_reported short (Refused r) total t h spares =
       let k = right r h in
@@ -256,7 +256,7 @@ module _ (signature : List ℕ → Option Signature) (text : List ℕ) (u : IsUt
       record {
         first = λ other. ap (reported (length text)) h ∙ ap (λ (n : ℕ). Some (record { kind = r.kind; context = r.context; position = n - r.left + 1 })) (sym t);
         missing_root = ((λ e. (short, k.root_missing.0 e)), (λ g. k.root_missing.1 g.1));
-        text_after = λ e. subst (λ (n : ℕ). (q : Query) × IsAccepted signature (chars (take n text)) q) (sym cut) (k.after e);
+        text_after = λ e. subst (λ (n : ℕ). (q : Query) × IsAccepted rule signature (chars (take n text)) q) (sym cut) (k.after e);
         undefined = λ e. subst (λ (n : ℕ). IsUndeclared signature (chars (drop n text))) (sym cut) (k.undefined e);
         position = (omega arith, subst (IsCharBoundary text) (sym cut) k.placed.1);
       }

@@ -1,5 +1,5 @@
 -- Selectors, brackets with them, and segments: what is read is in the grammar, what is in the grammar is read, where a refusal stands.
-use Rattle.serde_json_path_parser.proofs.Words.{ℤ, ◌==◌, append-nil, Slice, Selector, slice, index, IsBound, IsSliceStep, IsSlice, false_from_ne_true, begins, is_blank, is_digit, IsBlank, IsInt, Parsed, past_blanks, begins_int, read_bound, read_step, read_slice, read_index_or_slice, read_selector, None, name, wildcard, filter, IsQuote, read_quoted, read_string, Signature, codes, SegmentKind, long_hand, Selectors, no_selectors, selector, ExpectedClosingBracket, ReadSelectors, ReadMoreSelectors, dots_before_bracket, read_next_selector, read_selectors, selector_list, read_bracket, Deeper, AreTypedSelectors, selectors_depth, is_at, length-append, child, descendant, Segments, no_segments, segment, Segment, dot_name, dot_wildcard, BadMemberName, is_name_first, is_name_char, IsName, Joined, opens, dots_before_name, front, many, after_dot, read_name, read_dotted, read_descendant, read_after_dot, read_segment, opens_next, read_next_segment, read_segments, segment_list, ◌≡◌, ◌≤◌, ℕ, inl, inr, true, false, true≢false, List, [], ◌∷◌, ◌++◌, drop, Option, Some, Ok, refl, sym, ap, subst, ◌∙◌, append_assoc, arith, ◌<◌, length, LongHand, read_filter, Context}
+use Rattle.serde_json_path_parser.proofs.Words.{Numbers, ℤ, ◌==◌, append-nil, Slice, Selector, slice, index, IsBound, IsSliceStep, IsSlice, false_from_ne_true, begins, is_blank, is_digit, IsBlank, IsInt, Parsed, past_blanks, begins_int, read_bound, read_step, read_slice, read_index_or_slice, read_selector, None, name, wildcard, filter, IsQuote, read_quoted, read_string, Signature, codes, SegmentKind, long_hand, Selectors, no_selectors, selector, ExpectedClosingBracket, ReadSelectors, ReadMoreSelectors, dots_before_bracket, read_next_selector, read_selectors, selector_list, read_bracket, Deeper, AreTypedSelectors, selectors_depth, is_at, length-append, child, descendant, Segments, no_segments, segment, Segment, dot_name, dot_wildcard, BadMemberName, is_name_first, is_name_char, IsName, Joined, opens, dots_before_name, front, many, after_dot, read_name, read_dotted, read_descendant, read_after_dot, read_segment, opens_next, read_next_segment, read_segments, segment_list, ◌≡◌, ◌≤◌, ℕ, inl, inr, true, false, true≢false, List, [], ◌∷◌, ◌++◌, drop, Option, Some, Ok, refl, sym, ap, subst, ◌∙◌, append_assoc, arith, ◌<◌, length, LongHand, read_filter, Context}
 use Rattle.serde_json_path_parser.proofs.Reading.{begins_where, blanks_of, spread, differs, no_blank, past_end, no_longer, begins_not, some_begun, begins_front, begins_differs, whole, front_each, front_begins, front_all, past_run, Spaced, after_one, many_again, Plain, Inner, Outcome, gives, choose, weaker, past_text, past_spaced, along, onward, after_spaced, remade, with_blanks, after_sign, made_spaced, inner, guarded, after, read_spaced, made, many_outcome, Consumes, past_through, begins_other}
 use Rattle.serde_json_path_parser.proofs.Grammar.LogicalForms.{DeeperLaws, IsSelectorText, IsSegmentText, ends_selectors, ends_selector, filter_outcome, filter_again, AreSegmentsText}
 use Rattle.serde_json_path_parser.proofs.Grammar.Numbers.{int_outcome, int_again, int_not, int_no_blank, int_first}
@@ -31,8 +31,8 @@ slice_outcome start a cs first =
     past_spaced (a ++ (58 ∷ k)) (ap (λ (l : List ℕ). a ++ (58 ∷ l)) (whole is_blank cs) ∙ sym (append_assoc a (58 ∷ k) (past_blanks cs))) (after_spaced (bound_outcome (past_blanks cs)) (λ end _ b.
     remade (λ step. record { start = start; end = end.0; step = step }) (λ c step h. (a, k, b.text, c, first, front_each is_blank cs, b.is_so, h, append_assoc a (58 ∷ k) (b.text ++ c))) (step_outcome end.1)))
 
-pub position_outcome : (signature : List ℕ → Option Signature) (n : ℕ) (cs : List ℕ) → Outcome (Spaced (IsSelectorText signature n)) Plain cs (read_index_or_slice cs)
-position_outcome signature n cs = onward (int_outcome cs) (λ i _ r.
+pub position_outcome : (rule : Numbers) (signature : List ℕ → Option Signature) (n : ℕ) (cs : List ℕ) → Outcome (Spaced (IsSelectorText rule signature n)) Plain cs (read_index_or_slice cs)
+position_outcome rule signature n cs = onward (int_outcome cs) (λ i _ r.
     let rest = past_blanks i.1 in
     let s = with_blanks IsInt cs i r in
     choose (λ e. along (s.split ∙ ap (λ (l : List ℕ). s.text ++ l) (after_one 58 rest e)) (remade (λ s. slice s) (λ t s is. ((tt, omega arith), is)) (slice_outcome (Some i.0) s.text (drop 1 rest) s.is_so))) (λ _.
@@ -154,22 +154,22 @@ same_segments (segment kind seg more) = ap (segment kind seg) (same_segments mor
 
 -- ---- selectors and brackets: what a reading gives
 
-module _ (signature : List ℕ → Option Signature) (n : ℕ) (deeper : Deeper) (laws : DeeperLaws signature n deeper) where
+module _ (rule : Numbers) (signature : List ℕ → Option Signature) (n : ℕ) (deeper : Deeper) (laws : DeeperLaws rule signature n deeper) where
   abbrev filters : List ℕ → Parsed Selector
-  filters cs = read_filter signature deeper cs
+  filters cs = read_filter rule signature deeper cs
 
-  quoted_outcome : (quote : ℕ) (cs : List ℕ) → IsQuote quote → begins (λ c. c == quote) cs ≡ true → Outcome (Spaced (IsSelectorText signature n)) (Inner signature) cs (read_quoted quote (drop 1 cs))
+  quoted_outcome : (quote : ℕ) (cs : List ℕ) → IsQuote quote → begins (λ c. c == quote) cs ≡ true → Outcome (Spaced (IsSelectorText rule signature n)) (Inner signature) cs (read_quoted quote (drop 1 cs))
   unfolding read_quoted
   quoted_outcome quote cs is e =
       inner (along (after_one quote cs e) (made_spaced (λ bytes. name bytes) (λ t bytes h. ((tt, omega arith), h)) (string_outcome quote is (drop 1 cs))))
 
-  pub selector_outcome : (cs : List ℕ) → Outcome (Spaced (IsSelectorText signature n)) (Inner signature) cs (read_selector filters cs)
+  pub selector_outcome : (cs : List ℕ) → Outcome (Spaced (IsSelectorText rule signature n)) (Inner signature) cs (read_selector filters cs)
   selector_outcome cs =
       choose (quoted_outcome 39 cs (inl refl)) (λ _.
       choose (quoted_outcome 34 cs (inr refl)) (λ _.
       choose (λ e. read_spaced (wildcard, drop 1 cs) (record { text = 42 ∷ []; is_so = ((tt, omega arith), refl); split = after_one 42 cs e })) (λ _.
       choose (λ e. inner (along (after_one 58 cs e) (remade (λ s. slice s) (λ t s is. ((tt, omega arith), is)) (slice_outcome None [] (drop 1 cs) refl)))) (λ _.
-      choose (filter_outcome signature n deeper laws cs) (λ _. inner (position_outcome signature n cs))))))
+      choose (filter_outcome rule signature n deeper laws cs) (λ _. inner (position_outcome rule signature n cs))))))
 
   -- ---- each selector is read
 
@@ -177,7 +177,7 @@ module _ (signature : List ℕ → Option Signature) (n : ℕ) (deeper : Deeper)
   unfolding read_quoted
   quoted_again quote cs bytes rest is e = of_quote (λ q. read_string q cs ≡ Ok (bytes, rest) → read_selector filters (q ∷ cs) ≡ Ok (name bytes, past_blanks rest)) (λ e. rw e refl) (λ e. rw e refl) quote is e
 
-  pub selector_again : (t : List ℕ) (sel : Selector) (rest : List ℕ) → IsSelectorText signature n t sel → Follows ends_selector rest → read_selector filters (t ++ rest) ≡ Ok (sel, past_blanks rest)
+  pub selector_again : (t : List ℕ) (sel : Selector) (rest : List ℕ) → IsSelectorText rule signature n t sel → Follows ends_selector rest → read_selector filters (t ++ rest) ≡ Ok (sel, past_blanks rest)
   selector_again t (name bytes) rest h e =
       let s = string_again t bytes rest h.1 in
       rw s.3 (quoted_again s.0 (s.1 ++ rest) bytes rest s.2 s.4)
@@ -185,9 +185,9 @@ module _ (signature : List ℕ → Option Signature) (n : ℕ) (deeper : Deeper)
   selector_again t (index i) rest h e = index_again filters t i rest h.1 e
   selector_again t (slice s) rest h e = slice_again filters t s rest h.1 e
   selector_again t (filter f) rest (good, (k, a, blank, is, same)) e =
-      ap (λ (l : List ℕ). read_selector filters (l ++ rest)) same ∙ ap (λ (l : List ℕ). filters (l ++ rest)) (sym same) ∙ filter_again signature n deeper laws t f rest (good, (k, a, blank, is, same)) e
+      ap (λ (l : List ℕ). read_selector filters (l ++ rest)) same ∙ ap (λ (l : List ℕ). filters (l ++ rest)) (sym same) ∙ filter_again rule signature n deeper laws t f rest (good, (k, a, blank, is, same)) e
 
-  begins_no_blank : (t : List ℕ) (sel : Selector) (rest : List ℕ) → IsSelectorText signature n t sel → begins is_blank (t ++ rest) ≡ false
+  begins_no_blank : (t : List ℕ) (sel : Selector) (rest : List ℕ) → IsSelectorText rule signature n t sel → begins is_blank (t ++ rest) ≡ false
   begins_no_blank t (name bytes) rest h =
       let s = string_again t bytes rest h.1 in
       ap (λ (l : List ℕ). begins is_blank (l ++ rest)) s.3 ∙ of_quote (λ quote. is_blank quote ≡ false) refl refl s.0 s.2
@@ -198,7 +198,7 @@ module _ (signature : List ℕ → Option Signature) (n : ℕ) (deeper : Deeper)
 
   -- ---- the selectors of a bracket
 
-  selector_row : RowLaw signature 44 [] (IsSelectorText signature n) (read_selector filters) ends_selectors
+  selector_row : RowLaw signature 44 [] (IsSelectorText rule signature n) (read_selector filters) ends_selectors
   selector_row = record { outcome = selector_outcome; again = selector_again; starts = begins_no_blank; sign_no_blank = refl; sign_no_end = refl }
 
   pub next_selector_consumes : Consumes (is_at ",") (read_next_selector filters)
@@ -207,19 +207,19 @@ module _ (signature : List ℕ → Option Signature) (n : ℕ) (deeper : Deeper)
   abbrev AreTyped : Selectors → Type 0
   AreTyped sels = AreTypedSelectors signature sels × (selectors_depth sels ≤ n)
 
-  more_selectors : (sels : List Selector) (t : List ℕ) → AreRows (codes ",") (IsSelectorText signature n) t sels → AreTyped (selector_list sels) × ReadMoreSelectors (selector_list sels) t
+  more_selectors : (sels : List Selector) (t : List ℕ) → AreRows (codes ",") (IsSelectorText rule signature n) t sels → AreTyped (selector_list sels) × ReadMoreSelectors rule (selector_list sels) t
   more_selectors [] t h = ((tt, omega arith), h)
   more_selectors (sel ∷ sels) t (s, a, c, sign, is, rest, e) =
       let more = more_selectors sels c rest in
       (((is.0.0, more.0.0), omega (arith, is.0.1, more.0.1)), (s, a, c, sign, is.1, more.1, e))
 
-  selectors_outcome : (cs : List ℕ) → Outcome (Spaced (λ t sels. AreTyped (selector_list sels) × ReadSelectors (selector_list sels) t)) (Inner signature) (past_blanks cs) (read_selectors filters cs)
+  selectors_outcome : (cs : List ℕ) → Outcome (Spaced (λ t sels. AreTyped (selector_list sels) × ReadSelectors rule (selector_list sels) t)) (Inner signature) (past_blanks cs) (read_selectors filters cs)
   selectors_outcome cs = onward (selector_outcome (past_blanks cs)) (λ s _ first.
       row_outcome selector_row (λ sels. sels) (λ sel sels t c is rows.
       let more = more_selectors sels c rows in
       (((is.0.0, more.0.0), omega (arith, is.0.1, more.0.1)), (t, c, is.1, more.1, refl))) (past_blanks cs) s first)
 
-  selector_rows : (sels : Selectors) (t : List ℕ) → AreTyped sels → ReadMoreSelectors sels t → (xs : List Selector) × (selector_list xs ≡ sels) × AreRows (codes ",") (IsSelectorText signature n) t xs
+  selector_rows : (sels : Selectors) (t : List ℕ) → AreTyped sels → ReadMoreSelectors rule sels t → (xs : List Selector) × (selector_list xs ≡ sels) × AreRows (codes ",") (IsSelectorText rule signature n) t xs
   selector_rows no_selectors t good h = ([], refl, h)
   selector_rows (selector sel more) t good (s, a, c, sign, is, others, e) =
       let rest = selector_rows more c (good.0.1, omega (arith, good.1)) others in
@@ -227,7 +227,7 @@ module _ (signature : List ℕ → Option Signature) (n : ℕ) (deeper : Deeper)
 
   -- ---- the bracket
 
-  pub bracket_outcome : (kind : SegmentKind) (cs : List ℕ) → Outcome (IsSegmentText signature n kind) (Inner signature) (dots_before_bracket kind ++ (91 ∷ cs)) (read_bracket filters cs)
+  pub bracket_outcome : (kind : SegmentKind) (cs : List ℕ) → Outcome (IsSegmentText rule signature n kind) (Inner signature) (dots_before_bracket kind ++ (91 ∷ cs)) (read_bracket filters cs)
   bracket_outcome kind cs =
       let dots = dots_before_bracket kind in
       let j = blanks_of cs in
@@ -252,12 +252,12 @@ module _ (signature : List ℕ → Option Signature) (n : ℕ) (deeper : Deeper)
       }))))
 
   -- after `[`
-  pub bracket_again : (sels : Selectors) (j t k rest : List ℕ) → IsBlank j → ReadSelectors sels t → IsBlank k → AreTyped sels → read_bracket filters ((j ++ (t ++ (k ++ 93 ∷ []))) ++ rest) ≡ Ok (long_hand sels, rest)
+  pub bracket_again : (sels : Selectors) (j t k rest : List ℕ) → IsBlank j → ReadSelectors rule sels t → IsBlank k → AreTyped sels → read_bracket filters ((j ++ (t ++ (k ++ 93 ∷ []))) ++ rest) ≡ Ok (long_hand sels, rest)
   bracket_again no_selectors j t k rest before is after good = absurd is
   bracket_again (selector sel more) j t k rest before (a, c, is, others, e) after good =
       let closing = k ++ (93 ∷ rest) in
       let closed : past_blanks closing ≡ 93 ∷ rest = past_run is_blank k (93 ∷ rest) after refl in
-      let first : IsSelectorText signature n a sel = ((good.0.0, omega (arith, good.1)), is) in
+      let first : IsSelectorText rule signature n a sel = ((good.0.0, omega (arith, good.1)), is) in
       let rows = selector_rows more c (good.0.1, omega (arith, good.1)) others in
       let begun : past_blanks (j ++ (t ++ closing)) ≡ t ++ closing =
       rw (e, append_assoc a c closing) (past_run is_blank j (a ++ (c ++ closing)) before (begins_no_blank a sel (c ++ closing) first)) in
@@ -269,12 +269,12 @@ module _ (signature : List ℕ → Option Signature) (n : ℕ) (deeper : Deeper)
   module _ (here : Context) where
     -- ---- after the dots
 
-    dotted_outcome : (kind : SegmentKind) (at : Context) (cs : List ℕ) → Outcome (IsSegmentText signature n kind) Plain (dots_before_name kind ++ cs) (read_dotted at cs)
+    dotted_outcome : (kind : SegmentKind) (at : Context) (cs : List ℕ) → Outcome (IsSegmentText rule signature n kind) Plain (dots_before_name kind ++ cs) (read_dotted at cs)
     dotted_outcome kind at cs =
         past_text (dots_before_name kind) refl
         (choose (λ e. gives (dot_wildcard, drop 1 cs) (record { text = 42 ∷ []; is_so = ((tt, omega arith), refl); split = after_one 42 cs e })) (λ _. made (λ n. dot_name n) (λ t n is. ((tt, omega arith), (t, is, refl))) (name_outcome at cs)))
 
-    descendant_outcome : (cs : List ℕ) → Outcome (IsSegmentText signature n descendant) (Inner signature) (46 ∷ 46 ∷ cs) (read_descendant filters here cs)
+    descendant_outcome : (cs : List ℕ) → Outcome (IsSegmentText rule signature n descendant) (Inner signature) (46 ∷ 46 ∷ cs) (read_descendant filters here cs)
     descendant_outcome cs =
         choose (λ e. along (ap (λ (l : List ℕ). 46 ∷ 46 ∷ l) (after_one 91 cs e)) (bracket_outcome descendant (drop 1 cs))) (λ _. inner (dotted_outcome descendant here cs))
 
@@ -282,7 +282,7 @@ module _ (signature : List ℕ → Option Signature) (n : ℕ) (deeper : Deeper)
 
     -- a segment of its kind
     abbrev pub IsItem : List ℕ → (SegmentKind × Segment) → Type 0
-    IsItem t x = IsSegmentText signature n x.0 t x.1
+    IsItem t x = IsSegmentText rule signature n x.0 t x.1
 
     dot_outcome : (cs : List ℕ) → Outcome IsItem (Inner signature) (46 ∷ cs) (read_after_dot filters here cs)
     dot_outcome cs =
@@ -351,7 +351,7 @@ module _ (signature : List ℕ → Option Signature) (n : ℕ) (deeper : Deeper)
       some = λ cs o. omega (arith, some_begun opens (past_blanks cs) o, no_longer cs);
     }
 
-    listed : (t : List ℕ) (ss : List (SegmentKind × Segment)) → Joined IsNextItem t ss → AreSegmentsText signature n t (segment_list ss)
+    listed : (t : List ℕ) (ss : List (SegmentKind × Segment)) → Joined IsNextItem t ss → AreSegmentsText rule signature n t (segment_list ss)
     listed t [] h = ((tt, omega arith), h)
     listed t (x ∷ ss) h =
         let rest = listed h.1 ss h.3 in
@@ -360,15 +360,15 @@ module _ (signature : List ℕ → Option Signature) (n : ℕ) (deeper : Deeper)
           (first.0, first.1, h.1, first.2, first.3.1, rest.1, h.4 ∙ ap (λ (l : List ℕ). l ++ h.1) first.4 ∙ append_assoc first.0 first.1 h.1),
         )
 
-    pub segments_outcome : (cs : List ℕ) → Outcome (λ t (ss : List (SegmentKind × Segment)). AreSegmentsText signature n t (segment_list ss)) (Inner signature) cs (read_segments filters here cs)
+    pub segments_outcome : (cs : List ℕ) → Outcome (λ t (ss : List (SegmentKind × Segment)). AreSegmentsText rule signature n t (segment_list ss)) (Inner signature) cs (read_segments filters here cs)
     unfolding many
     segments_outcome cs = weaker listed (many_outcome IsNextItem (Inner signature) opens_next (read_next_segment filters here) next_segment_outcome (length cs) cs)
 
-    are_joined : (t : List ℕ) (segs : Segments) → AreSegmentsText signature n t segs → Joined IsNextItem t (segments_in segs)
+    are_joined : (t : List ℕ) (segs : Segments) → AreSegmentsText rule signature n t segs → Joined IsNextItem t (segments_in segs)
     are_joined t no_segments h = h.1
     are_joined t (segment kind seg more) (good, (k, a, b, blank, is, rest, e)) =
         (k ++ a, b, (k, a, blank, ((good.0.0, omega (arith, good.1)), is), refl), are_joined b more ((good.0.1, omega (arith, good.1)), rest), e ∙ sym (append_assoc k a b))
 
-    pub segments_again : (t : List ℕ) (segs : Segments) (rest : List ℕ) → AreSegmentsText signature n t segs → begins is_name_char rest ≡ false → opens_next rest ≡ false → read_segments filters here (t ++ rest) ≡ Ok (segments_in segs, rest)
+    pub segments_again : (t : List ℕ) (segs : Segments) (rest : List ℕ) → AreSegmentsText rule signature n t segs → begins is_name_char rest ≡ false → opens_next rest ≡ false → read_segments filters here (t ++ rest) ≡ Ok (segments_in segs, rest)
     segments_again t segs rest h s e =
         many_again (record { consumes = next_segment_consumes; again = next_again; starts = next_segment_begins; failures = next_stops }) t (segments_in segs) rest (are_joined t segs h) s e

@@ -1,7 +1,8 @@
 -- The words of contracts of private functions: a reader of a text, what is read at a level, and
 -- that what a function of the parser returned is what reading gives.
 use Rattle.std.specs.Prelude.{ℕ, true, false, List, codes, bytes_eq, Option, Some, None, if◌then◌else◌, ◌≡◌, ◌+◌, ◌≤◌, max, drop, length, ◌-◌, ◌++◌, Result, Ok, Err}
-use Rattle.serde_json_path_parser.specs.Imports.{Literal, truth, null, Selector, query, root, SegmentKind, Segments, Segment, Call, Arguments, Argument, Operand, called, operand, chars, Signature, FunctionSet, Fits, names_of, calls_in_segments, calls_in_selectors, calls_from, calls_in_arguments, calls_in_argument, calls_in_operand, parts_in, Branch, a_segment, argument_branch, calls_in_branch, IsPart, ArePartsOf, AreSelectorsOf, AreArgumentsOf, KeepsTrees, calls_in, rule_of, whole_numbers, signatures_of, tree_of, result_kind, AreCalled, AreDeclared, names_in, result_of_call, result_of_operand, Part, Parts, SyntaxBuilder, Checked}
+use Rattle.serde_json_path_parser.specs.Imports.{Numbers, Literal, truth, null, Selector, query, root, SegmentKind, Segments, Segment, Call, Arguments, Argument, Operand, called, operand, chars, Signature, FunctionSet, Fits, names_of, calls_in_segments, calls_in_selectors, calls_from, calls_in_arguments, calls_in_argument, calls_in_operand, parts_in, Branch, a_segment, argument_branch, calls_in_branch, IsPart, ArePartsOf, AreSelectorsOf, AreArgumentsOf, KeepsTrees, calls_in, rule_of, whole_numbers, signatures_of, tree_of, result_kind, AreCalled, AreDeclared, names_in, result_of_call, result_of_operand, Part, Parts, SyntaxBuilder, Checked}
+use Rattle.serde_json_path_functions.specs.Terms.{numbers_view}
 use Rattle.serde_json_path_parser.specs.Source.{Observed}
 use Rattle.serde_json_path_parser.specs.Inside.Looking.{up_to_second}
 use Rattle.serde_json_path_parser.specs.declared.source.PathSource.{Ghosts}
@@ -61,11 +62,12 @@ module _ {F : Type 0} (set : F → FunctionSet) where
 
   -- how the text one filter, parenthesis or call deeper is read
   abbrev pub deeper : Parser F → Deeper
-  deeper l = filters.level (signatures l) l.depth
+  deeper l = filters.level (numbers_view l.numbers) (signatures l) l.depth
 
   -- a branch as it is read at a level
-  abbrev pub at_level : {A : Type 0} → Parser F → ((List ℕ → Option Signature) → Deeper → A) → A
-  at_level l read = read (signatures l) (deeper l)
+  abbrev pub at_level : {A : Type 0} → Parser F
+      → (Numbers → (List ℕ → Option Signature) → Deeper → A) → A
+  at_level l read = read (numbers_view l.numbers) (signatures l) (deeper l)
 
   -- how a filter is read
   abbrev pub read_filter : Parser F → List ℕ → Parsed Selector
@@ -124,13 +126,15 @@ MakesFrom signature first branch old new =
 abbrev pub segment_branch : SegmentKind × Segment → Branch
 segment_branch s = a_segment s.0 s.1
 
--- The tree is that of the segments that reading gives, the signatures are those of the names that it calls, and comparisons
--- take whole numbers.
-abbrev pub IsQueryAsRead : FunctionSet → Result Checked Failure → Result Segments Refusal → Type 0
-IsQueryAsRead F (Ok checked) read =
+-- The tree is that of the segments that reading gives, the signatures are those of the names that
+-- it calls, and comparisons take numbers by the rule.
+abbrev pub IsQueryAsRead : Numbers → FunctionSet → Result Checked Failure → Result Segments Refusal
+    → Type 0
+IsQueryAsRead rule F (Ok checked) read =
     (segs : Segments) × (tree_of checked ≡ query root segs) × (read ≡ Ok segs)
-    × AreCalled (signatures_of checked) (query root segs) × Fits F (signatures_of checked) × (rule_of checked ≡ whole_numbers)
-IsQueryAsRead F (Err e) read = Fails e read
+    × AreCalled (signatures_of checked) (query root segs) × Fits F (signatures_of checked)
+    × (rule_of checked ≡ rule)
+IsQueryAsRead rule F (Err e) read = Fails e read
 
 -- a call that stands as an argument keeps the type of result that its name has
 abbrev pub KeepsResult : (List ℕ → Option Signature) → SyntaxBuilder → Part → Argument → Type 0

@@ -1,8 +1,9 @@
 //! Calls of functions (RFC 9535, section 2.4).
 
 ghost use Rattle.std.specs.Prelude.{◌≡◌, ◌==◌, ◌<◌, ℕ, List, drop, length, map, true, string_bytes, Option};
-ghost use Rattle.serde_json_path_parser.specs.Inside.Words.{Signature, read_argument, read_logical_from, read_end, MakesArgument, MakesArguments, MakesCall, IsArgumentOf, IsAsRead, MovesTo, at_level, signatures, deeper, left, begins, no_arguments, read_arguments};
-ghost use Rattle.serde_json_path_functions.specs.Terms.{kind_view};
+ghost use Rattle.serde_json_path_parser.specs.Inside.Words.{Signature, is_value_literal, read_argument, read_logical_from, read_end, MakesArgument, MakesArguments, MakesCall, IsArgumentOf, IsAsRead, MovesTo, at_level, signatures, deeper, left, begins, no_arguments, read_arguments};
+ghost use Rattle.serde_json_path_functions.specs.Terms.{kind_view, numbers_view};
+ghost use Rattle.serde_json_path_syntax.specs.Flat.{held_view};
 ghost use Rattle.serde_json_path_parser.specs.Operands as operands;
 ghost use Rattle.serde_json_path_syntax.specs.Tree as tree;
 
@@ -10,20 +11,30 @@ use crate::error::{Context, Failure, ParseErrorKind as Kind};
 use crate::parser::Parser;
 use crate::parser::reader::Reader;
 use crate::source::PathSource;
-use serde_json_path_functions::{FunctionArgType, Functions};
-use serde_json_path_syntax::{ArgumentRef, Part, SyntaxBuilder};
+use serde_json_path_functions::{FunctionArgType, Functions, Numbers};
+use serde_json_path_syntax::{ArgumentRef, LiteralValue, Part, SyntaxBuilder};
+
+/// Whether the literal may be an argument: by whole numbers a number has no fraction.
+fn may_be_argument(numbers: Numbers, literal: &LiteralValue) -> bool
+    ensures { result ≡ is_value_literal (numbers_view numbers) (held_view literal.now) }
+{
+    match (numbers, literal) {
+        (Numbers::Whole, LiteralValue::Number(number)) => number.whole_billionths().is_some(),
+        _ => true,
+    }
+}
 
 /// Whether the argument suits a parameter of that type (RFC 9535, section 2.4.3).
-fn suits(builder: &SyntaxBuilder, argument: Part, wanted: FunctionArgType) -> bool
+fn suits(numbers: Numbers, builder: &SyntaxBuilder, argument: Part, wanted: FunctionArgType) -> bool
     requires { (signature : List ℕ → Option Signature) × (x : tree.Argument)
         × IsArgumentOf signature builder.now argument x }
     ensures { (signature : List ℕ → Option Signature) (x : tree.Argument)
         → IsArgumentOf signature builder.now argument x
-        → result ≡ operands.suits signature x (kind_view wanted) }
+        → result ≡ operands.suits (numbers_view numbers) signature x (kind_view wanted) }
 {
     match builder.argument(argument) {
         ArgumentRef::Literal(literal) => match wanted {
-            FunctionArgType::Value => literal.is_value(),
+            FunctionArgType::Value => may_be_argument(numbers, literal),
             _ => false,
         },
         ArgumentRef::Query(query) => match wanted {
@@ -121,7 +132,7 @@ impl<F: Functions> Parser<'_, F> {
             let Some((first, others)) = types.split_first() else {
                 return Err(Failure::in_long_hand(Kind::WrongNumberOfArguments, place));
             };
-            if !suits(builder, argument, *first) {
+            if !suits(self.numbers, builder, argument, *first) {
                 return Err(Failure::in_long_hand(Kind::WrongArgumentType, argument_place));
             }
             parts.push(argument)?;

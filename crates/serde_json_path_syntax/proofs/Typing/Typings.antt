@@ -1,12 +1,9 @@
 -- Well-typedness is decided, so that it can be recovered from its truncation. Each lemma decides what its type says.
-use Rattle.serde_json_path_syntax.proofs.Words.{◌≡◌, ◌<◌, ℕ, zero, suc, ℤ, pos, negsuc, neg_ℤ, of_z, nat_eq, ◌%◌, ◌==◌, unsigned_abs, int_div, int_rem, List, [], ◌∷◌, Option, Some, None, Bool, true, false, inl, inr, refl, sym, ap, subst, ◌∙◌, true≢false, arith, w128, Decides-eqb, Decides-like, ints, quot-rem, unsigned_abs-mul, none-some, same_Some, Query, query, Segments, no_segments, segment, Segment, long_hand, Selectors, no_selectors, selector, Selector, filter, LogicalOr, no_or, or, LogicalAnd, no_and, and, Basic, paren, relation, test, Operand, literal, queried, called, Call, call, Arguments, no_arguments, argument, Argument, operand, logical_argument, Literal, number, segments_of, AreSingular, are_singular, Kind, of_value, of_nodes, of_logical, Signature, IsValueLiteral, IsTestKind, result_kind, TakesResult, IsTyped, AreTypedSegments, IsTypedSegment, AreTypedSelectors, IsTypedSelector, IsTypedOr, IsTypedAnd, IsTypedBasic, IsTypedComparable, IsTypedCall, AreTypedArguments, IsTypedArgument, IsTypedOperand}
+use Rattle.serde_json_path_syntax.proofs.Words.{◌≡◌, ℕ, List, [], ◌∷◌, Option, Some, None, Bool, true, false, inl, inr, refl, sym, subst, true≢false, none-some, same_Some, Query, query, Segments, no_segments, segment, Segment, long_hand, Selectors, no_selectors, selector, Selector, filter, LogicalOr, no_or, or, LogicalAnd, no_and, and, Basic, paren, relation, test, Operand, literal, queried, called, Call, call, Arguments, no_arguments, argument, Argument, operand, logical_argument, segments_of, AreSingular, are_singular, Kind, of_value, of_nodes, of_logical, Signature, IsTestKind, result_kind, TakesResult, IsTyped, AreTypedSegments, IsTypedSegment, AreTypedSelectors, IsTypedSelector, IsTypedOr, IsTypedAnd, IsTypedBasic, IsTypedComparable, IsTypedCall, AreTypedArguments, IsTypedArgument, IsTypedOperand}
 use Rattle.std.proofs.Common.{Decides}
-use Rattle.serde_json.specs.Data.{Data, boolean, string}
-use Rattle.serde_json_path_syntax.specs.Flat.{literal_of}
 use Rattle.std.proofs.Math.Decide.{map_dec}
 use Rattle.std.proofs.Math.Logic.{∥∥₁_elim}
 use Rattle.std.proofs.Math.Logic.Dec.{and as both}
-use Rattle.std.proofs.Math.Nat.{mul-mod_left}
 use Rattle.serde_json_path_syntax.proofs.Tree.NamedParts.{Decides-are_singular}
 
 -- ---- the types of results
@@ -22,46 +19,11 @@ test_kind (Some of_nodes) = yes (inl refl)
 test_kind (Some of_logical) = yes (inr refl)
 test_kind _ = no (elim [ inl e ↦ cc | inr e ↦ cc ])
 
--- ---- literals that stand for values
-
--- no billionths beyond whole ones
-abbrev whole_amount : ℤ → Bool
-whole_amount amount = unsigned_abs amount % 1000000000 == 0
-
-no_rest : (amount : ℤ) → unsigned_abs amount % 1000000000 ≡ 0 → int_rem amount (pos 1000000000) ≡ pos 0
-no_rest (pos n) e = ap pos e
-no_rest (negsuc n) e = ap (λ rest. neg_ℤ (pos rest)) e
-
-Decides-whole_amount : (amount : ℤ) → Decides (whole_amount amount) (IsValueLiteral (number amount))
-Decides-whole_amount amount =
-    Decides-like (whole_amount amount)
-    (λ e. let rest = no_rest amount e in let split = quot-rem amount (pos 1000000000) in (int_div amount (pos 1000000000), omega (arith, ints)))
-    (λ h. ap (λ a. unsigned_abs a % 1000000000) h.1 ∙ ap (λ n. n % 1000000000) (unsigned_abs-mul h.0 (pos 1000000000)) ∙ mul-mod_left (unsigned_abs h.0) 1000000000)
-    (Decides-eqb (unsigned_abs amount % 1000000000) 0)
-
--- the same by the bits of the remainder
-bits_of_negated : (n : ℕ) → n < 1000000000 → nat_eq (of_z w128 (neg_ℤ (pos n))) 0 ≡ (n == 0)
-bits_of_negated zero below = refl
-bits_of_negated (suc n) below = grind (arith, below)
-
-pub whole_by_bits : (amount : ℤ) → Decides (nat_eq (of_z w128 (int_rem amount (pos 1000000000))) 0) (IsValueLiteral (number amount))
-whole_by_bits (pos n) = Decides-whole_amount (pos n)
-whole_by_bits (negsuc n) =
-    subst (λ b. Decides b (IsValueLiteral (number (negsuc n)))) (sym (bits_of_negated (suc n % 1000000000) (omega arith))) (Decides-whole_amount (negsuc n))
-
--- a text, a truth value and null are values
-pub written_is_value : (d : Data) → IsValueLiteral (literal_of d)
-written_is_value (string t) = tt
-written_is_value (boolean b) = tt
-written_is_value _ = tt
+-- ---- singular queries
 
 by_test : {P : Type 0} (b : Bool) → Decides b P → Dec P
 by_test true decides = yes (decides.0 refl)
 by_test false decides = no (λ h. true≢false (sym (decides.1 h)))
-
-value_literal : (l : Literal) → Dec (IsValueLiteral l)
-value_literal (number amount) = by_test (whole_amount amount) (Decides-whole_amount amount)
-value_literal _ = yes tt
 
 singular : (segs : Segments) → Dec (AreSingular segs)
 singular segs = by_test (are_singular segs) (Decides-are_singular segs)
@@ -135,7 +97,7 @@ module _ (signature : List ℕ → Option Signature) where
     typed_argument (logical_argument e) _ = no (λ h. h)
 
     typed_operand : (o : Operand) (wanted : Kind) → Dec (IsTypedOperand signature o wanted)
-    typed_operand (literal l) of_value = value_literal l
+    typed_operand (literal l) of_value = yes tt
     typed_operand (literal l) _ = no (λ h. h)
     typed_operand (queried q) of_value = both (typed q) (singular (segments_of q))
     typed_operand (queried q) _ = typed q

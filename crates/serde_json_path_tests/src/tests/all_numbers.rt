@@ -1,6 +1,6 @@
 //! Comparisons that take all numbers, beside those that take whole numbers alone.
 
-use crate::tests::rows::read_with;
+use crate::tests::rows::{parsed, read_with, told};
 use serde_json_path::functions::{Builtin, Functions};
 use serde_json_path::{JsonPath, Numbers};
 use std::alloc::Global;
@@ -94,6 +94,23 @@ fn takes_numbers_by_the_path_under_each_set(rt: HostRuntime) -> Result<(), Fail>
     Ok(())
 }
 
+/// A path that calls with a number, and what it is by all numbers, and by whole numbers.
+const ARGUMENTS: &[&str] = &[
+    "$[?length(1.5) == 1] -> accepted ~ WrongArgumentType 11",
+    "$[?match(-0.000000001, 'a')] -> accepted ~ WrongArgumentType 10",
+    "$[?@.a == 1.5 && search('a', 0.1)] -> accepted ~ WrongArgumentType 30",
+    "$[?length(4.0) == 1] -> accepted ~ accepted",
+    "$[?count(1.5) == 1] -> WrongArgumentType 10 ~ WrongArgumentType 10",
+];
+
+#[test]
+fn takes_any_literal_as_an_argument_by_all_numbers(rt: HostRuntime) -> Result<(), Fail> {
+    hold_rows(&rt, ARGUMENTS, |alloc, text| {
+        let all = told(alloc, JsonPath::parse_by(alloc, text, Numbers::All))?;
+        Ok(format!(in alloc; "{all} ~ {}", parsed(alloc, text)?)?)
+    })
+}
+
 #[test]
 fn takes_whole_numbers_unless_told(rt: HostRuntime) -> Result<(), Fail> {
     let path = JsonPath::parse(rt.alloc(), "$[?@ == 1.5]")?;
@@ -102,5 +119,7 @@ fn takes_whole_numbers_unless_told(rt: HostRuntime) -> Result<(), Fail> {
     let again = JsonPath::from_json(rt.alloc(), &path.to_json(rt.alloc())?)?;
     assert!(rt; again == path && again.numbers() == Numbers::Whole);
     assert_eq!(rt; JsonPath::new(rt.alloc()).numbers(), Numbers::Whole);
+    let path = JsonPath::parse_by(rt.alloc(), "$", Numbers::All)?;
+    assert_eq!(rt; path.numbers(), Numbers::All);
     Ok(())
 }

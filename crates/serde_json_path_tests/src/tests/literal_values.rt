@@ -1,9 +1,8 @@
-//! Which literals may be arguments of the type of values (RFC 9535, section 2.4.3), and numbers as literals.
+//! Numbers as literals (RFC 9535, section 2.3.5.1).
 
 use serde_json::Value;
-use serde_json_path_core::{Literal, NumberLiteral, SyntaxBuilder};
+use serde_json_path_core::NumberLiteral;
 use serde_json_path_numbers::ExactNumber;
-use serde_json_path_syntax::ArgumentRef;
 use std::alloc::Global;
 use std::test::Fail;
 use test_rows::{Came, fields, hold_rows};
@@ -14,17 +13,17 @@ const GREATEST: i128 = 18_446_744_073_709_551_615_000_000_000;
 /// The billionths of the least number, -2^63.
 const LEAST: i128 = -9_223_372_036_854_775_808_000_000_000;
 
-/// The billionths of a number, and these again, whether it may be a value, and its whole part.
+/// The billionths of a number, and these again, and the number that a document holds for it.
 const NUMBERS: &[&str] = &[
-    "0 -> 0, true, 0",
-    "1000000000 -> 1000000000, true, 1",
-    "-1000000000 -> -1000000000, true, -1",
-    "2000000000 -> 2000000000, true, 2",
-    "1500000000 -> 1500000000, false, 1",
-    "-1500000000 -> -1500000000, false, -1",
-    "100000000 -> 100000000, false, 0",
-    "18446744073709551615000000000 -> 18446744073709551615000000000, true, 18446744073709551615",
-    "-9223372036854775808000000000 -> -9223372036854775808000000000, true, -9223372036854775808",
+    "0 -> 0, 0",
+    "1000000000 -> 1000000000, 1",
+    "-1000000000 -> -1000000000, -1",
+    "2000000000 -> 2000000000, 2",
+    "1500000000 -> 1500000000, 1.5",
+    "-1500000000 -> -1500000000, -1.5",
+    "100000000 -> 100000000, 0.1",
+    "18446744073709551615000000000 -> 18446744073709551615000000000, 18446744073709551615",
+    "-9223372036854775808000000000 -> -9223372036854775808000000000, -9223372036854775808",
 ];
 
 /// The literal of a number, whose billionths a text writes.
@@ -32,30 +31,19 @@ fn literal(billionths: &str) -> Result<NumberLiteral, Fail> {
     Ok(NumberLiteral::from_billionths(billionths.parse::<i128>()?).ok_or("out of range")?)
 }
 
-/// Whether a parameter of the type of values takes a literal.
-fn is_value(alloc: Global, literal: Literal) -> Result<bool, Fail> {
-    let mut builder = SyntaxBuilder::new(alloc);
-    let part = builder.literal(literal)?;
-    Ok(matches!(builder.argument(part), ArgumentRef::Literal(held) if held.is_value()))
-}
-
-/// The billionths of a number, whether it may be a value, and its whole part.
+/// The billionths of a number, and the number that a document holds for it.
 fn told(alloc: Global, billionths: &str) -> Came {
     let number = literal(billionths)?;
-    let whole = number.value().to_string(alloc)?;
+    let value = number.value().to_string(alloc)?;
     let billionths = number.billionths();
     if number.whole_billionths() != (billionths % 1_000_000_000 == 0).then_some(billionths) {
         return Err(Fail::new("a fraction is lost"));
     }
-    let may_be = is_value(alloc, Literal::Number(number))?;
-    Ok(format!(in alloc; "{billionths}, {may_be}, {whole}")?)
+    Ok(format!(in alloc; "{billionths}, {value}")?)
 }
 
 #[test]
-fn takes_no_fraction_as_a_value(rt: HostRuntime) -> Result<(), Fail> {
-    let alloc = rt.alloc();
-    assert!(rt; is_value(alloc, Literal::String(String::from_str(alloc, "1.5")?))?);
-    assert!(rt; is_value(alloc, Literal::Bool(false))? && is_value(alloc, Literal::Null)?);
+fn holds_numbers_as_documents_do(rt: HostRuntime) -> Result<(), Fail> {
     hold_rows(&rt, NUMBERS, told)
 }
 

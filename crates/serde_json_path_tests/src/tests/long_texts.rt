@@ -3,7 +3,7 @@
 use crate::tests::nesting::{CALLS, COMPARED, FILTERS, PARENTHESES};
 use crate::tests::rows::{count, parsed, selected, told};
 use serde_json_path::functions::Builtin;
-use serde_json_path::{JsonPath, PathSource, TextSource, parse_source};
+use serde_json_path::{JsonPath, Numbers, PathSource, TextSource, parse_source};
 use std::alloc::Global;
 use std::test::Fail;
 use test_rows::{
@@ -91,7 +91,10 @@ fn counts_a_thousand_items(rt: HostRuntime) -> Result<(), Fail> {
 /// What a parse answers, and the length of its text. Fails where it looks at a byte twice.
 fn of_looks(alloc: Global, text: &str) -> Came {
     let mut source = TextSource::new(text);
-    let told = told(alloc, parse_source(alloc, &mut source, &Builtin))?;
+    let told = told(
+        alloc,
+        parse_source(alloc, &mut source, &Builtin, Numbers::Whole),
+    )?;
     holds(source.looks() <= source.len() as u128, "looks twice")?;
     Ok(format!(in alloc; "{told}, {} bytes", source.len())?)
 }

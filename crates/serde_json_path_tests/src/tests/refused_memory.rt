@@ -10,8 +10,8 @@ use serde_json_path::functions::{
     Builtin, CachedPatterns, FunctionArgType, Functions, LogicalType, PatternStore, Signature,
 };
 use serde_json_path::{
-    FromJsonError, JsonPath, JsonPathExt, LocatedNode, LocatedNodeList, NodeList, ParseError,
-    ParseErrorKind, PathSource, TextSource, parse_source,
+    FromJsonError, JsonPath, JsonPathExt, LocatedNode, LocatedNodeList, NodeList, Numbers,
+    ParseError, ParseErrorKind, PathSource, TextSource, parse_source,
 };
 use serde_json_path_nodes::escaped;
 use serde_json_path_syntax::{Checked, SyntaxBuilder};
@@ -86,7 +86,7 @@ fn parse_with(rt: HostRuntime) -> Result<(), Fail> {
 fn parses_a_source(rt: HostRuntime) -> Result<(), Fail> {
     hold_answers(&rt, TEXTS, |alloc, text| {
         let mut source = TextSource::new(text);
-        let answer = parse_source(alloc, &mut source, &Builtin);
+        let answer = parse_source(alloc, &mut source, &Builtin, Numbers::Whole);
         let most = 32 * (text.len() as u128 + 1);
         holds(source.looks() <= most, "too many looks")?;
         told(alloc, answer)
@@ -306,7 +306,7 @@ fn takes_none_of_the_new_path(rt: HostRuntime) -> Result<(), Fail> {
 fn takes_none_at_blanks(rt: HostRuntime) -> Result<(), Fail> {
     let text = long(rt.alloc(), "$", " ", 10_000, "x")?;
     let mut source = TextSource::new(text.as_str());
-    let refusal = parse_source(rt.alloc(), &mut source, &Builtin).err();
+    let refusal = parse_source(rt.alloc(), &mut source, &Builtin, Numbers::Whole).err();
     let told = refusal.map(|e| (e.kind(), e.position()));
     assert!(rt; told == Some((ParseErrorKind::TextAfterPath, 2)));
     assert!(rt; source.looks() <= 32 * (source.len() as u128 + 1));

@@ -1,15 +1,15 @@
 -- What is put is the hint's text by its name: the search would look into the table of slips.
 use Rattle.std.proofs.Common.{◌≡◌, ap, ◌∙◌, inr, refl, rules}
-use Rattle.jsonpath_c.proofs.Words.{IsReportedWith, IsTold, hint_text}
+use Rattle.jsonpath_c.proofs.Words.{IsRefusedWith, IsTold, hint_text, rule_of}
 use Rattle.jsonpath_c.proofs.check.jsonpath_hint.Goals as goal
 
 pub returns-clause-text : goal.returns-clause-text
 returns-clause-text c =
     let path = c.args.path.now in
     let e = c.in-Err.e in
-    let reported : IsReportedWith path e = search rules in
+    let refused : IsRefusedWith (rule_of c.args.numbers) path e = search rules in
     let told = hint_text path e in
-    let is : IsTold (hint_text path) path told = inr (e, reported, refl) in
+    let is : IsTold (hint_text path) (rule_of c.args.numbers) path told = inr (e, refused, refl) in
     let text : c.hint_text.result.now ≡ told =
     c.hint_text.ensures ∙ ap (λ path. hint_text path e) c.in-Ok.ensures.cases.0 in
     let put = c.put-in-Err-2.ensures in

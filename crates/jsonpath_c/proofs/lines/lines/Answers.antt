@@ -1,5 +1,5 @@
 use Rattle.std.proofs.Common.{◌≡◌, ◌⊎◌, ℕ, Err, rules, sym, ◌∙◌}
-use Rattle.jsonpath_c.proofs.Words.{IsUtf8, builtin_functions, Pattern, CallsByPatternOn, IsNoPath, IsReportIn, NotJson, Path, Document, Query, IsReportedWith}
+use Rattle.jsonpath_c.proofs.Words.{IsUtf8, builtin_functions, Pattern, CallsByPatternOn, IsNoPath, IsReportIn, NotJson, Path, Document, Query, IsRefusedWith, whole_numbers}
 use Rattle.jsonpath_c.proofs.lines.lines.Goals as goal
 
 pub returns-in-Ok-report_under : goal.returns-in-Ok-report_under
@@ -16,12 +16,11 @@ returns-in-Err-Path c =
     let same = c.in-Ok.ensures.cases.0 in
     let e = c.in-Err-Path.e in
     let refused : c.report_under.result ≡ Err (Path e) = search rules in
-    let reported : c.put_refusal.result ≡ 1 → IsReportedWith c.args.path.now e = λ one. (
-      (
-        rw same at (c.report_under.ensures.path_refused e refused),
-        λ memory. let no : ◌≡◌ {A = ℕ} 1 4 = sym one ∙ (c.put_refusal.ensures.memory memory).0 in cc,
-      ),
-      rw same at (c.report_under.ensures.path_reported e refused),
+    let parse = rw same at (c.report_under.ensures.path_refused e refused) in
+    let reported = rw same at (c.report_under.ensures.path_reported e refused) in
+    let told : c.put_refusal.result ≡ 1 → IsRefusedWith whole_numbers c.args.path.now e = λ one. (
+      record { parse = parse; reported = reported; fits = tt },
+      λ memory. let no : ◌≡◌ {A = ℕ} 1 4 = sym one ∙ (c.put_refusal.ensures.memory memory).0 in cc,
     ) in
     search rules
 

@@ -6,8 +6,8 @@ use Rattle.serde_json_path.proofs.laws.law_normal.Goals as goal
 
 pub returns : goal.returns
 returns c = λ location proper written. record {
-  accepted = λ signature. normal_accepted signature location proper written;
-  only = λ signature q read. one_tree_at_most signature _ q (tree_to location) read (normal_accepted signature location proper written);
+  accepted = λ rule signature. normal_accepted rule signature location proper written;
+  only = λ rule signature q read. one_tree_at_most rule signature _ q (tree_to location) read (normal_accepted rule signature location proper written);
   no_calls = (segments_plain (λ name. None) location).2;
   flat = (segments_plain (λ name. None) location).1;
   selects = λ F top v there. node_selected F top (record { location = location; value = v }) there;

@@ -1,6 +1,6 @@
 use Rattle.serde_json_path_parser.proofs.Reading.{first_fails, no_longer, with_none}
 use Rattle.serde_json_path_parser.proofs.Texts.{is_ahead}
-use Rattle.serde_json_path_parser.proofs.Words.{drop, ◌∙◌, [], Err, refl, sym, ap, option_map, arith, true≢false, past_blanks, string_bytes, nil_from_length, err_from_is_err_and, literal_view, operator_view, an_operand, logical_argument, call, signature_view, and_list, or_list, signatures, deeper, begins, is_at, opens, literal, called, left, common_steps, selector_list, read_segments, segment_list, read_named_call, queried, AreAndPartsOf, AreOrPartsOf, AreSelectorsOf, map, kind_view, read_argument, segment_kind_view, query_kind_view, operand, true, false}
+use Rattle.serde_json_path_parser.proofs.Words.{numbers_view, drop, ◌∙◌, [], Err, refl, sym, ap, option_map, arith, true≢false, past_blanks, string_bytes, nil_from_length, err_from_is_err_and, literal_view, operator_view, an_operand, logical_argument, call, signature_view, and_list, or_list, signatures, deeper, begins, is_at, opens, literal, called, left, common_steps, selector_list, read_segments, segment_list, read_named_call, queried, AreAndPartsOf, AreOrPartsOf, AreSelectorsOf, map, kind_view, read_argument, segment_kind_view, query_kind_view, operand, true, false}
 use Rattle.serde_json_path_parser.specs.Inside.Giving.{read_filter}
 use Rattle.serde_json_path_parser.proofs.Steps.{no_literal, operand_of, comparable_read, none_made, one_more, first_refused, first_open, literal_word_reads, level_down, at_mark, grows_none, grows_leaf, grows_kept, grows_then, grows_call, grown_so, made_as, begins_row, row_fails, row_shorter, row_goes_on, row_done, segments_stand, selectors_stand, ors_stand, ands_stand, segment_shorter, some_parts}
 use Rattle.serde_json_path_parser.proofs.parser.Parser.+filters.Goals as goal
@@ -9,22 +9,22 @@ use Rattle.serde_json_path_syntax.specs.Tree as tree
 pub parse_and_from-parts-init : goal.parse_and_from-parts-init
 parse_and_from-parts-init g t c = record {
   moves = grind (arith, common_steps);
-  so_far = λ x is. begins_row (ands_stand _ _) x (omega arith) c.new-parts.ensures.items c.in_ok-push.ensures.items is (λ before grown. grown) refl;
+  so_far = λ x is. begins_row (ands_stand _ _ _) x (omega arith) c.new-parts.ensures.items c.in_ok-push.ensures.items is (λ before grown. grown) refl;
 }
 
 pub parse_and_from-returns-in_err-part-clause-gives : goal.parse_and_from-returns-in_err-part-clause-gives
 parse_and_from-returns-in_err-part-clause-gives g t c = λ x is.
     let p = err_from_is_err_and c.from_residual-in_err-part.result c.from_residual-in_err-part.ensures.1 in
-    rw (p.1, p.2) (row_fails (ands_stand _ _) {ds = left c.skip_blanks.new.self} (grind (arith, common_steps)) (grind (arith, common_steps)) (c.parts.invariant.so_far x is) c.in_err-part.field-0.0 c.in_err-part.ensures.gives)
+    rw (p.1, p.2) (row_fails (ands_stand _ _ _) {ds = left c.skip_blanks.new.self} (grind (arith, common_steps)) (grind (arith, common_steps)) (c.parts.invariant.so_far x is) c.in_err-part.field-0.0 c.in_err-part.ensures.gives)
 
 pub parse_and_from-parts-smaller : goal.parse_and_from-parts-smaller
 parse_and_from-parts-smaller g t c =
-    row_shorter (ands_stand (signatures g.F.Functions.set c.args.self.now) c.args.self.now.depth) {ds = left c.skip_blanks.new.self} (grind (arith, common_steps)) (grind (arith, common_steps)) c.in_ok-part.ensures.gives
+    row_shorter (ands_stand (numbers_view c.args.self.now.numbers) (signatures g.F.Functions.set c.args.self.now) c.args.self.now.depth) {ds = left c.skip_blanks.new.self} (grind (arith, common_steps)) (grind (arith, common_steps)) c.in_ok-part.ensures.gives
 
 pub parse_and_from-parts-preserved : goal.parse_and_from-parts-preserved
 parse_and_from-parts-preserved g t c = record {
   moves = grind (arith, common_steps);
-  so_far = λ x is. row_goes_on (ands_stand _ _) {ds = left c.skip_blanks.new.self} (grind (arith, common_steps)) (grind (arith, common_steps)) c.in_ok-part.ensures.gives (c.parts.invariant.so_far x is) c.in_ok-push-2.ensures.items;
+  so_far = λ x is. row_goes_on (ands_stand _ _ _) {ds = left c.skip_blanks.new.self} (grind (arith, common_steps)) (grind (arith, common_steps)) c.in_ok-part.ensures.gives (c.parts.invariant.so_far x is) c.in_ok-push-2.ensures.items;
 }
 
 pub parse_and_from-logical_and-requires : goal.parse_and_from-logical_and-requires
@@ -37,7 +37,7 @@ parse_and_from-returns-clause-gives g t c = λ x is.
     let so_far = c.parts.invariant.so_far x is in (
       and_list so_far.items,
       c.in_ok-logical_and.ensures.made (and_list so_far.items) (some_parts c.parts.builder (λ parts. AreAndPartsOf c.parts.builder parts (and_list so_far.items)) _ _ so_far.some (λ part others are. are) so_far.are),
-      row_done (ands_stand _ _) so_far (grind (arith, common_steps)) c.sees_both.ensures.stays,
+      row_done (ands_stand _ _ _) so_far (grind (arith, common_steps)) c.sees_both.ensures.stays,
       λ before grown. grows_kept (so_far.grown before grown) c.logical_and.ensures.keeps,
     )
 
@@ -72,12 +72,12 @@ pub parse_arguments-returns-in_err-argument-clause-gives : goal.parse_arguments-
 parse_arguments-returns-in_err-argument-clause-gives g t c =
     let p = err_from_is_err_and c.from_residual.result c.from_residual.ensures.1 in
     let s = c.in_err-argument.field-0.0 in
-    rw (p.1, p.2) (c.arguments.invariant.so_far.made c.arguments.builder [] c.arguments.reader (Err s) (first_refused (signatures g.F.Functions.set c.args.self.now) (deeper g.F.Functions.set c.args.self.now) c.args.place (map kind_view c.arguments.types.now) (left c.arguments.reader) s c.in_err-argument.ensures.gives))
+    rw (p.1, p.2) (c.arguments.invariant.so_far.made c.arguments.builder [] c.arguments.reader (Err s) (first_refused (numbers_view c.args.self.now.numbers) (signatures g.F.Functions.set c.args.self.now) (deeper g.F.Functions.set c.args.self.now) c.args.place (map kind_view c.arguments.types.now) (left c.arguments.reader) s c.in_err-argument.ensures.gives))
 
 pub parse_arguments-returns-then-not-sees_end_of_argument-clause-gives : goal.parse_arguments-returns-then-not-sees_end_of_argument-clause-gives
 parse_arguments-returns-then-not-sees_end_of_argument-clause-gives g t c =
     c.arguments.invariant.so_far.made c.arguments.builder [] c.arguments.reader (Err c.refusal.result)
-    (rw c.refusal.ensures.value (first_open (signatures g.F.Functions.set c.args.self.now) (deeper g.F.Functions.set c.args.self.now) c.args.place (map kind_view c.arguments.types.now) (left c.arguments.reader) _ c.in_ok-argument.ensures.gives.2 (sym c.sees_end_of_argument.ensures ∙ c.if-not-sees_end_of_argument.true)))
+    (rw c.refusal.ensures.value (first_open (numbers_view c.args.self.now.numbers) (signatures g.F.Functions.set c.args.self.now) (deeper g.F.Functions.set c.args.self.now) c.args.place (map kind_view c.arguments.types.now) (left c.arguments.reader) _ c.in_ok-argument.ensures.gives.2 (sym c.sees_end_of_argument.ensures ∙ c.if-not-sees_end_of_argument.true)))
 
 pub parse_arguments-returns-in_default-clause-gives : goal.parse_arguments-returns-in_default-clause-gives
 parse_arguments-returns-in_default-clause-gives g t c =
@@ -119,13 +119,13 @@ pub parse_basic_from-relation-requires-clause-left : goal.parse_basic_from-relat
 parse_basic_from-relation-requires-clause-left g t c =
     let (x, is) = c.requires in
     let a = c.in_ok-check_comparable.ensures.gives x is in
-    (x, c.in_ok-right.ensures.gives.3.trees c.args.operand (an_operand x) is.0, comparable_read (signatures g.F.Functions.set c.args.self.now) (deeper g.F.Functions.set c.args.self.now) c.args.place x x (left c.skip_blanks.new.self) (left c.skip_blanks.new.self) a)
+    (x, c.in_ok-right.ensures.gives.3.trees c.args.operand (an_operand x) is.0, comparable_read (numbers_view c.args.self.now.numbers) (signatures g.F.Functions.set c.args.self.now) (deeper g.F.Functions.set c.args.self.now) c.args.place x x (left c.skip_blanks.new.self) (left c.skip_blanks.new.self) a)
 
 pub parse_basic_from-relation-requires-clause-right : goal.parse_basic_from-relation-requires-clause-right
 parse_basic_from-relation-requires-clause-right g t c =
     let o = c.in_ok-right.ensures.gives in
     let b = c.in_ok-check_comparable-2.ensures.gives o.0 o.1 in
-    (o.0, o.1.0, comparable_read (signatures g.F.Functions.set c.args.self.now) (deeper g.F.Functions.set c.args.self.now) c.bytes_left-right_place.result o.0 o.0 (left c.parse_operand.new.reader) (left c.parse_operand.new.reader) b)
+    (o.0, o.1.0, comparable_read (numbers_view c.args.self.now.numbers) (signatures g.F.Functions.set c.args.self.now) (deeper g.F.Functions.set c.args.self.now) c.bytes_left-right_place.result o.0 o.0 (left c.parse_operand.new.reader) (left c.parse_operand.new.reader) b)
 
 pub parse_basic_from-returns-clause-gives : goal.parse_basic_from-returns-clause-gives
 parse_basic_from-returns-clause-gives g t c = λ x is.
@@ -146,22 +146,22 @@ parse_bracket-returns-clause-gives g t c =
 
 pub parse_call-returns-in_default-clause-gives : goal.parse_call-returns-in_default-clause-gives
 parse_call-returns-in_default-clause-gives g t c =
-    rw (level_down (signatures g.F.Functions.set c.args.self.now) c.args.self.now.depth _ (omega (arith, c.if-self-eq0.false)) refl) (grind (arith, common_steps))
+    rw (level_down (numbers_view c.args.self.now.numbers) (signatures g.F.Functions.set c.args.self.now) c.args.self.now.depth _ (omega (arith, c.if-self-eq0.false)) refl) (grind (arith, common_steps))
 
 pub parse_call-returns-in_err-parse_arguments-clause-gives : goal.parse_call-returns-in_err-parse_arguments-clause-gives
 parse_call-returns-in_err-parse_arguments-clause-gives g t c =
     let p = err_from_is_err_and c.from_residual.result c.from_residual.ensures.1 in
     let declared = ap (signatures g.F.Functions.set c.args.self.now) (sym c.as_str.ensures.value) ∙ sym c.signature.ensures ∙ ap (option_map signature_view) c.in-Some.is in
-    let down = level_down (signatures g.F.Functions.set c.args.self.now) c.args.self.now.depth c.deeper.result.depth (omega (arith, c.if-self-eq0.false)) c.deeper.ensures.depth in
-    let read = rw (c.deeper.ensures.functions, c.params.ensures, c.skip_blanks.ensures.left) at c.in_err-parse_arguments.ensures.gives in
+    let down = level_down (numbers_view c.args.self.now.numbers) (signatures g.F.Functions.set c.args.self.now) c.args.self.now.depth c.deeper.result.depth (omega (arith, c.if-self-eq0.false)) c.deeper.ensures.depth in
+    let read = rw (c.deeper.ensures.functions, c.deeper.ensures.numbers, c.params.ensures, c.skip_blanks.ensures.left) at c.in_err-parse_arguments.ensures.gives in
     rw (p.1, p.2, down, declared, c.take_char.ensures.value) (first_fails c.in_err-parse_arguments.field-0.0 _ _ read)
 
 pub parse_call-returns-clause-gives : goal.parse_call-returns-clause-gives
 parse_call-returns-clause-gives g t c =
     let f = string_bytes c.args.name in
     let declared = ap (signatures g.F.Functions.set c.args.self.now) (sym c.as_str.ensures.value) ∙ sym c.signature.ensures ∙ ap (option_map signature_view) c.in-Some.is in
-    let down = level_down (signatures g.F.Functions.set c.args.self.now) c.args.self.now.depth c.deeper.result.depth (omega (arith, c.if-self-eq0.false)) c.deeper.ensures.depth in
-    let read = rw (c.deeper.ensures.functions, c.params.ensures, c.skip_blanks.ensures.left) at c.in_ok-parse_arguments.ensures.gives in (
+    let down = level_down (numbers_view c.args.self.now.numbers) (signatures g.F.Functions.set c.args.self.now) c.args.self.now.depth c.deeper.result.depth (omega (arith, c.if-self-eq0.false)) c.deeper.ensures.depth in
+    let read = rw (c.deeper.ensures.functions, c.deeper.ensures.numbers, c.params.ensures, c.skip_blanks.ensures.left) at c.in_ok-parse_arguments.ensures.gives in (
       call f read.0,
       (c.in_ok-call.ensures.made read.0 (rw (read.1.1, c.new-arguments.ensures.items) read.1.2), rw declared c.in_ok-call.ensures.result),
       rw (down, declared, c.take_char.ensures.value, read.2) refl,
@@ -170,7 +170,7 @@ parse_call-returns-clause-gives g t c =
 
 pub parse_inside-returns-clause-gives : goal.parse_inside-returns-clause-gives
 parse_inside-returns-clause-gives g t c =
-    rw (level_down (signatures g.F.Functions.set c.args.self.now) c.args.self.now.depth c.deeper.result.depth (omega (arith, c.if-self-eq0.false)) c.deeper.ensures.depth, c.take_char.ensures.value, ← c.skip_blanks.ensures.left) (rw c.deeper.ensures.functions at c.parse_logical_or.ensures.gives)
+    rw (level_down (numbers_view c.args.self.now.numbers) (signatures g.F.Functions.set c.args.self.now) c.args.self.now.depth c.deeper.result.depth (omega (arith, c.if-self-eq0.false)) c.deeper.ensures.depth, c.take_char.ensures.value, ← c.skip_blanks.ensures.left) (rw (c.deeper.ensures.functions, c.deeper.ensures.numbers) at c.parse_logical_or.ensures.gives)
 
 pub parse_named-returns-then-sees-clause-gives : goal.parse_named-returns-then-sees-clause-gives
 unfolding read_named_call
@@ -201,7 +201,7 @@ parse_negated-returns-in-Literal-clause-gives g t c =
 pub parse_negated-returns : goal.parse_negated-returns
 parse_negated-returns g t c =
     let o = c.in_ok-operand.ensures.gives in
-    let tests = no_literal (signatures g.F.Functions.set c.args.self.now) c.parse_operand.new.builder c.in_ok-operand.operand (deeper g.F.Functions.set c.args.self.now) c.bytes_left-place.result o.0 (left c.parse_operand.new.reader) _ c.in_default.not-Literal (c.argument.ensures (operand o.0) o.1.0) in
+    let tests = no_literal (numbers_view c.args.self.now.numbers) (signatures g.F.Functions.set c.args.self.now) c.parse_operand.new.builder c.in_ok-operand.operand (deeper g.F.Functions.set c.args.self.now) c.bytes_left-place.result o.0 (left c.parse_operand.new.reader) _ c.in_default.not-Literal (c.argument.ensures (operand o.0) o.1.0) in
     let made = grown_so _ _ _ _ _ c.as_test.result (c.as_test.ensures.gives o.0 o.1) (λ b grown. grown c.args.builder.now o.3) in
     record {
       moves = record { moves = c.parse_operand.ensures.moves.moves; near = c.as_test.ensures.near };
@@ -233,22 +233,22 @@ parse_operand-returns-in_ok-queried-in-Some-eq36-clause-gives g t c =
 pub parse_or_from-parts-init : goal.parse_or_from-parts-init
 parse_or_from-parts-init g t c = record {
   moves = grind (arith, common_steps);
-  so_far = λ x is. begins_row (ors_stand _ _) x (omega arith) c.new-parts.ensures.items c.in_ok-push.ensures.items is (λ before grown. grown) refl;
+  so_far = λ x is. begins_row (ors_stand _ _ _) x (omega arith) c.new-parts.ensures.items c.in_ok-push.ensures.items is (λ before grown. grown) refl;
 }
 
 pub parse_or_from-returns-in_err-part-clause-gives : goal.parse_or_from-returns-in_err-part-clause-gives
 parse_or_from-returns-in_err-part-clause-gives g t c = λ x is.
     let p = err_from_is_err_and c.from_residual-in_err-part.result c.from_residual-in_err-part.ensures.1 in
-    rw (p.1, p.2) (row_fails (ors_stand _ _) {ds = left c.skip_blanks.new.self} (grind (arith, common_steps)) (grind (arith, common_steps)) (c.parts.invariant.so_far x is) c.in_err-part.field-0.0 c.in_err-part.ensures.gives)
+    rw (p.1, p.2) (row_fails (ors_stand _ _ _) {ds = left c.skip_blanks.new.self} (grind (arith, common_steps)) (grind (arith, common_steps)) (c.parts.invariant.so_far x is) c.in_err-part.field-0.0 c.in_err-part.ensures.gives)
 
 pub parse_or_from-parts-smaller : goal.parse_or_from-parts-smaller
 parse_or_from-parts-smaller g t c =
-    row_shorter (ors_stand (signatures g.F.Functions.set c.args.self.now) c.args.self.now.depth) {ds = left c.skip_blanks.new.self} (grind (arith, common_steps)) (grind (arith, common_steps)) c.in_ok-part.ensures.gives
+    row_shorter (ors_stand (numbers_view c.args.self.now.numbers) (signatures g.F.Functions.set c.args.self.now) c.args.self.now.depth) {ds = left c.skip_blanks.new.self} (grind (arith, common_steps)) (grind (arith, common_steps)) c.in_ok-part.ensures.gives
 
 pub parse_or_from-parts-preserved : goal.parse_or_from-parts-preserved
 parse_or_from-parts-preserved g t c = record {
   moves = grind (arith, common_steps);
-  so_far = λ x is. row_goes_on (ors_stand _ _) {ds = left c.skip_blanks.new.self} (grind (arith, common_steps)) (grind (arith, common_steps)) c.in_ok-part.ensures.gives (c.parts.invariant.so_far x is) c.in_ok-push-2.ensures.items;
+  so_far = λ x is. row_goes_on (ors_stand _ _ _) {ds = left c.skip_blanks.new.self} (grind (arith, common_steps)) (grind (arith, common_steps)) c.in_ok-part.ensures.gives (c.parts.invariant.so_far x is) c.in_ok-push-2.ensures.items;
 }
 
 pub parse_or_from-logical_or-requires : goal.parse_or_from-logical_or-requires
@@ -261,7 +261,7 @@ parse_or_from-returns-clause-gives g t c = λ x is.
     let so_far = c.parts.invariant.so_far x is in (
       or_list so_far.items,
       c.in_ok-logical_or.ensures.made (or_list so_far.items) (some_parts c.parts.builder (λ parts. AreOrPartsOf c.parts.builder parts (or_list so_far.items)) _ _ so_far.some (λ part others are. are) so_far.are),
-      row_done (ors_stand _ _) so_far (grind (arith, common_steps)) c.sees_both.ensures.stays,
+      row_done (ors_stand _ _ _) so_far (grind (arith, common_steps)) c.sees_both.ensures.stays,
       λ before grown. grows_kept (so_far.grown before grown) c.logical_or.ensures.keeps,
     )
 
@@ -293,7 +293,7 @@ pub parse_segments-returns-in_err-part-clause-gives : goal.parse_segments-return
 parse_segments-returns-in_err-part-clause-gives g t c =
     let p = err_from_is_err_and c.from_residual.result c.from_residual.ensures.1 in
     let so_far = c.segments.invariant.so_far in
-    rw (p.1, p.2) (row_fails (segments_stand _ _ _) (grind (arith, common_steps)) so_far.2 so_far.3 c.in_err-part.field-0.0 c.in_err-part.ensures.gives)
+    rw (p.1, p.2) (row_fails (segments_stand _ _ _ _) (grind (arith, common_steps)) so_far.2 so_far.3 c.in_err-part.field-0.0 c.in_err-part.ensures.gives)
 
 pub parse_segments-returns-in_err-part-clause-needs_no_memory : goal.parse_segments-returns-in_err-part-clause-needs_no_memory
 parse_segments-returns-in_err-part-clause-needs_no_memory g t c =
@@ -307,13 +307,13 @@ parse_segments-returns-in_err-push-clause-needs_no_memory g t c =
 
 pub parse_segments-segments-smaller : goal.parse_segments-segments-smaller
 parse_segments-segments-smaller g t c =
-    let shorter = segment_shorter (signatures g.F.Functions.set c.args.self.now) c.args.self.now.depth c.args.context (left c.segments.reader) _ c.in_ok-part.ensures.gives.0 (grind (arith, common_steps)) c.in_ok-part.ensures.gives.2 in
+    let shorter = segment_shorter (numbers_view c.args.self.now.numbers) (signatures g.F.Functions.set c.args.self.now) c.args.self.now.depth c.args.context (left c.segments.reader) _ c.in_ok-part.ensures.gives.0 (grind (arith, common_steps)) c.in_ok-part.ensures.gives.2 in
     rw c.skip_blanks-in-segments.ensures.left (omega (arith, shorter, no_longer (left c.parse_segment.new.reader)))
 
 pub parse_segments-segments-preserved : goal.parse_segments-segments-preserved
 parse_segments-segments-preserved g t c =
     let so_far = c.segments.invariant.so_far in
-    let further = row_goes_on (segments_stand _ _ _) (grind (arith, common_steps)) so_far.2 c.in_ok-part.ensures.gives so_far.3 c.in_ok-push.ensures.items in
+    let further = row_goes_on (segments_stand _ _ _ _) (grind (arith, common_steps)) so_far.2 c.in_ok-part.ensures.gives so_far.3 c.in_ok-push.ensures.items in
     record {
       moves = grind (arith, common_steps);
       none = λ e. absurd (true≢false (sym c.segments-test.true ∙ c.sees_segment.ensures ∙ c.segments.invariant.none e));
@@ -324,45 +324,45 @@ pub parse_segments-returns-clause-gives : goal.parse_segments-returns-clause-giv
 parse_segments-returns-clause-gives g t c =
     let so_far = c.segments.invariant.so_far in
     let row = so_far.3 in
-    (row.items, so_far.0, row.are, so_far.1, so_far.2, row_done (segments_stand _ _ _) row (grind (arith, common_steps)) refl, row.grown c.args.builder.now (grows_none c.args.builder.now))
+    (row.items, so_far.0, row.are, so_far.1, so_far.2, row_done (segments_stand _ _ _ _) row (grind (arith, common_steps)) refl, row.grown c.args.builder.now (grows_none c.args.builder.now))
 
 pub parse_selector-returns-in_err-test-clause-gives : goal.parse_selector-returns-in_err-test-clause-gives
 parse_selector-returns-in_err-test-clause-gives g t c =
     let p = err_from_is_err_and c.from_residual.result c.from_residual.ensures.1 in
-    rw (p.1, p.2, at_mark (signatures g.F.Functions.set c.args.self.now) (deeper g.F.Functions.set c.args.self.now) (left c.args.reader.now) (sym c.sees.ensures ∙ c.if-sees.true)) (first_fails c.in_err-test.field-0.0 _ _ c.in_err-test.ensures.gives)
+    rw (p.1, p.2, at_mark (numbers_view c.args.self.now.numbers) (signatures g.F.Functions.set c.args.self.now) (deeper g.F.Functions.set c.args.self.now) (left c.args.reader.now) (sym c.sees.ensures ∙ c.if-sees.true)) (first_fails c.in_err-test.field-0.0 _ _ c.in_err-test.ensures.gives)
 
 pub parse_selector-returns-then-sees-clause-gives : goal.parse_selector-returns-then-sees-clause-gives
 parse_selector-returns-then-sees-clause-gives g t c =
     let read = c.in_ok-test.ensures.gives in
-    (tree.filter read.0, c.in_ok-filter.ensures.made read.0 read.1, rw (at_mark (signatures g.F.Functions.set c.args.self.now) (deeper g.F.Functions.set c.args.self.now) (left c.args.reader.now) (sym c.sees.ensures ∙ c.if-sees.true), read.2) refl, grows_kept read.3 c.filter.ensures.keeps)
+    (tree.filter read.0, c.in_ok-filter.ensures.made read.0 read.1, rw (at_mark (numbers_view c.args.self.now.numbers) (signatures g.F.Functions.set c.args.self.now) (deeper g.F.Functions.set c.args.self.now) (left c.args.reader.now) (sym c.sees.ensures ∙ c.if-sees.true), read.2) refl, grows_kept read.3 c.filter.ensures.keeps)
 
 pub parse_selectors-selectors-init : goal.parse_selectors-selectors-init
 parse_selectors-selectors-init g t c =
     let read = c.in_ok-first.ensures.gives in
     record {
       moves = grind (arith, common_steps);
-      so_far = begins_row (selectors_stand _ _) read.0 (omega arith) c.new-parts.ensures.items c.in_ok-push.ensures.items read.1 (λ before grown. grows_then grown read.3) (rw (← c.skip_blanks.ensures.left, read.2) refl);
+      so_far = begins_row (selectors_stand _ _ _) read.0 (omega arith) c.new-parts.ensures.items c.in_ok-push.ensures.items read.1 (λ before grown. grows_then grown read.3) (rw (← c.skip_blanks.ensures.left, read.2) refl);
     }
 
 pub parse_selectors-returns-in_err-part-clause-gives : goal.parse_selectors-returns-in_err-part-clause-gives
 parse_selectors-returns-in_err-part-clause-gives g t c =
     let p = err_from_is_err_and c.from_residual-in_err-part.result c.from_residual-in_err-part.ensures.1 in
-    rw (p.1, p.2) (row_fails (selectors_stand _ _) {ds = left c.skip_blanks-in-selectors.new.self} (grind (arith, common_steps)) (grind (arith, common_steps)) c.selectors.invariant.so_far c.in_err-part.field-0.0 c.in_err-part.ensures.gives)
+    rw (p.1, p.2) (row_fails (selectors_stand _ _ _) {ds = left c.skip_blanks-in-selectors.new.self} (grind (arith, common_steps)) (grind (arith, common_steps)) c.selectors.invariant.so_far c.in_err-part.field-0.0 c.in_err-part.ensures.gives)
 
 pub parse_selectors-selectors-smaller : goal.parse_selectors-selectors-smaller
 parse_selectors-selectors-smaller g t c =
-    row_shorter (selectors_stand (signatures g.F.Functions.set c.args.self.now) c.args.self.now.depth) {ds = left c.skip_blanks-in-selectors.new.self} (grind (arith, common_steps)) (grind (arith, common_steps)) c.in_ok-part.ensures.gives
+    row_shorter (selectors_stand (numbers_view c.args.self.now.numbers) (signatures g.F.Functions.set c.args.self.now) c.args.self.now.depth) {ds = left c.skip_blanks-in-selectors.new.self} (grind (arith, common_steps)) (grind (arith, common_steps)) c.in_ok-part.ensures.gives
 
 pub parse_selectors-selectors-preserved : goal.parse_selectors-selectors-preserved
 parse_selectors-selectors-preserved g t c = record {
   moves = grind (arith, common_steps);
-  so_far = row_goes_on (selectors_stand _ _) {ds = left c.skip_blanks-in-selectors.new.self} (grind (arith, common_steps)) (grind (arith, common_steps)) c.in_ok-part.ensures.gives c.selectors.invariant.so_far c.in_ok-push-2.ensures.items;
+  so_far = row_goes_on (selectors_stand _ _ _) {ds = left c.skip_blanks-in-selectors.new.self} (grind (arith, common_steps)) (grind (arith, common_steps)) c.in_ok-part.ensures.gives c.selectors.invariant.so_far c.in_ok-push-2.ensures.items;
 }
 
 pub parse_selectors-returns-clause-gives : goal.parse_selectors-returns-clause-gives
 parse_selectors-returns-clause-gives g t c =
     let so_far = c.selectors.invariant.so_far in
-    (so_far.items, some_parts c.selectors.builder (λ parts. AreSelectorsOf c.selectors.builder parts (selector_list so_far.items)) _ _ so_far.some (λ part others are. are) so_far.are, row_done (selectors_stand _ _) so_far (grind (arith, common_steps)) refl, so_far.grown c.args.builder.now (grows_none c.args.builder.now))
+    (so_far.items, some_parts c.selectors.builder (λ parts. AreSelectorsOf c.selectors.builder parts (selector_list so_far.items)) _ _ so_far.some (λ part others are. are) so_far.are, row_done (selectors_stand _ _ _) so_far (grind (arith, common_steps)) refl, so_far.grown c.args.builder.now (grows_none c.args.builder.now))
 
 pub parse_and_from-returns-clause-made : goal.parse_and_from-returns-clause-made
 parse_and_from-returns-clause-made g t c =

@@ -1,12 +1,11 @@
 use Rattle.std.proofs.Common.{sym}
-use Rattle.serde_json_path_syntax.specs.Flat.{held_view}
-use Rattle.serde_json_path_parser.proofs.Steps.{value_by, singular_by}
+use Rattle.serde_json_path_parser.proofs.Steps.{singular_by}
 use Rattle.serde_json_path_parser.proofs.parser.call.suits.Goals as goal
 
 pub returns-in-Value : goal.returns-in-Value
 returns-in-Value c = λ signature x is.
     let l = rw c.in-Literal.is at (c.argument.ensures x is.0) in
-    rw (l, c.in-Value.is) (value_by c.is_value.result (held_view c.in-Literal.literal.now) c.is_value.ensures)
+    rw (l, c.in-Value.is) c.may_be_argument.ensures
 
 pub returns-in-Value-wanted : goal.returns-in-Value-wanted
 returns-in-Value-wanted c = λ signature x is.

@@ -1,6 +1,6 @@
 use Rattle.std.proofs.Common.{◌≡◌, ◌∙◌, List, ℕ, Option, sym, subst, rules}
 use Rattle.std.specs.Str.{IsUtf8, chars}
-use Rattle.serde_json_path_functions.specs.Functions.{Signature}
+use Rattle.serde_json_path_functions.specs.Functions.{Numbers, Signature}
 use Rattle.serde_json_path_syntax.specs.Text.{query_text}
 use Rattle.serde_json_path_syntax.specs.Tree.{Query}
 use Rattle.serde_json_path_parser.specs.Accepted.{IsAccepted}
@@ -9,15 +9,15 @@ use Rattle.serde_json_path.specs.Paths.{path_tree}
 use Rattle.serde_json_path_tests.proofs.tests.headline.comes_back.Goals as goal
 
 -- where a text is accepted with a tree, so is the tree's own text
-accepted_again : PrintedTextReadsBack → (signature : List ℕ → Option Signature) (text printed : List ℕ) (q : Query) → IsUtf8 text → printed ≡ query_text q
-    → IsAccepted signature (chars text) q → IsAccepted signature (chars printed) q
-accepted_again law signature text printed q utf8 same h =
-    subst (λ t. IsAccepted signature (chars t) q) (sym same)
-    (record { reads = law text q utf8 h.reads; from_root = h.from_root; typed = h.typed; within_depth = h.within_depth })
+accepted_again : PrintedTextReadsBack → (rule : Numbers) (signature : List ℕ → Option Signature) (text printed : List ℕ) (q : Query) → IsUtf8 text → printed ≡ query_text q
+    → IsAccepted rule signature (chars text) q → IsAccepted rule signature (chars printed) q
+accepted_again law rule signature text printed q utf8 same h =
+    subst (λ t. IsAccepted rule signature (chars t) q) (sym same)
+    (record { reads = law rule text q utf8 h.reads; from_root = h.from_root; typed = h.typed; within_depth = h.within_depth })
 
 pub unreachable-requires : goal.unreachable-requires
 unreachable-requires g c =
     let tree = path_tree c.in_ok-path.path in
     let printed : c.as_str.result.now ≡ query_text tree = search rules in
     c.in-Err.ensures.parse.refused (λ e. c.in_default.not-NoMemory (c.kind.ensures ∙ e)) tree
-    (accepted_again c.law_print.ensures _ _ _ tree c.utf8.text printed c.in_ok-path.ensures.parse.accepted)
+    (accepted_again c.law_print.ensures _ _ _ _ tree c.utf8.text printed c.in_ok-path.ensures.parse.accepted)

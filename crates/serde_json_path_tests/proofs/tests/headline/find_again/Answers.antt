@@ -2,6 +2,7 @@ use Rattle.std.proofs.Common.{◌≡◌, [], ◌∷◌, sym, subst, ◌∙◌, r
 use Rattle.std.specs.Str.{chars}
 use Rattle.serde_json.specs.View.{view}
 use Rattle.serde_json_path_nodes.specs.Text.{normal}
+use Rattle.serde_json_path_functions.specs.Functions.{whole_numbers}
 use Rattle.serde_json_path_functions.specs.Patterns.{before_builtin}
 use Rattle.serde_json_path_core.specs.Meaning.{IsResult}
 use Rattle.serde_json_path_parser.specs.Accepted.{IsAccepted}
@@ -16,7 +17,7 @@ unreachable-requires g c =
     let text : c.as_str.result.now ≡ normal location = search rules in
     let law = c.law_normal.ensures location (c.law_locations_are_proper.ensures c.args.document.now location c.requires.there.0 c.requires.there.1) c.requires.written in
     c.in-Err.ensures.parse.refused (λ e. c.in_default.not-NoMemory (c.kind.ensures ∙ e)) (tree_to location)
-    (subst (λ t. IsAccepted signature (chars t) (tree_to location)) (sym text) (law.accepted signature))
+    (subst (λ t. IsAccepted whole_numbers signature (chars t) (tree_to location)) (sym text) (law.accepted whole_numbers signature))
 
 pub returns-in-Ok-query_located_with : goal.returns-in-Ok-query_located_with
 returns-in-Ok-query_located_with g c = λ v there.
@@ -26,7 +27,7 @@ returns-in-Ok-query_located_with g c = λ v there.
     let tree = path_tree c.in-Ok.path in
     let text : c.as_str.result.now ≡ normal location = search rules in
     let law = c.law_normal.ensures location (c.law_locations_are_proper.ensures c.args.document.now location c.requires.there.0 c.requires.there.1) c.requires.written in
-    let same : tree ≡ tree_to location = law.only F.signature tree (subst (λ t. IsAccepted F.signature (chars t) tree) text c.in-Ok.ensures.parse.accepted) in
+    let same : tree ≡ tree_to location = law.only whole_numbers F.signature tree (subst (λ t. IsAccepted whole_numbers F.signature (chars t) tree) text c.in-Ok.ensures.parse.accepted) in
     c.law_result_is_unique.ensures F top tree top _ _
     c.in-Ok-query_located_with.ensures.selects
     (subst (λ q. IsResult F top q top (record { location = location; value = v } ∷ [])) (sym same) (law.selects F top v there))
