@@ -57,7 +57,8 @@ impl JsonPath {
         }
     }
 
-    /// The path's text as a JSON string, from which `from_json` reads the path again if it fits the built-in functions.
+    /// The path's text as a JSON string. `from_json` reads the path again from it if it fits the built-in functions and was read
+    /// by whole numbers; [`JsonPath::parse_by`] reads the text by all.
     ///
     /// An error comes only where memory is refused.
     pub fn to_json(&self, alloc: Global) -> Result<Value, AllocError>

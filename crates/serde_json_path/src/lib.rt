@@ -31,8 +31,8 @@
 //! # Limits
 //!
 //! Filters, parentheses and calls may be nested 128 deep. Indexes go up to 2^53 - 1. Number literals have at most nine digits
-//! of a fraction and no exponent. A number of a document that is not held as an integer equals nothing and is not ordered,
-//! unless the path takes all numbers ([`JsonPath::with_numbers`]).
+//! of a fraction and no exponent. Unless the path takes all numbers ([`JsonPath::parse_by`]), one with a fraction is no argument
+//! of a function, and a number of a document that is not held as an integer equals nothing and is not ordered.
 //!
 //! # Untrusted input
 //!

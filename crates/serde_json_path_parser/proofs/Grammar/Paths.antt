@@ -1,5 +1,5 @@
 -- Whole paths, and the promises of a parse.
-use Rattle.serde_json_path_parser.proofs.Words.{Numbers, ◌==◌, encode_utf8_all, all_scalars, chars, IsUtf8, IsCharBoundary, append-nil, length-append, nil_from_length, eqb-true, SegmentKind, Segments, Segment, deepest, Signature, ParseErrorKind, ExpectedRoot, UndefinedFunction, TextAfterPath, NoMemory, IsUndeclared, is_at, begins, Parsed, refusal, opens_next, read_segments, segment_list, opens_after_root, level, read_path, encodes-chars, encodes-append, scalars-chars, IsCharBoundary-at_seam, ◌&&◌, take-append_seam, drop-append_seam, IsCharBoundary-start, chars-encodes, Query, query, root, current, greatest_usize, Refusal, Failure, tree_of, rule_of, whole_numbers, signatures_of, opens, AreCalled, Reports, reported, Fails, IsRefused, IsWithin, error_of, is_dollar, NeedsNoMemory, ParsedQuery, IsParse, checked_view, eq-eqb, length-le-encodes, ◌≡◌, ◌≢◌, ℕ, ◌≤◌, ◌↔◌, true, false, true≢false, List, [], ◌∷◌, ◌++◌, length, drop, Option, Ok, refl, sym, ap, subst, ◌∙◌, arith, ◌+◌, ◌-◌, inl, inr, ◌<◌, take, Some, Err, read_filter, Memory, Refused, is_blank, read_next_segment}
+use Rattle.serde_json_path_parser.proofs.Words.{Numbers, ◌==◌, encode_utf8_all, all_scalars, chars, IsUtf8, IsCharBoundary, append-nil, length-append, nil_from_length, eqb-true, SegmentKind, Segments, Segment, deepest, Signature, ParseErrorKind, ExpectedRoot, UndefinedFunction, TextAfterPath, NoMemory, IsUndeclared, is_at, begins, Parsed, refusal, opens_next, read_segments, segment_list, opens_after_root, level, read_path, encodes-chars, encodes-append, scalars-chars, IsCharBoundary-at_seam, ◌&&◌, take-append_seam, drop-append_seam, IsCharBoundary-start, chars-encodes, Query, query, root, current, greatest_usize, Refusal, Failure, tree_of, rule_of, signatures_of, opens, AreCalled, Reports, reported, Fails, IsRefused, IsWithin, error_of, is_dollar, NeedsNoMemory, ParsedQuery, IsParse, checked_view, eq-eqb, length-le-encodes, ◌≡◌, ◌≢◌, ℕ, ◌≤◌, ◌↔◌, true, false, true≢false, List, [], ◌∷◌, ◌++◌, length, drop, Option, Ok, refl, sym, ap, subst, ◌∙◌, arith, ◌+◌, ◌-◌, inl, inr, ◌<◌, take, Some, Err, read_filter, Memory, Refused, is_blank, read_next_segment}
 use Rattle.serde_json_path_parser.specs.declared.error.Context.TheVariants as context
 use Rattle.serde_json_path_parser.proofs.Grammar.LogicalForms.{AreSegmentsText}
 use Rattle.serde_json_path_parser.proofs.Grammar.Calls.{level_laws}

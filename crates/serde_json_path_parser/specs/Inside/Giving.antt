@@ -1,7 +1,7 @@
 -- The words of contracts of private functions: a reader of a text, what is read at a level, and
 -- that what a function of the parser returned is what reading gives.
 use Rattle.std.specs.Prelude.{ℕ, true, false, List, codes, bytes_eq, Option, Some, None, if◌then◌else◌, ◌≡◌, ◌+◌, ◌≤◌, max, drop, length, ◌-◌, ◌++◌, Result, Ok, Err}
-use Rattle.serde_json_path_parser.specs.Imports.{Numbers, Literal, truth, null, Selector, query, root, SegmentKind, Segments, Segment, Call, Arguments, Argument, Operand, called, operand, chars, Signature, FunctionSet, Fits, names_of, calls_in_segments, calls_in_selectors, calls_from, calls_in_arguments, calls_in_argument, calls_in_operand, parts_in, Branch, a_segment, argument_branch, calls_in_branch, IsPart, ArePartsOf, AreSelectorsOf, AreArgumentsOf, KeepsTrees, calls_in, rule_of, whole_numbers, signatures_of, tree_of, result_kind, AreCalled, AreDeclared, names_in, result_of_call, result_of_operand, Part, Parts, SyntaxBuilder, Checked}
+use Rattle.serde_json_path_parser.specs.Imports.{Numbers, Literal, truth, null, Selector, query, root, SegmentKind, Segments, Segment, Call, Arguments, Argument, Operand, called, operand, chars, Signature, FunctionSet, Fits, names_of, calls_in_segments, calls_in_selectors, calls_from, calls_in_arguments, calls_in_argument, calls_in_operand, parts_in, Branch, a_segment, argument_branch, calls_in_branch, IsPart, ArePartsOf, AreSelectorsOf, AreArgumentsOf, KeepsTrees, calls_in, rule_of, signatures_of, tree_of, result_kind, AreCalled, AreDeclared, names_in, result_of_call, result_of_operand, Part, Parts, SyntaxBuilder, Checked}
 use Rattle.serde_json_path_functions.specs.Terms.{numbers_view}
 use Rattle.serde_json_path_parser.specs.Source.{Observed}
 use Rattle.serde_json_path_parser.specs.Inside.Looking.{up_to_second}
