@@ -15,12 +15,14 @@
 #![tactic(auto)]
 
 mod comparison;
+mod decimal;
 mod exact_number;
 mod laws;
 mod literal;
 #[cfg(test)]
 mod tests;
 
+pub use decimal::Decimal;
 pub use exact_number::ExactNumber;
 pub use laws::{
     law_equality_of_numbers, law_integers_keep_their_order, law_numbers_are_finite,
