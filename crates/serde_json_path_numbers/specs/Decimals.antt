@@ -1,5 +1,6 @@
 -- Doubles as decimals of few digits, and their texts.
 use Rattle.std.specs.Prelude.{ℕ, zero, suc, ◌+◌, ◌*◌, ◌/◌, ◌%◌, ◌^◌, ◌==◌, ◌&&◌, nat_le, nat_lt, ℤ, pos, negsuc, ◌+ℤ◌, unsigned_abs, Bool, true, false, List, [], ◌++◌, codes, Option, Some, None, if◌then◌else◌, to_bits}
+use Rattle.std.specs.Option.{option_or}
 use Rattle.std.specs.Float.Ieee.{Float, binary64}
 use Rattle.std.specs.Fmt.{decimal, signed_decimal, sign_text}
 use Rattle.fast_float.specs.Rounding.{nearest_to_decimal}
@@ -32,18 +33,23 @@ abbrev pub raised : ℕ → ℤ → ℕ × ℤ
 raised digits exponent =
     if digits == 9 then (1, exponent +ℤ pos 1) else (digits + 1, exponent)
 
+-- some digits, or else these digits raised, if they are read as x
+abbrev pub found_at : Float → ℕ → ℤ → Option (ℕ × ℤ)
+found_at x digits exponent =
+    if digits == 0 then None
+    else if reads_as x digits exponent then Some (digits, exponent)
+    else if reads_as x (raised digits exponent).0 (raised digits exponent).1 then
+    Some (raised digits exponent)
+    else None
+
 -- The first digits of n * 10 ^ exponent, as few as are read as x, cut there or else raised; the last k are not tried yet.
 -- Eighteen are enough for any double, which is well known, and not shown here.
 abbrev pub fewest : Float → ℕ → ℤ → ℕ → Option (ℕ × ℤ)
 fewest x n exponent zero = None
 fewest x n exponent (suc k) =
     let cut = n / 10 ^ k in
-    let unit = exponent +ℤ pos k in
-    if cut == 0 then fewest x n exponent k
-    else if nat_le (10 ^ 18) cut then None
-    else if reads_as x cut unit then Some (cut, unit)
-    else if reads_as x (cut + 1) unit then Some (raised cut unit)
-    else fewest x n exponent k
+    if nat_le (10 ^ 18) cut then None
+    else option_or (found_at x cut (exponent +ℤ pos k)) (fewest x n exponent k)
 
 -- ---- texts (RFC 9535, section 2.3.5.1)
 

@@ -1,6 +1,6 @@
 -- What a number literal of any length is worth (RFC 9535, section 2.3.5.1): a whole number of billionths, or the double
 -- nearest to it.
-use Rattle.std.specs.Prelude.{ℕ, ◌+◌, ◌-◌, ◌*◌, ◌^◌, ◌==◌, ◌&&◌, ◌<◌, nat_le, nat_lt, ℤ, pos, negsuc, ◌+ℤ◌, ◌-ℤ◌, unsigned_abs, Bool, true, false, List, ◌++◌, length, drop, Option, Some, None, if◌then◌else◌, IsTrue, int_lt}
+use Rattle.std.specs.Prelude.{ℕ, ◌+◌, ◌-◌, ◌*◌, ◌^◌, ◌==◌, ◌&&◌, ◌||◌, ◌<◌, nat_le, nat_lt, ℤ, pos, negsuc, ◌+ℤ◌, ◌-ℤ◌, unsigned_abs, Bool, true, false, List, ◌++◌, length, drop, Option, Some, None, if◌then◌else◌, IsTrue, int_lt}
 use Rattle.std.specs.Float.{float_is_finite}
 use Rattle.std.specs.Float.Ieee.{Float, eq, binary64, to_unsigned}
 use Rattle.std.specs.Str.Parse.{digits_value}
@@ -41,10 +41,11 @@ abbrev pub double_billionths : Float → Option ℕ
 double_billionths x =
     if eq (integer (pos (to_unsigned 64 x))) x then Some (to_unsigned 64 x * 1000000000) else None
 
--- a decimal with at most nine digits after the point
+-- a decimal with at most nine digits after the point; with 20 zeros before it there are too many billionths
 abbrev pub decimal_billionths : ℕ × ℤ → Option ℕ
 decimal_billionths d =
-    if int_lt d.1 (negsuc 8) then None else Some (d.0 * 10 ^ unsigned_abs (d.1 +ℤ pos 9))
+    if (int_lt d.1 (negsuc 8) || int_lt (pos 19) d.1) then None
+    else Some (d.0 * 10 ^ unsigned_abs (d.1 +ℤ pos 9))
 
 -- the power of ten by which the digits are taken, if the exponent has 64 bits; by any other a number is 0 or infinite
 abbrev pub exponent_of : Parts → Option ℤ

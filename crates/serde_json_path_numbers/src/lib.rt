@@ -19,6 +19,7 @@ mod decimal;
 mod exact_number;
 mod laws;
 mod literal;
+mod numeral;
 #[cfg(test)]
 mod tests;
 
@@ -29,3 +30,4 @@ pub use laws::{
     law_order_of_numbers,
 };
 pub use literal::literal_double;
+pub use numeral::{Amount, numeral_amount};
