@@ -6,12 +6,14 @@
 -- Digits: digits written from the last to the first.
 -- Finite: numbers of literals are in range, and finite.
 -- Whole: a literal of whole billions of billionths is that integer.
+-- Places: the places after the point of a decimal.
 -- Words: the words of definitions and lemmas, from one place.
 mod Digits
 pub mod Finite
 pub mod Floats
 pub mod Forms
 mod Orders
+mod Places
 mod Ratios
 pub mod Whole
 mod Words
