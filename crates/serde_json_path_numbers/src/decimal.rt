@@ -25,7 +25,8 @@ impl Decimal {
     /// The double nearest to it.
     #[inline]
     pub fn double(self) -> f64
-        ensures { result ≡ decimal_number (decimal_view self) }
+        ensures value { result ≡ decimal_number (decimal_view self) }
+        ensures finite { float_is_finite result ≡ true }
     {
         from_parts(self.negative, self.digits, self.exponent)
     }
