@@ -9,6 +9,7 @@
 -- Numerals: digits, and the fewest that are read as a double.
 -- ReadBack: the text of a decimal is read as that decimal.
 -- Whole: a literal of whole billions of billionths is that integer.
+-- Places: the places after the point of a decimal.
 -- Words: the words of definitions and lemmas, from one place.
 mod Digits
 pub mod Finite
@@ -18,6 +19,7 @@ pub mod Numerals
 pub mod ReadBack
 pub mod Found
 mod Orders
+mod Places
 mod Ratios
 pub mod Whole
 mod Words

@@ -3,6 +3,7 @@
 use Rattle.std.specs.Prelude.{Bool, true, false, ◌≡◌, ◌%◌, ℕ, ℤ, unsigned_abs, List, [], ◌++◌, ◌⊎◌, Option, Some, None, codes}
 use Rattle.serde_json_path_parser.specs.Imports.{Numbers, whole_numbers, all_numbers, QueryKind, root, current, Query, query, Segments, no_segments, segment, SegmentKind, child, descendant, Segment, dot_name, dot_wildcard, long_hand, Selectors, no_selectors, selector, Selector, name, wildcard, index, slice, filter, Slice, LogicalOr, no_or, or, LogicalAnd, no_and, and, Basic, paren, relation, test, Operator, equal, not_equal, less, less_or_equal, greater, greater_or_equal, Operand, literal, queried, called, Call, call, Arguments, no_arguments, argument, Argument, operand, logical_argument, Literal, text, number, truth, null}
 use Rattle.serde_json_path_parser.specs.Lexical.{IsBlank, IsName, IsFunctionName, IsInt, IsNumber, IsString}
+use Rattle.serde_json_path_syntax.specs.Tree as tree
 
 -- ---- signs
 
@@ -54,6 +55,7 @@ IsSlice s t =
 abbrev pub IsLiteral : Literal → List ℕ → Type 0
 IsLiteral (text bytes) t = IsString t bytes
 IsLiteral (number amount) t = IsNumber t amount
+IsLiteral (tree.decimal d) t = ⊥
 IsLiteral (truth true) t = t ≡ codes "true"
 IsLiteral (truth false) t = t ≡ codes "false"
 IsLiteral null t = t ≡ codes "null"

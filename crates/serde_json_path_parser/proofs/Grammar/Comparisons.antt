@@ -6,6 +6,7 @@ use Rattle.serde_json_path_parser.proofs.Reading.{whole, front_each, front_begin
 use Rattle.serde_json_path_parser.proofs.Grammar.Segments.{segments_outcome, same_segments, segments_again}
 use Rattle.serde_json_path_parser.proofs.Rows.{Follows}
 use Rattle.serde_json_path_parser.proofs.Grammar.Strings.{string_outcome, string_again, of_quote}
+use Rattle.serde_json_path_syntax.specs.Tree as tree
 
 -- ---- words
 
@@ -136,6 +137,7 @@ module _ (rule : Numbers) (signature : List ℕ → Option Signature) (n : ℕ) 
       let s = string_again t bytes rest h.1 in
       ap (λ (l : List ℕ). read (l ++ rest)) s.3 ∙ quoted_again s.0 (s.1 ++ rest) bytes rest s.2 s.4
   operand_again t (literal (number amount)) rest h follows = number_read t amount rest h.1 follows
+  operand_again t (literal (tree.decimal d)) rest h follows = absurd h.1
   operand_again t (literal (truth true)) rest h follows = ap (λ (l : List ℕ). read (l ++ rest)) h.1 ∙ word_again (codes "true") rest (truth true) (refl, (refl, (refl, (refl, tt)))) refl (λ cs is. rw is refl) follows
   operand_again t (literal (truth false)) rest h follows = ap (λ (l : List ℕ). read (l ++ rest)) h.1 ∙ word_again (codes "false") rest (truth false) (refl, (refl, (refl, (refl, (refl, tt))))) refl (λ cs is. rw is refl) follows
   operand_again t (literal null) rest h follows = ap (λ (l : List ℕ). read (l ++ rest)) h.1 ∙ word_again (codes "null") rest null (refl, (refl, (refl, (refl, tt)))) refl (λ cs is. rw is refl) follows

@@ -4,6 +4,7 @@ use Rattle.serde_json_path_parser.proofs.Reading.{Inner, Outcome, Past, remade, 
 use Rattle.serde_json_path_parser.proofs.Rows.{Follows}
 use Rattle.serde_json_path_parser.proofs.Grammar.Numbers.{number_first}
 use Rattle.serde_json_path_parser.proofs.Grammar.Strings.{string_again, of_quote}
+use Rattle.serde_json_path_syntax.specs.Tree as tree
 
 -- ---- what may follow, after blanks
 
@@ -133,6 +134,7 @@ literal_begins (text bytes) t rest h =
     let s = string_again t bytes rest h in
     ap (λ (x : List ℕ). begins begins_operand (x ++ rest)) s.3 ∙ of_quote (λ quote. begins_operand quote ≡ true) refl refl s.0 s.2
 literal_begins (number amount) t rest h = number_first begins_operand true t amount rest (λ c e. grind (arith, e)) h
+literal_begins (tree.decimal d) t rest h = absurd h
 literal_begins (truth true) t rest h = ap (λ (x : List ℕ). begins begins_operand (x ++ rest)) h
 literal_begins _ t rest h = ap (λ (x : List ℕ). begins begins_operand (x ++ rest)) h
 

@@ -5,6 +5,7 @@ use Rattle.std.proofs.lemmas.Fmt.{decimal_digit, decimal-digits_of}
 use Rattle.std.proofs.lemmas.Int.Digits.{all_below_base_digits_of, first_digits_of, number_digits_of}
 use Rattle.serde_json_path_parser.proofs.Grammar.Numbers.{zero_is}
 use Rattle.serde_json_path_parser.proofs.Printing.QuotedTexts.{Spells, Spelt, spell_nothing, spell_both, spell_ascii, spell_sign, spelt_nothing, spelt_as, spelt_after, string_spelt}
+use Rattle.serde_json_path_syntax.specs.Tree as tree
 
 -- ---- digits
 
@@ -214,6 +215,7 @@ slice_spelt s t (a, k, b, c, start, blank, end, step, split) =
 pub literal_spelt : (l : Literal) (t : List ℕ) → all_scalars t ≡ true → IsLiteral l t → Spelt (IsLiteral l) (literal_text l)
 literal_spelt (text bytes) t e h = string_spelt t bytes e h
 literal_spelt (number amount) t e h = number_spelt t amount h
+literal_spelt (tree.decimal d) t e h = absurd h
 literal_spelt (truth true) t e h = record { characters = codes "true"; spells = spell_ascii (codes "true") (omega arith, (omega arith, (omega arith, (omega arith, tt)))); is_so = refl }
 literal_spelt (truth false) t e h = record { characters = codes "false"; spells = spell_ascii (codes "false") (omega arith, (omega arith, (omega arith, (omega arith, (omega arith, tt))))); is_so = refl }
 literal_spelt null t e h = record { characters = codes "null"; spells = spell_ascii (codes "null") (omega arith, (omega arith, (omega arith, (omega arith, tt)))); is_so = refl }
