@@ -810,35 +810,46 @@ static char *field(struct asked_with *with, size_t index, size_t *length) {
     return string;
 }
 
-/* Holds the refusal of a path or a document to a status, and that of a path to the line that `jsonpath` prints. */
-static void is_refused(const char *path, const char *document, size_t length, uint8_t wanted, const char *line) {
+/* Holds the refusal of a path or a document to a status, and that of a path to the line that `jsonpath` prints. The calls with
+ * two texts take whole numbers. */
+static void is_refused(const char *path, uint8_t numbers, const char *document, size_t length, uint8_t wanted,
+                       const char *line) {
     struct asked_with with = {NULL, NULL, NULL, 0, JSONPATH_LINES, NO_LIMITS};
     struct jsonpath_refusal refusal;
     size_t position;
-    uint8_t status = jsonpath_path_new((const uint8_t *)path, strlen(path), 0, &with.path, &refusal);
+    uint8_t status = jsonpath_path_new((const uint8_t *)path, strlen(path), numbers, &with.path, &refusal);
     if (status == JSONPATH_DONE) {
         status = jsonpath_document_new((const uint8_t *)document, length, &with.document, &position);
     } else {
         char message[ROOM] = "", printed[2 * ROOM];
-        jsonpath_message((const uint8_t *)path, strlen(path), WHOLE, (uint8_t *)message, ROOM, &position);
+        jsonpath_message((const uint8_t *)path, strlen(path), numbers, (uint8_t *)message, ROOM, &position);
         snprintf(printed, sizeof printed, "jsonpath: path: at position %zu, %s\n", refusal.position, message);
         holds(!strcmp(printed, line), "line of a refusal", path);
     }
     holds(status == wanted, "status of a case", path);
-    answers(wanted, path, document, length);
+    if (numbers == JSONPATH_WHOLE_NUMBERS) answers(wanted, path, document, length);
     emptied(&with);
+}
+
+/* The rule for numbers that a case names; without one it is that of whole numbers. */
+static uint8_t rule(struct asked_with *with) {
+    size_t count = 0, length;
+    jsonpath_nodes_length(&with->nodes, &count);
+    char *name = count == 6 ? field(with, 5, &length) : NULL;
+    uint8_t numbers = name && !strcmp(name, "all") ? JSONPATH_ALL_NUMBERS : JSONPATH_WHOLE_NUMBERS;
+    free(name);
+    return numbers;
 }
 
 /* Holds the case that is read to its answer. Statuses of cases are those of calls. */
 static void is_answered(struct asked_with *with) {
-    size_t count = 0, lengths[4];
+    size_t lengths[4];
     char *texts[4];
     struct jsonpath_node status = {0};
     for (size_t at = 0; at < 4; at++) texts[at] = field(with, at, &lengths[at]);
     holds(jsonpath_node(&with->nodes, 4, &status) == JSONPATH_DONE, "status of a case", texts[0]);
-    jsonpath_nodes_length(&with->nodes, &count);
-    uint8_t numbers = count == 6 ? JSONPATH_ALL_NUMBERS : JSONPATH_WHOLE_NUMBERS;
-    if (status.integer) is_refused(texts[0], texts[1], lengths[1], status.integer, texts[3]);
+    uint8_t numbers = rule(with);
+    if (status.integer) is_refused(texts[0], numbers, texts[1], lengths[1], status.integer, texts[3]);
     else selects(texts[0], numbers, texts[1], texts[2]);
     for (size_t at = 0; at < 4; at++) free(texts[at]);
 }

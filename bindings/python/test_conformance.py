@@ -8,9 +8,6 @@ from vozgumb import Document, DocumentError, JsonPath, PathError
 
 ROOT = Path(__file__).resolve().parents[2]
 CASES, ROWS = ROOT / "conformance" / "cases.jsonl", ROOT / "bindings" / "rows.jsonl"
-# The cases that are answered otherwise by all numbers: the first has other nodes. The others have a number with a fraction
-# as an argument, and are refused for a later fault.
-OTHERWISE = [115, 2715, 2796, 2877, 3014, 3241, 3258, 3350, 3370, 3403, 3408, 3443]
 
 
 def answer(text, numbers, document):
@@ -25,23 +22,35 @@ def answer(text, numbers, document):
     return 0, report if report == path.report(document) else "(two answers)", ""
 
 
-def differing(file, numbers):
-    """How many cases a file has, and which differ. A case may name its own rule for numbers."""
-    cases = [json.loads(line) for line in file.read_text(encoding="utf-8").splitlines()]
-    differ = [case["id"] for case in cases if (case["status"], case["stdout"], case["stderr"])
-              != answer(case["path"], case.get("numbers", numbers), case["document"])]
+def by_own(cases):
+    """Each case with the rule for numbers that it names; without one it is that of whole numbers."""
+    return [(case, case.get("numbers", "whole")) for case in cases]
+
+
+def by_all(cases):
+    """Each case that all numbers answer so: one of whole numbers unless there is one of all with its path and document."""
+    otherwise = {(case["path"], case["document"]) for case in cases if case["numbers"] == "all"}
+    return [(case, "all") for case in cases
+            if case["numbers"] == "all" or (case["path"], case["document"]) not in otherwise]
+
+
+def differing(file, rules):
+    """How many cases of a file have a rule, and which differ by it."""
+    cases = rules([json.loads(line) for line in file.read_text(encoding="utf-8").splitlines()])
+    differ = [case["id"] for case, numbers in cases if (case["status"], case["stdout"], case["stderr"])
+              != answer(case["path"], numbers, case["document"])]
     return len(cases), differ
 
 
 class Conformance(unittest.TestCase):
     def test_published_cases(self):
         with ThreadPoolExecutor(2) as pool:
-            answers = list(pool.map(differing, (CASES, CASES), ("whole", "all")))
-        self.assertEqual(answers, [(3868, []), (3868, OTHERWISE)])
+            answers = list(pool.map(differing, (CASES, CASES), (by_own, by_all)))
+        self.assertEqual(answers, [(4499, []), (4246, [])])
 
     def test_rows_of_the_program(self):
         with ThreadPoolExecutor(2) as pool:
-            answers = list(pool.map(differing, (ROWS, ROWS), ("whole", "whole")))
+            answers = list(pool.map(differing, (ROWS, ROWS), (by_own, by_own)))
         self.assertEqual(answers, [(42, [])] * 2)
 
 

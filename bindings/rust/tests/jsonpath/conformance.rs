@@ -2,11 +2,12 @@
 
 use crate::rows::{pairs_of, selects_from_document};
 use jsonpath::{Document, JsonPath, Limits, LineForm, Numbers};
+use std::collections::HashSet;
 use std::thread;
 
 /// A JSON object in each line, as `conformance/README.md` says.
 const CASES: &str = include_str!("../../../../conformance/cases.jsonl");
-/// The same of the worked rows; a row may name its own rule for numbers.
+/// The same of the worked rows; one that names no rule for numbers takes whole numbers.
 const ROWS: &str = include_str!("../../../rows.jsonl");
 
 /// A case's texts, its numbers, and something where its comparisons take all numbers.
@@ -14,11 +15,43 @@ const TEXTS: &str = "$['path', 'document', 'stdout', 'stderr']";
 const NUMBERS: &str = "$['id', 'status']";
 const IS_ALL: &str = "$[?$.numbers == 'all']";
 
-/// The cases that are answered otherwise by all numbers: the first has other nodes. The others have a number with a fraction as an
-/// argument, and are refused for a later fault.
-const OTHERWISE: [i64; 12] = [
-    115, 2715, 2796, 2877, 3014, 3241, 3258, 3350, 3370, 3403, 3408, 3443,
-];
+/// A case: its number, its rule for numbers, its path and its document, and the answer.
+struct Case {
+    id: i64,
+    numbers: Numbers,
+    texts: (String, String),
+    answer: (i64, String, String),
+}
+
+/// The cases of a file's text.
+fn cases_of(lines: &str) -> Vec<Case> {
+    let [texts, fields, is_all] =
+        [TEXTS, NUMBERS, IS_ALL].map(|path| JsonPath::parse(path).unwrap());
+    let case_of = |line: &str| {
+        let case = Document::parse(line.as_bytes()).unwrap();
+        let texts = texts.query(&case).unwrap();
+        let text = |index| texts.get(index).unwrap().as_str().unwrap().to_string();
+        let fields = fields.query(&case).unwrap();
+        let field = |index| fields.get(index).unwrap().as_i64().unwrap();
+        let is_all = is_all.exists(&case).unwrap();
+        Case {
+            id: field(0),
+            numbers: if is_all { Numbers::All } else { Numbers::Whole },
+            texts: (text(0), text(1)),
+            answer: (field(1), text(2), text(3)),
+        }
+    };
+    lines.lines().map(case_of).collect()
+}
+
+/// By which rule each case is asked.
+#[derive(Clone, Copy)]
+enum Rule {
+    /// Its own.
+    Own,
+    /// All numbers, where these answer so: a case of whole numbers unless there is one of all with its path and document.
+    All,
+}
 
 /// The lines of what a path selects, as each call gives them.
 fn report(path: &JsonPath, document: &Document) -> String {
@@ -44,44 +77,48 @@ fn answer(path: &str, numbers: Numbers, document: &str) -> (i64, String, String)
     }
 }
 
-/// How many cases there are, and which differ.
-fn differing(cases: &str, numbers: Numbers) -> (usize, Vec<i64>) {
-    let [texts, fields, is_all] =
-        [TEXTS, NUMBERS, IS_ALL].map(|path| JsonPath::parse(path).unwrap());
-    let mut differ = Vec::new();
-    for line in cases.lines() {
-        let case = Document::parse(line.as_bytes()).unwrap();
-        let texts = texts.query(&case).unwrap();
-        let text = |index| texts.get(index).unwrap().as_str().unwrap().to_string();
-        let fields = fields.query(&case).unwrap();
-        let field = |index| fields.get(index).unwrap().as_i64().unwrap();
-        let numbers = if is_all.exists(&case).unwrap() {
-            Numbers::All
-        } else {
-            numbers
-        };
-        if answer(&text(0), numbers, &text(1)) != (field(1), text(2), text(3)) {
-            differ.push(field(0));
-        }
-    }
-    (cases.lines().count(), differ)
+/// How many cases are asked, and which differ.
+fn differing(lines: &str, rule: Rule) -> (usize, Vec<i64>) {
+    let cases = cases_of(lines);
+    let of_all = |case: &&Case| case.numbers == Numbers::All;
+    let otherwise: HashSet<_> = cases
+        .iter()
+        .filter(of_all)
+        .map(|case| &case.texts)
+        .collect();
+    let asked: Vec<_> = cases
+        .iter()
+        .filter_map(|case| match rule {
+            Rule::Own => Some((case, case.numbers)),
+            Rule::All if of_all(&case) || !otherwise.contains(&case.texts) => {
+                Some((case, Numbers::All))
+            }
+            Rule::All => None,
+        })
+        .collect();
+    let differ = asked
+        .iter()
+        .filter(|(case, numbers)| answer(&case.texts.0, *numbers, &case.texts.1) != case.answer)
+        .map(|(case, _)| case.id)
+        .collect();
+    (asked.len(), differ)
 }
 
-/// Two threads at once, each with its rule for numbers.
-fn in_two_threads(cases: &'static str, rules: [Numbers; 2]) -> [(usize, Vec<i64>); 2] {
+/// Two threads at once, each by its rule.
+fn in_two_threads(lines: &'static str, rules: [Rule; 2]) -> [(usize, Vec<i64>); 2] {
     rules
-        .map(|numbers| thread::spawn(move || differing(cases, numbers)))
+        .map(|rule| thread::spawn(move || differing(lines, rule)))
         .map(|thread| thread.join().unwrap())
 }
 
 #[test]
 fn published_cases() {
-    let answers = in_two_threads(CASES, [Numbers::Whole, Numbers::All]);
-    assert_eq!(answers, [(3868, vec![]), (3868, OTHERWISE.to_vec())]);
+    let answers = in_two_threads(CASES, [Rule::Own, Rule::All]);
+    assert_eq!(answers, [(4499, vec![]), (4246, vec![])]);
 }
 
 #[test]
 fn rows_of_the_program() {
-    let answers = in_two_threads(ROWS, [Numbers::Whole; 2]);
+    let answers = in_two_threads(ROWS, [Rule::Own; 2]);
     assert_eq!(answers, [(42, vec![]), (42, vec![])]);
 }
