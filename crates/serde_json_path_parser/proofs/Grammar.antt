@@ -2,6 +2,8 @@
 
 -- integers and number literals: what is read is one, each is read, and where a refusal of one stands
 pub mod Numbers
+-- numerals of any length
+pub mod Numerals
 -- string literals
 pub mod Strings
 -- selectors, brackets with them, and segments

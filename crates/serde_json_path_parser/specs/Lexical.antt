@@ -141,6 +141,37 @@ IsNumber text amount =
     × (amount ≡ (pos 0 -ℤ pos n)))))
     × IsLiteralAmount amount
 
+-- ---- numerals (section 2.3.5.1): a number as the RFC has it, without a sign
+
+-- digits, one at least
+abbrev pub AreDigits : List ℕ → Type 0
+AreDigits text = AllPass is_digit text × (1 ≤ length text)
+
+-- a point and digits, or nothing
+abbrev pub IsPlaces : List ℕ → Type 0
+IsPlaces text =
+    (text ≡ []) ⊎ ((digits : List ℕ) × AreDigits digits × (text ≡ codes "." ++ digits))
+
+-- digits, perhaps with `-` or `+` before them
+abbrev pub AreSignedDigits : List ℕ → Type 0
+AreSignedDigits text =
+    AreDigits text
+    ⊎ ((sign : ℕ) × (digits : List ℕ) × ((sign ∈ "-+") ≡ true) × AreDigits digits
+    × (text ≡ sign ∷ digits))
+
+-- `e` or `E` and such digits, or nothing
+abbrev pub IsExponent : List ℕ → Type 0
+IsExponent text =
+    (text ≡ [])
+    ⊎ ((e : ℕ) × (digits : List ℕ) × ((e ∈ "eE") ≡ true) × AreSignedDigits digits
+    × (text ≡ e ∷ digits))
+
+-- a whole part, and perhaps places and an exponent
+abbrev pub IsNumeral : List ℕ → Type 0
+IsNumeral text =
+    (a b c : List ℕ) × (n : ℕ) × IsDecimal a n × IsPlaces b × IsExponent c
+    × (text ≡ a ++ (b ++ c))
+
 -- ---- strings (section 2.3.1.1)
 
 -- the value of a hexadecimal digit of either case

@@ -2,22 +2,26 @@
 -- characters. That there is no exponent, that a fraction has one to nine digits, and the range are
 -- this project's own rules. Each refusal is reported where the literal begins: `start` bytes are
 -- left there.
-use Rattle.std.specs.Prelude.{ℕ, ◌+◌, ◌-◌, ◌*◌, ◌^◌, min, nat_le, ℤ, pos, ◌-ℤ◌, Bool, List, length, drop, Ok, Err, if◌then◌else◌}
+use Rattle.std.specs.Prelude.{ℕ, ◌+◌, ◌-◌, ◌*◌, ◌^◌, min, nat_le, ℤ, pos, ◌-ℤ◌, Bool, List, [], length, codes, take, drop, Ok, Err, if◌then◌else◌}
 use Rattle.serde_json_path_parser.specs.declared.error.ParseErrorKind.TheVariants.{ExpectedExpression, ExponentOrEmptyFraction, FractionTooLong, NumberOutOfRange}
 use Rattle.serde_json_path_parser.specs.declared.error.Context.TheVariants as context
 use Rattle.serde_json_path_parser.specs.Lexical.{◌∈◌, is_at, begins, is_digit, value_from, fraction_of}
-use Rattle.serde_json_path_parser.specs.Parsed.{Parsed, ◌>>=◌, refusal, front, past, refusal_at, byte_count}
+use Rattle.serde_json_path_parser.specs.Parsed.{Parsed, ◌>>=◌, with_front, refusal, front, past, refusal_at, byte_count}
 use Rattle.serde_json_path_parser.specs.Parsing.{is_first_digit}
 
 abbrev pub is_exponent : ℕ → Bool
 is_exponent c = c ∈ "eE"
 
--- `0`, or digits that do not begin with it
-abbrev pub read_whole : ℕ → List ℕ → Parsed ℕ
-read_whole start cs =
-    if is_at "0" cs then Ok (0, drop 1 cs)
-    else if begins is_first_digit cs then Ok (value_from 0 (front is_digit cs), past is_digit cs)
+-- `0`, or digits that do not begin with it, as their text
+abbrev pub read_whole_text : ℕ → List ℕ → Parsed (List ℕ)
+read_whole_text start cs =
+    if is_at "0" cs then Ok (codes "0", drop 1 cs)
+    else if begins is_first_digit cs then Ok (front is_digit cs, past is_digit cs)
     else Err (refusal_at ExpectedExpression context.LongHand start)
+
+-- the number that they write
+abbrev pub read_whole : ℕ → List ℕ → Parsed ℕ
+read_whole start cs = read_whole_text start cs >>= λ t. Ok (value_from 0 t.0, t.1)
 
 -- after a point: the billionths of the digits there, which are read whole
 abbrev pub read_digits_after_point : ℕ → List ℕ → Parsed ℕ
@@ -63,3 +67,41 @@ read_number cs =
 -- what is read, as a number that stops at the greatest u128
 abbrev pub capped : Parsed ℕ → Parsed ℕ
 capped read = read >>= λ n. Ok (min n.0 (2 ^ 128 - 1), n.1)
+
+-- ---- numerals of any length, each as its text
+
+-- digits, one at least
+abbrev pub read_some_digits : ℕ → List ℕ → Parsed (List ℕ)
+read_some_digits start cs =
+    if begins is_digit cs then Ok (front is_digit cs, past is_digit cs)
+    else Err (refusal_at ExponentOrEmptyFraction context.LongHand start)
+
+-- the first character, and what is read after it
+abbrev pub after_first : (List ℕ → Parsed (List ℕ)) → List ℕ → Parsed (List ℕ)
+after_first read cs = with_front (take 1 cs) (read (drop 1 cs))
+
+-- after a whole number: a point and digits, or nothing
+unfoldable pub read_places : ℕ → List ℕ → Parsed (List ℕ)
+read_places start cs =
+    if is_at "." cs then after_first (read_some_digits start) cs else Ok ([], cs)
+
+abbrev pub is_sign : ℕ → Bool
+is_sign c = c ∈ "-+"
+
+-- digits, perhaps with a sign before them
+unfoldable pub read_signed_digits : ℕ → List ℕ → Parsed (List ℕ)
+read_signed_digits start cs =
+    if begins is_sign cs then after_first (read_some_digits start) cs
+    else read_some_digits start cs
+
+-- `e` or `E` and such digits, or nothing
+unfoldable pub read_exponent : ℕ → List ℕ → Parsed (List ℕ)
+read_exponent start cs =
+    if begins is_exponent cs then after_first (read_signed_digits start) cs else Ok ([], cs)
+
+-- without a sign
+unfoldable pub read_numeral : ℕ → List ℕ → Parsed (List ℕ)
+read_numeral start cs = do
+  whole ← read_whole_text start cs
+  places ← with_front whole.0 (read_places start whole.1)
+  with_front places.0 (read_exponent start places.1)

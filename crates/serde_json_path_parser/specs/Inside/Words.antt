@@ -3,9 +3,9 @@ pub use Rattle.serde_json_path_parser.specs.Imports.{Numbers, all_numbers, AreAn
 pub use Rattle.serde_json_path_parser.specs.Filters.{Deeper, and_list, begins_call, begins_test, ends_argument, or_list, past_word, read_and, read_and_from, read_argument, read_arguments, read_basic, read_basic_from, read_call, read_comparable, read_end, read_literal_word, read_logical_from, read_named, read_negated, read_negated_test, read_next_and, read_next_basic, read_operand, read_operator, read_or, read_or_from, read_paren, read_path, read_query, read_relation, read_right_side, read_some_arguments, read_test, read_text, word}
 pub use Rattle.serde_json_path_parser.specs.Inside.Giving.{Fails, Grows, GrowsFrom, IsArgumentOf, IsAsRead, IsNear, IsQueryAsRead, IsRefused, IsWithin, Makes, MakesArgument, MakesArguments, MakesCall, MakesFrom, MakesOperand, MakesSegments, MakesSelectors, MakesSo, Moves, MovesTo, StopsNear, at_level, deeper, error_of, left, literal_word, read_filter, seen, segment_branch, signatures, observed}
 pub use Rattle.serde_json_path_parser.specs.Inside.Looking.{Gathered, IsAhead, LooksOn, Stretched, begins_operator, is_ascii, is_ascii_name_char, is_ascii_plain, limit_of, up_to}
-pub use Rattle.serde_json_path_parser.specs.Lexical.{AllPass, ArePieces, IsAmount, IsBlank, IsDecimal, IsFraction, IsFunctionName, IsHex4, IsInt, IsName, IsNumber, IsPiece, IsQuote, IsString, Joined, are_at, begins, begins_both, escaped_by, fraction_of, hex_escape, hexadecimal_of, is_at, is_blank, is_digit, is_function_char, is_name_char, is_name_first, is_plain, is_small_letter, letter_escape, opens, pair_escape, pair_of, plain, quote_escape, value_from, ◌∈◌}
-pub use Rattle.serde_json_path_parser.specs.Numbers.{capped, greatest_amount, is_exponent, read_amount, read_digits_after_point, read_fraction, read_number, read_whole}
+pub use Rattle.serde_json_path_parser.specs.Lexical.{AllPass, AreDigits, ArePieces, AreSignedDigits, IsAmount, IsBlank, IsDecimal, IsExponent, IsFraction, IsFunctionName, IsHex4, IsInt, IsName, IsNumber, IsNumeral, IsPiece, IsPlaces, IsQuote, IsString, Joined, are_at, begins, begins_both, escaped_by, fraction_of, hex_escape, hexadecimal_of, is_at, is_blank, is_digit, is_function_char, is_name_char, is_name_first, is_plain, is_small_letter, letter_escape, opens, pair_escape, pair_of, plain, quote_escape, value_from, ◌∈◌}
+pub use Rattle.serde_json_path_parser.specs.Numbers.{after_first, capped, greatest_amount, is_exponent, is_sign, read_amount, read_digits_after_point, read_exponent, read_fraction, read_number, read_numeral, read_places, read_signed_digits, read_some_digits, read_whole, read_whole_text}
 pub use Rattle.serde_json_path_parser.specs.Operands.{is_number_argument, is_result, is_test, is_value_literal, is_whole, suits, takes_result}
-pub use Rattle.serde_json_path_parser.specs.Parsed.{Parsed, byte_count, front, past, past_blanks, refusal, refusal_at, ◌>>=◌}
+pub use Rattle.serde_json_path_parser.specs.Parsed.{Parsed, byte_count, front, past, past_blanks, refusal, refusal_at, with_front, ◌>>=◌}
 pub use Rattle.serde_json_path_parser.specs.Parsing.{after_dot, begins_int, is_first_digit, negative, of_kind, opens_after_root, opens_next, read_after_dot, read_bound, read_bracket, read_descendant, read_digits, read_dotted, read_index_or_slice, read_int, read_name, read_next_segment, read_next_selector, read_quoted, read_segment, read_segments, read_selector, read_selectors, read_slice, read_step, segment_list, selector_list}
 pub use Rattle.serde_json_path_parser.specs.Strings.{head, is_control, is_hexadecimal, is_high, is_inside, is_letter_escape, is_low, letter_value, read_escape, read_hex4, read_hexadecimal, read_low, read_piece, read_string, read_unicode}

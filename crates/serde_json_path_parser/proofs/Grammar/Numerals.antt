@@ -1,0 +1,111 @@
+-- Numerals of any length: what is read is one, each is read, and how one begins.
+use Rattle.serde_json_path_parser.proofs.Words.{eqb-true, ◌<◌, Err, encode_utf8, encode_ascii, ◌==◌, ◌≡◌, ℕ, Bool, true, false, List, [], ◌∷◌, ◌++◌, Ok, refl, sym, ap, ◌∙◌, inl, inr, arith, append_assoc, begins, is_digit, is_exponent, is_sign, is_at, byte_count, front, Parsed, with_front, after_first, AreDigits, AreSignedDigits, IsExponent, IsNumeral, IsPlaces, read_some_digits, read_places, read_signed_digits, read_exponent, read_numeral, ExponentOrEmptyFraction, LongHand, length, ◌≤◌}
+use Rattle.serde_json_path_parser.proofs.Reading.{whole, front_each, front_all, front_begins, past_run, some_begun, begins_where, differs, Plain, OutcomeIn, gives, choose, guarded, past_in, made, after_in, weaker}
+use Rattle.serde_json_path_parser.proofs.Grammar.Numbers.{AsText, goes_on, no_part, digits_begin, whole_text_outcome, whole_text_again, decimal_first}
+
+-- ---- what a reading gives, of a numeral that begins at start
+
+digits_outcome : (start cs : List ℕ) → OutcomeIn (AsText AreDigits) Plain start cs (read_some_digits (byte_count start) cs)
+digits_outcome start cs = guarded ExponentOrEmptyFraction LongHand refl (λ some.
+    let least : 1 ≤ length (front is_digit cs) = some_begun is_digit (front is_digit cs) (front_begins is_digit is_digit cs (λ c d. d) some) in
+    gives _ (record { text = front is_digit cs; is_so = (refl, (front_each is_digit cs, least)); split = whole is_digit cs }))
+
+-- a character that passes, and what is read after it
+first_outcome : {Is Is_whole : List ℕ → Type 0} (p : ℕ → Bool) (start cs : List ℕ) (read : List ℕ → Parsed (List ℕ)) → ((c : ℕ) (t : List ℕ) → p c ≡ true → Is t → Is_whole (c ∷ t))
+    → ((ds : List ℕ) → OutcomeIn (AsText Is) Plain start ds (read ds)) → begins p cs ≡ true → OutcomeIn (AsText Is_whole) Plain start cs (after_first read cs)
+first_outcome p start [] read good each e = absurd cc
+first_outcome p start (c ∷ cs) read good each e =
+    past_in (c ∷ []) refl (made (λ n. c ∷ n) (λ t n is. (ap (λ (l : List ℕ). c ∷ l) is.0, good c t e is.1)) (each cs))
+
+none_outcome : {Is : List ℕ → Type 0} (start cs : List ℕ) → Is [] → OutcomeIn (AsText Is) Plain start cs (Ok ([], cs))
+none_outcome start cs is = gives ([], cs) (record { text = []; is_so = (refl, is); split = refl })
+
+places_outcome : (start cs : List ℕ) → OutcomeIn (AsText IsPlaces) Plain start cs (read_places (byte_count start) cs)
+unfolding read_places
+places_outcome start cs = choose
+    (first_outcome (λ c. c == 46) start cs (read_some_digits (byte_count start)) (λ c t e is. inr (t, is, ap (λ (k : ℕ). k ∷ t) (eqb-true c 46 e))) (digits_outcome start))
+    (λ _. none_outcome start cs (inl refl))
+
+signed_outcome : (start cs : List ℕ) → OutcomeIn (AsText AreSignedDigits) Plain start cs (read_signed_digits (byte_count start) cs)
+unfolding read_signed_digits
+signed_outcome start cs = choose
+    (first_outcome is_sign start cs (read_some_digits (byte_count start)) (λ c t e is. inr (c, t, e, is, refl)) (digits_outcome start))
+    (λ _. weaker (λ t n is. (is.0, inl is.1)) (digits_outcome start cs))
+
+exponent_outcome : (start cs : List ℕ) → OutcomeIn (AsText IsExponent) Plain start cs (read_exponent (byte_count start) cs)
+unfolding read_exponent
+exponent_outcome start cs = choose
+    (first_outcome is_exponent start cs (read_signed_digits (byte_count start)) (λ c t e is. inr (c, t, e, is, refl)) (signed_outcome start))
+    (λ _. none_outcome start cs (inl refl))
+
+pub numeral_outcome : (start cs : List ℕ) → OutcomeIn (AsText IsNumeral) Plain start cs (read_numeral (byte_count start) cs)
+unfolding read_numeral
+numeral_outcome start cs = after_in (whole_text_outcome start cs) (λ w _ a.
+    after_in (made {is_made = λ t n. (n ≡ a.text ++ t) × IsPlaces t} (λ n. w.0 ++ n) (λ t n is. (cc (is.0, a.is_so.0), is.1)) (places_outcome start w.1)) (λ p _ b.
+    made (λ n. p.0 ++ n) (λ t n is. (cc (is.0, b.is_so.0, append_assoc a.text b.text t), (a.text, b.text, t, _, a.is_so.1, b.is_so.1, is.1, refl))) (exponent_outcome start p.1)))
+
+-- ---- each numeral is read
+
+digits_again : (start : ℕ) (t rest : List ℕ) → AreDigits t → begins is_digit rest ≡ false → read_some_digits start (t ++ rest) ≡ Ok (t, rest)
+digits_again start t rest is e = rw (digits_begin t rest is.1 is.0, front_all is_digit t rest is.0 e, past_run is_digit t rest is.0 e) refl
+
+places_again : (start : ℕ) (t rest : List ℕ) → IsPlaces t → begins is_digit rest ≡ false → is_at "." rest ≡ false → read_places start (t ++ rest) ≡ Ok (t, rest)
+unfolding read_places
+places_again start t rest is e none = elim is [
+  | inl empty ↦ rw (empty, none) refl
+  | inr some ↦ rw (some.2, digits_again start some.0 rest some.1 e) refl
+]
+
+signed_again : (start : ℕ) (t rest : List ℕ) → AreSignedDigits t → begins is_digit rest ≡ false → read_signed_digits start (t ++ rest) ≡ Ok (t, rest)
+unfolding read_signed_digits
+signed_again start t rest is e = elim is [
+  | inl are ↦ rw (begins_where is_digit is_sign false (t ++ rest) (λ c d. grind (arith, d)) (digits_begin t rest are.1 are.0), digits_again start t rest are e) refl
+  | inr some ↦ rw (some.4, some.2, digits_again start some.1 rest some.3 e) refl
+]
+
+exponent_again : (start : ℕ) (t rest : List ℕ) → IsExponent t → begins is_digit rest ≡ false → begins is_exponent rest ≡ false → read_exponent start (t ++ rest) ≡ Ok (t, rest)
+unfolding read_exponent
+exponent_again start t rest is e none = elim is [
+  | inl empty ↦ rw (empty, none) refl
+  | inr some ↦ rw (some.4, some.2, signed_again start some.1 rest some.3 e) refl
+]
+
+-- no digit stands after a whole number, whatever follows
+no_digit : (t rest : List ℕ) → IsPlaces t → begins is_digit rest ≡ false → begins is_digit (t ++ rest) ≡ false
+no_digit t rest is e = elim is [ inl empty ↦ rw empty e | inr some ↦ rw some.2 refl ]
+
+-- what an exponent never begins with, its text and more does not, if the rest does not
+not_before : (p : ℕ → Bool) (t rest : List ℕ) → ((c : ℕ) → is_exponent c ≡ true → p c ≡ false) → IsExponent t → begins p rest ≡ false → begins p (t ++ rest) ≡ false
+not_before p t rest h is e = elim is [ inl empty ↦ rw empty e | inr some ↦ rw some.4 (h some.0 some.2) ]
+
+-- the parts of a numeral, and what follows
+parted : {t : List ℕ} (a b c rest : List ℕ) → t ≡ a ++ (b ++ c) → t ++ rest ≡ a ++ (b ++ (c ++ rest))
+parted a b c rest e = rw e (simp append_assoc refl)
+
+pub numeral_again : (start t rest : List ℕ) → IsNumeral t → begins goes_on rest ≡ false → read_numeral (byte_count start) (t ++ rest) ≡ Ok (t, rest)
+unfolding read_numeral
+numeral_again start t rest (a, b, c, n, is_whole, are_places, is_exp, same) e =
+    let (digit, point, exponent) = no_part rest e in
+    let none = not_before is_digit c rest (λ k x. grind (arith, x)) is_exp digit in
+    let no_point = not_before (λ k. k == 46) c rest (λ k x. differs is_exponent 46 k refl x) is_exp point in
+    rw (parted a b c rest same, whole_text_again start a n (b ++ (c ++ rest)) is_whole (no_digit b (c ++ rest) are_places none), places_again (byte_count start) b (c ++ rest) are_places none no_point, exponent_again (byte_count start) c rest is_exp digit exponent)
+    (ap (λ (l : List ℕ). Ok (l, rest)) (append_assoc a b c ∙ sym same))
+
+-- ---- how a numeral begins
+
+pub numeral_first : (p : ℕ → Bool) (b : Bool) (t rest : List ℕ) → ((c : ℕ) → is_digit c ≡ true → p c ≡ b) → IsNumeral t → begins p (t ++ rest) ≡ b
+numeral_first p b t rest h (a, q, c, n, is_whole, are_places, is_exp, same) =
+    rw (parted a q c rest same) (decimal_first p b a n (q ++ (c ++ rest)) h is_whole)
+
+-- ---- as the code reads it
+
+with_both : (a b : List ℕ) (read : Parsed (List ℕ)) → with_front a (with_front b read) ≡ with_front (a ++ b) read
+with_both a b (Ok x) = ap (λ (l : List ℕ). Ok (l, x.1)) (sym (append_assoc a b x.0))
+with_both a b (Err r) = refl
+
+-- a first character that is one byte is taken into the text
+pub first_taken : (p : ℕ → Bool) (read : List ℕ → Parsed (List ℕ)) (cs ds before after : List ℕ) (c : ℕ) → ((k : ℕ) → p k ≡ true → k < 128) → begins p cs ≡ true → cs ≡ c ∷ ds
+    → after ≡ before ++ encode_utf8 c → with_front before (after_first read cs) ≡ with_front after (read ds)
+first_taken p read cs ds before after c ascii begun e pushed =
+    let passes : p c ≡ true = sym (ap (begins p) e) ∙ begun in
+    rw (e, pushed, encode_ascii c (ascii c passes)) (with_both before (c ∷ []) (read ds))
