@@ -1,7 +1,7 @@
 -- Number literals, as they are read from left to right (RFC 9535, section 2.3.5.1), on lists of
--- characters. That there is no exponent, that a fraction has one to nine digits, and the range are
--- this project's own rules. Each refusal is reported where the literal begins: `start` bytes are
--- left there.
+-- characters: as amounts, and as texts of any length. That an amount has no exponent and one to
+-- nine digits of a fraction, and its range, are this project's own rules. Each refusal is reported
+-- where the literal begins: `start` bytes are left there.
 use Rattle.std.specs.Prelude.{ℕ, ◌+◌, ◌-◌, ◌*◌, ◌^◌, min, nat_le, ℤ, pos, ◌-ℤ◌, Bool, List, [], length, codes, take, drop, Ok, Err, if◌then◌else◌}
 use Rattle.serde_json_path_parser.specs.declared.error.ParseErrorKind.TheVariants.{ExpectedExpression, ExponentOrEmptyFraction, FractionTooLong, NumberOutOfRange}
 use Rattle.serde_json_path_parser.specs.declared.error.Context.TheVariants as context

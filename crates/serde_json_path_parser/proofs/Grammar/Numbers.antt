@@ -1,5 +1,5 @@
 -- Integers and number literals: what is read is one, each is read, and where a refusal of one stands.
-use Rattle.serde_json_path_parser.proofs.Words.{nat_le, ◌==◌, ℤ, pos, negsuc, ints, largest, ExpectedSelector, IntegerOutOfRange, is_at, cases_Bool, begins, is_blank, is_digit, value_from, IsDecimal, IsInt, front, past, byte_count, is_first_digit, read_digits, negative, read_int, begins_int, ◌||◌, ◌-ℤ◌, encode_utf8, ExpectedExpression, ExponentOrEmptyFraction, FractionTooLong, NumberOutOfRange, AllPass, fraction_of, IsFraction, IsAmount, IsNumber, refusal_at, is_exponent, read_whole, read_digits_after_point, read_fraction, read_amount, greatest_amount, read_number, read_whole_text, mul-le-mul_right, mul-lt-mul_of_pos_right, le-mul_of_pos_right, one-le-pow, pow-succ', length-append, pow-add, encode_ascii, encode_utf8_all, ◌≡◌, ℕ, zero, suc, ◌+◌, ◌-◌, ◌*◌, ◌≤◌, inl, inr, Bool, true, false, List, [], ◌∷◌, ◌++◌, drop, Ok, refl, sym, ap, ◌∙◌, arith, ◌^◌, length, Err, append_assoc, ◌<◌, min, LongHand}
+use Rattle.serde_json_path_parser.proofs.Words.{nat_le, ◌==◌, ℤ, pos, negsuc, ints, largest, ExpectedSelector, IntegerOutOfRange, is_at, cases_Bool, begins, is_blank, is_digit, value_from, IsDecimal, IsInt, front, past, byte_count, is_first_digit, read_digits, negative, read_int, begins_int, ◌||◌, ◌-ℤ◌, encode_utf8, ExpectedExpression, ExponentOrEmptyFraction, FractionTooLong, NumberOutOfRange, AllPass, AreDigits, fraction_of, IsFraction, IsAmount, IsNumber, refusal_at, is_exponent, read_whole, read_digits_after_point, read_fraction, read_amount, greatest_amount, read_number, read_whole_text, mul-le-mul_right, mul-lt-mul_of_pos_right, le-mul_of_pos_right, one-le-pow, pow-succ', length-append, pow-add, encode_ascii, encode_utf8_all, ◌≡◌, ℕ, zero, suc, ◌+◌, ◌-◌, ◌*◌, ◌≤◌, inl, inr, Bool, true, false, List, [], ◌∷◌, ◌++◌, drop, Ok, refl, sym, ap, ◌∙◌, arith, ◌^◌, length, Err, append_assoc, ◌<◌, min, LongHand}
 use Rattle.serde_json_path_parser.proofs.Reading.{begins_where, differs, begins_differs, no_blank, whole, front_each, front_begins, front_begins_not, front_all, past_run, value_least, some_begun, begins_front, after_one, Plain, OutcomeIn, Outcome, gives, choose, guarded, past_in, made, refused, onward, after_in}
 use Rattle.serde_json_path_syntax.specs.WellFormed.{IsLiteralAmount}
 
@@ -111,14 +111,17 @@ whole_text_outcome start cs =
 whole_outcome : (start cs : List ℕ) → OutcomeIn IsDecimal Plain start cs (read_whole (byte_count start) cs)
 whole_outcome start cs = made (value_from 0) (λ t n is. rw is.0 is.1) (whole_text_outcome start cs)
 
+pub front_are_digits : (cs : List ℕ) → begins is_digit cs ≡ true → AreDigits (front is_digit cs)
+front_are_digits cs some = (front_each is_digit cs, some_begun is_digit (front is_digit cs) (front_begins is_digit is_digit cs (λ c d. d) some))
+
 fraction_digits_outcome : (start cs : List ℕ) → OutcomeIn (λ t n. IsFraction (46 ∷ t) n) Plain start cs (read_digits_after_point (byte_count start) cs)
 fraction_digits_outcome start cs =
     guarded ExponentOrEmptyFraction LongHand refl (λ some.
     choose (λ _. refused ExponentOrEmptyFraction LongHand refl) (λ _.
     guarded FractionTooLong LongHand refl (λ (few : nat_le (length (front is_digit cs)) 9 ≡ true).
-    let least : 1 ≤ length (front is_digit cs) = some_begun is_digit (front is_digit cs) (front_begins is_digit is_digit cs (λ c d. d) some) in
+    let are = front_are_digits cs some in
     let most : length (front is_digit cs) ≤ 9 = grind (arith, few) in
-    gives _ (record { text = front is_digit cs; is_so = inr (front is_digit cs, refl, front_each is_digit cs, least, most, refl); split = whole is_digit cs }))))
+    gives _ (record { text = front is_digit cs; is_so = inr (front is_digit cs, refl, are.0, are.1, most, refl); split = whole is_digit cs }))))
 
 fraction_outcome : (start cs : List ℕ) → OutcomeIn IsFraction Plain start cs (read_fraction (byte_count start) cs)
 unfolding read_fraction
@@ -166,9 +169,9 @@ whole_text_again start t n rest d e = elim d.plain [
 whole_again : (start t : List ℕ) (n : ℕ) (rest : List ℕ) → IsDecimal t n → begins is_digit rest ≡ false → read_whole (byte_count start) (t ++ rest) ≡ Ok (n, rest)
 whole_again start t n rest d e = rw (whole_text_again start t n rest d e) (ap (λ (k : ℕ). Ok (k, rest)) (sym d.value_of))
 
-pub digits_begin : (digits rest : List ℕ) → 1 ≤ length digits → AllPass is_digit digits → begins is_digit (digits ++ rest) ≡ true
-digits_begin [] rest some passes = absurd (omega (arith, some))
-digits_begin (c ∷ digits) rest some passes = passes.0
+pub digits_begin : (digits rest : List ℕ) → AreDigits digits → begins is_digit (digits ++ rest) ≡ true
+digits_begin [] rest are = absurd (let some = are.1 in omega (arith, some))
+digits_begin (c ∷ digits) rest are = are.0.0
 
 fraction_again : (start t : List ℕ) (n : ℕ) (rest : List ℕ) → IsFraction t n → begins goes_on rest ≡ false → read_fraction (byte_count start) (t ++ rest) ≡ Ok (n, rest)
 unfolding read_fraction
@@ -177,7 +180,7 @@ fraction_again start t n rest is e = elim is [
   | inr some ↦
       let few : nat_le (length some.0) 9 ≡ true = let most = some.4 in grind (arith, most) in
       ap (λ (l : List ℕ). read_fraction (byte_count start) (l ++ rest)) some.1
-      ∙ rw (digits_begin some.0 rest some.3 some.2, front_all is_digit some.0 rest some.2 (no_part rest e).0, past_run is_digit some.0 rest some.2 (no_part rest e).0, (no_part rest e).2, few)
+      ∙ rw (digits_begin some.0 rest (some.2, some.3), front_all is_digit some.0 rest some.2 (no_part rest e).0, past_run is_digit some.0 rest some.2 (no_part rest e).0, (no_part rest e).2, few)
       (ap (λ (k : ℕ). Ok (k, rest)) (sym some.5))
 ]
 

@@ -1,14 +1,13 @@
 -- Numerals of any length: what is read is one, each is read, and how one begins.
-use Rattle.serde_json_path_parser.proofs.Words.{eqb-true, ◌<◌, Err, encode_utf8, encode_ascii, ◌==◌, ◌≡◌, ℕ, Bool, true, false, List, [], ◌∷◌, ◌++◌, Ok, refl, sym, ap, ◌∙◌, inl, inr, arith, append_assoc, begins, is_digit, is_exponent, is_sign, is_at, byte_count, front, Parsed, with_front, after_first, AreDigits, AreSignedDigits, IsExponent, IsNumeral, IsPlaces, read_some_digits, read_places, read_signed_digits, read_exponent, read_numeral, ExponentOrEmptyFraction, LongHand, length, ◌≤◌}
-use Rattle.serde_json_path_parser.proofs.Reading.{whole, front_each, front_all, front_begins, past_run, some_begun, begins_where, differs, Plain, OutcomeIn, gives, choose, guarded, past_in, made, after_in, weaker}
-use Rattle.serde_json_path_parser.proofs.Grammar.Numbers.{AsText, goes_on, no_part, digits_begin, whole_text_outcome, whole_text_again, decimal_first}
+use Rattle.serde_json_path_parser.proofs.Words.{eqb-true, ◌<◌, Err, encode_utf8, encode_ascii, ◌==◌, ◌≡◌, ℕ, Bool, true, false, List, [], ◌∷◌, ◌++◌, Ok, refl, sym, ap, ◌∙◌, inl, inr, arith, append_assoc, begins, is_digit, is_exponent, is_sign, is_at, byte_count, front, Parsed, with_front, after_first, AreDigits, AreSignedDigits, IsExponent, IsNumeral, IsPlaces, read_some_digits, read_places, read_signed_digits, read_exponent, read_numeral, ExponentOrEmptyFraction, LongHand}
+use Rattle.serde_json_path_parser.proofs.Reading.{whole, front_all, past_run, begins_where, differs, Plain, OutcomeIn, gives, choose, guarded, past_in, made, after_in, weaker}
+use Rattle.serde_json_path_parser.proofs.Grammar.Numbers.{AsText, goes_on, no_part, front_are_digits, digits_begin, whole_text_outcome, whole_text_again, decimal_first}
 
 -- ---- what a reading gives, of a numeral that begins at start
 
 digits_outcome : (start cs : List ℕ) → OutcomeIn (AsText AreDigits) Plain start cs (read_some_digits (byte_count start) cs)
 digits_outcome start cs = guarded ExponentOrEmptyFraction LongHand refl (λ some.
-    let least : 1 ≤ length (front is_digit cs) = some_begun is_digit (front is_digit cs) (front_begins is_digit is_digit cs (λ c d. d) some) in
-    gives _ (record { text = front is_digit cs; is_so = (refl, (front_each is_digit cs, least)); split = whole is_digit cs }))
+    gives _ (record { text = front is_digit cs; is_so = (refl, front_are_digits cs some); split = whole is_digit cs }))
 
 -- a character that passes, and what is read after it
 first_outcome : {Is Is_whole : List ℕ → Type 0} (p : ℕ → Bool) (start cs : List ℕ) (read : List ℕ → Parsed (List ℕ)) → ((c : ℕ) (t : List ℕ) → p c ≡ true → Is t → Is_whole (c ∷ t))
@@ -47,7 +46,7 @@ numeral_outcome start cs = after_in (whole_text_outcome start cs) (λ w _ a.
 -- ---- each numeral is read
 
 digits_again : (start : ℕ) (t rest : List ℕ) → AreDigits t → begins is_digit rest ≡ false → read_some_digits start (t ++ rest) ≡ Ok (t, rest)
-digits_again start t rest is e = rw (digits_begin t rest is.1 is.0, front_all is_digit t rest is.0 e, past_run is_digit t rest is.0 e) refl
+digits_again start t rest is e = rw (digits_begin t rest is, front_all is_digit t rest is.0 e, past_run is_digit t rest is.0 e) refl
 
 places_again : (start : ℕ) (t rest : List ℕ) → IsPlaces t → begins is_digit rest ≡ false → is_at "." rest ≡ false → read_places start (t ++ rest) ≡ Ok (t, rest)
 unfolding read_places
@@ -59,7 +58,7 @@ places_again start t rest is e none = elim is [
 signed_again : (start : ℕ) (t rest : List ℕ) → AreSignedDigits t → begins is_digit rest ≡ false → read_signed_digits start (t ++ rest) ≡ Ok (t, rest)
 unfolding read_signed_digits
 signed_again start t rest is e = elim is [
-  | inl are ↦ rw (begins_where is_digit is_sign false (t ++ rest) (λ c d. grind (arith, d)) (digits_begin t rest are.1 are.0), digits_again start t rest are e) refl
+  | inl are ↦ rw (begins_where is_digit is_sign false (t ++ rest) (λ c d. grind (arith, d)) (digits_begin t rest are), digits_again start t rest are e) refl
   | inr some ↦ rw (some.4, some.2, digits_again start some.1 rest some.3 e) refl
 ]
 
@@ -104,8 +103,8 @@ with_both a b (Ok x) = ap (λ (l : List ℕ). Ok (l, x.1)) (sym (append_assoc a 
 with_both a b (Err r) = refl
 
 -- a first character that is one byte is taken into the text
-pub first_taken : (p : ℕ → Bool) (read : List ℕ → Parsed (List ℕ)) (cs ds before after : List ℕ) (c : ℕ) → ((k : ℕ) → p k ≡ true → k < 128) → begins p cs ≡ true → cs ≡ c ∷ ds
+pub first_taken : {cs ds after : List ℕ} {c : ℕ} (p : ℕ → Bool) (read : List ℕ → Parsed (List ℕ)) (before : List ℕ) → ((k : ℕ) → p k ≡ true → k < 128) → cs ≡ c ∷ ds → begins p cs ≡ true
     → after ≡ before ++ encode_utf8 c → with_front before (after_first read cs) ≡ with_front after (read ds)
-first_taken p read cs ds before after c ascii begun e pushed =
+first_taken {c = c} p read before ascii e begun pushed =
     let passes : p c ≡ true = sym (ap (begins p) e) ∙ begun in
-    rw (e, pushed, encode_ascii c (ascii c passes)) (with_both before (c ∷ []) (read ds))
+    rw (e, pushed, encode_ascii c (ascii c passes)) (with_both before (c ∷ []) (read _))

@@ -64,7 +64,6 @@ fn parse_whole<S: PathSource>(
 }
 
 /// Parses a point and digits, if a point is next, and appends them to a text.
-#[tactic(auto, unfolding(crate::specs::Numbers::read_places))]
 fn parse_places<S: PathSource>(
     reader: &mut Reader<'_, S>,
     text: &mut String,
@@ -100,7 +99,6 @@ fn parse_signed_digits<S: PathSource>(
 }
 
 /// Parses an exponent, if one begins here, and appends it to a text.
-#[tactic(auto, unfolding(crate::specs::Numbers::read_exponent))]
 fn parse_exponent<S: PathSource>(
     reader: &mut Reader<'_, S>,
     text: &mut String,

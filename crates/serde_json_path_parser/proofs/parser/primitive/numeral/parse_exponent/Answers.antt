@@ -1,4 +1,4 @@
-use Rattle.serde_json_path_parser.proofs.Words.{◌∙◌, refl, sym, arith, append-nil, string_bytes, left, is_exponent, read_exponent, read_signed_digits}
+use Rattle.serde_json_path_parser.proofs.Words.{◌∙◌, refl, sym, arith, append-nil, string_bytes, is_exponent, read_exponent, read_signed_digits}
 use Rattle.serde_json_path_parser.proofs.Grammar.Numerals.{first_taken}
 use Rattle.serde_json_path_parser.proofs.parser.primitive.numeral.parse_exponent.Goals as goal
 
@@ -10,5 +10,5 @@ pub returns-clause-gives : goal.returns-clause-gives
 unfolding read_exponent
 returns-clause-gives g c =
     let seen = sym c.sees_exponent.ensures ∙ c.if-not-sees_exponent.false in
-    rw (seen, first_taken is_exponent (read_signed_digits c.args.place) (left c.args.reader.now) (left c.take_char.new.self) (string_bytes c.args.text.now) (string_bytes c.push.new.self) c.take_char.result (λ k e. grind (arith, e)) seen c.take_char.ensures.value c.in_ok-push.ensures.bytes)
+    rw (seen, first_taken is_exponent (read_signed_digits c.args.place) (string_bytes c.args.text.now) (λ k e. grind (arith, e)) c.take_char.ensures.value seen c.in_ok-push.ensures.bytes)
     c.parse_signed_digits.ensures.gives
