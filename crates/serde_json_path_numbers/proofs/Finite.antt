@@ -17,7 +17,7 @@ unfolding le float_is_finite
 between x y z a b v w h k = grind (arith, nat_tests)
 
 -- the sign of what rounds does not matter
-same_finite : (s : Bool) (num den : ℕ) → float_is_finite (round binary64 s num den) ≡ float_is_finite (round binary64 false num den)
+pub same_finite : (s : Bool) (num den : ℕ) → float_is_finite (round binary64 s num den) ≡ float_is_finite (round binary64 false num den)
 unfolding float_is_finite units odd
 same_finite s num den = grind (arith, nat_tests, round_is)
 

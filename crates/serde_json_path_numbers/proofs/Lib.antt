@@ -5,12 +5,14 @@
 -- Forms: numbers by what holds them; integers keep their order.
 -- Digits: digits written from the last to the first.
 -- Finite: numbers of literals are in range, and finite.
+-- Numerals: digits, and the fewest that are read as a double.
 -- Whole: a literal of whole billions of billionths is that integer.
 -- Words: the words of definitions and lemmas, from one place.
 mod Digits
 pub mod Finite
 pub mod Floats
 pub mod Forms
+pub mod Numerals
 mod Orders
 mod Ratios
 pub mod Whole

@@ -1,10 +1,11 @@
 -- What contracts of private functions cite: what holds a number, and the order of two.
-use Rattle.std.specs.Prelude.{◌^◌, Bool, nat_lt, unsigned_abs}
+use Rattle.std.specs.Prelude.{◌≡◌, ℕ, Option, ◌^◌, Bool, nat_lt, unsigned_abs}
 use Rattle.std.specs.declared.cmp.Ordering.{Ordering}
 use Rattle.std.specs.declared.cmp.Ordering.TheVariants.{Less, Equal, Greater}
 use Rattle.std.specs.Float.{float_is_finite}
 use Rattle.std.specs.Float.Ieee.{Float}
 use Rattle.serde_json_path_numbers.specs.Numbers.{integer, AreEqualNumbers, IsLessNumber}
+use Rattle.serde_json_path_numbers.specs.Numerals.{Amount, held_or}
 use Rattle.serde_json_path_numbers.specs.declared.exact_number.Form.{Form}
 use Rattle.serde_json_path_numbers.specs.declared.exact_number.Form.TheVariants.{Integer, Double}
 
@@ -23,3 +24,7 @@ abbrev pub IsOrder : Float → Float → Ordering → Type 0
 IsOrder x y Less = IsLessNumber x y
 IsOrder x y Equal = AreEqualNumbers x y
 IsOrder x y Greater = IsLessNumber y x
+
+-- the two are held alike, whatever comes next
+abbrev pub AreHeldAlike : Option ℕ → Option ℕ → Type 0
+AreHeldAlike a b = (negative : Bool) (other : Option Amount) → held_or negative a other ≡ held_or negative b other

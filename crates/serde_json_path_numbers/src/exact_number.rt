@@ -24,9 +24,11 @@ pub struct ExactNumber {
 }
 
 impl ExactNumber {
+    ghost use Rattle.std.specs.Prelude.{pos};
+    ghost use Rattle.std.specs.Float.{float_is_finite};
     ghost use Rattle.std.specs.Float.Ieee.{eq, lt};
     ghost use Rattle.serde_json.specs.View.{number_view};
-    ghost use Rattle.serde_json_path_numbers.specs.Numbers.{document_number, literal_number, IsInLiteralRange};
+    ghost use Rattle.serde_json_path_numbers.specs.Numbers.{document_number, integer, literal_number, IsInLiteralRange};
     ghost use Rattle.serde_json_path_numbers.specs.Numbers as numbers;
     ghost use Rattle.serde_json_path_numbers.specs.Views.{exact_view};
 
@@ -40,6 +42,23 @@ impl ExactNumber {
             (None, Some(n)) => Form::Integer(n as i128),
             (None, None) => Form::Double(number.as_f64().unwrap()),
         };
+        ExactNumber { form }
+    }
+
+    /// A whole number.
+    pub(crate) fn of_whole(whole: u64) -> ExactNumber
+        ensures { exact_view result ≡ integer (pos whole) }
+    {
+        let form = Form::Integer(whole as i128);
+        ExactNumber { form }
+    }
+
+    /// A finite double.
+    pub(crate) fn of_double(double: f64) -> ExactNumber
+        requires { float_is_finite double ≡ true }
+        ensures { exact_view result ≡ double }
+    {
+        let form = Form::Double(double);
         ExactNumber { form }
     }
 

@@ -15,15 +15,19 @@
 #![tactic(auto)]
 
 mod comparison;
+mod decimal;
 mod exact_number;
 mod laws;
 mod literal;
+mod numeral;
 #[cfg(test)]
 mod tests;
 
+pub use decimal::Decimal;
 pub use exact_number::ExactNumber;
 pub use laws::{
     law_equality_of_numbers, law_integers_keep_their_order, law_numbers_are_finite,
     law_order_of_numbers,
 };
 pub use literal::literal_double;
+pub use numeral::{Amount, numeral_amount};

@@ -1,0 +1,74 @@
+-- Doubles as decimals of few digits, and their texts.
+use Rattle.std.specs.Prelude.{ℕ, zero, suc, ◌+◌, ◌*◌, ◌/◌, ◌%◌, ◌^◌, ◌==◌, ◌&&◌, nat_le, nat_lt, ℤ, pos, negsuc, ◌+ℤ◌, unsigned_abs, Bool, true, false, List, [], ◌++◌, codes, Option, Some, None, if◌then◌else◌, to_bits}
+use Rattle.std.specs.Option.{option_or}
+use Rattle.std.specs.Float.Ieee.{Float, binary64}
+use Rattle.std.specs.Fmt.{decimal, signed_decimal, sign_text}
+use Rattle.fast_float.specs.Rounding.{nearest_to_decimal}
+
+-- digits * 10 ^ exponent, with a sign
+pub record Decimal : Type 0 where
+  pub negative : Bool
+  pub digits : ℕ
+  pub exponent : ℤ
+
+-- a decimal of these parts
+abbrev pub decimal_of : Bool → ℕ → ℤ → Decimal
+decimal_of negative digits exponent =
+    record { negative = negative; digits = digits; exponent = exponent }
+
+-- the double nearest to it
+abbrev pub decimal_number : Decimal → Float
+decimal_number d = nearest_to_decimal binary64 d.negative d.digits d.exponent
+
+-- ---- the shortest decimal
+
+-- the double nearest to digits * 10 ^ exponent is x; there is none that differs from 0 beyond 10 ^ 1000 and its inverse
+abbrev pub reads_as : Float → ℕ → ℤ → Bool
+reads_as x digits exponent =
+    nat_le (unsigned_abs exponent) 1000
+    && to_bits binary64 (nearest_to_decimal binary64 false digits exponent) == to_bits binary64 x
+
+-- one more of the last digit; 10 is a 1 before it
+abbrev pub raised : ℕ → ℤ → ℕ × ℤ
+raised digits exponent =
+    if digits == 9 then (1, exponent +ℤ pos 1) else (digits + 1, exponent)
+
+-- some digits, or else these digits raised, if they are read as x
+abbrev pub found_at : Float → ℕ → ℤ → Option (ℕ × ℤ)
+found_at x digits exponent =
+    if digits == 0 then None
+    else if reads_as x digits exponent then Some (digits, exponent)
+    else if reads_as x (raised digits exponent).0 (raised digits exponent).1 then
+    Some (raised digits exponent)
+    else None
+
+-- The first digits of n * 10 ^ exponent, as few as are read as x, cut there or else raised; the last k are not tried yet.
+-- Eighteen are enough for any double, which is well known, and not shown here.
+abbrev pub fewest : Float → ℕ → ℤ → ℕ → Option (ℕ × ℤ)
+fewest x n exponent zero = None
+fewest x n exponent (suc k) =
+    let cut = n / 10 ^ k in
+    if nat_le (10 ^ 18) cut then None
+    else option_or (found_at x cut (exponent +ℤ pos k)) (fewest x n exponent k)
+
+-- ---- texts (RFC 9535, section 2.3.5.1)
+
+-- so many digits, the first of which may be zeros
+abbrev pub place_digits : ℕ → ℕ → List ℕ
+place_digits zero n = []
+place_digits (suc k) n = decimal (n / 10 ^ k) ++ place_digits k (n % 10 ^ k)
+
+-- with a point, where that is no longer than with an exponent
+abbrev pub has_point : ℕ → ℤ → Bool
+has_point digits (pos e) = false
+has_point digits (negsuc k) = nat_le 9 k && nat_le (10 ^ suc k) (digits * 1000)
+
+abbrev pub size_text : ℕ → ℤ → List ℕ
+size_text digits exponent =
+    if has_point digits exponent then
+    (decimal (digits / 10 ^ unsigned_abs exponent)
+    ++ (codes "." ++ place_digits (unsigned_abs exponent) (digits % 10 ^ unsigned_abs exponent)))
+    else (decimal digits ++ (codes "e" ++ signed_decimal exponent))
+
+abbrev pub decimal_text : Decimal → List ℕ
+decimal_text d = sign_text d.negative ++ size_text d.digits d.exponent
