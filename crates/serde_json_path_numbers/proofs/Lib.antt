@@ -7,6 +7,7 @@
 -- Finite: numbers of literals are in range, and finite.
 -- Numerals: digits, and the fewest that are read as a double.
 -- Whole: a literal of whole billions of billionths is that integer.
+-- Places: the places after the point of a decimal.
 -- Words: the words of definitions and lemmas, from one place.
 mod Digits
 pub mod Finite
@@ -14,6 +15,7 @@ pub mod Floats
 pub mod Forms
 pub mod Numerals
 mod Orders
+mod Places
 mod Ratios
 pub mod Whole
 mod Words

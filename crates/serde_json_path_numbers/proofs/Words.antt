@@ -5,7 +5,7 @@ pub use Rattle.serde_json_path_numbers.specs.Inside.{IsOrder, held_number, is_ex
 pub use Rattle.serde_json_path_numbers.specs.Laws.{EqualityIsEquivalence, IntegersKeepTheirOrder, IsExactlyOne, IsFinite, LessIsStrictOrder, NumbersAreFinite}
 pub use Rattle.serde_json_path_numbers.specs.Numbers.{AreEqualNumbers, IsInLiteralRange, IsLessNumber, integer, literal_double, literal_number}
 pub use Rattle.serde_json_path_numbers.specs.declared.exact_number.Form.TheVariants.{Double, Integer}
-pub use Rattle.std.proofs.Common.{Bool, Equal, Greater, Less, List, Ordering, T, [], add_comm, ap, append-nil, arith, div-add-mod', div-le_self, div-lt_iff_lt-mul, div-mul-le_self, div-one, drop, drop-cons, drop-set-lt, eq-eqb, eq-zero-or-pos, eqb-true, eqb→eq, false, get_or-set_same, inl, inr, is_eq, is_gt, is_lt, le-div_iff_mul-le, le-ltb, length, length-append, length-set, lit<, lt-ltb, ltb-false, ltb-true, min, mod-lt, mul-one, mul_assoc, nat_cmp, ne_eqb, of_z, pos_of_ne-zero, pow-add, pow-suc, refl, shl_lt, subst, suc, suc-mul, sym, to_z, to_z-of_z, true, true≢false, zero-le, ℕ, ◌%◌, ◌*◌, ◌++◌, ◌+◌, ◌-◌, ◌/◌, ◌<◌, ◌^◌, ◌∙◌, ◌∷◌, ◌≡◌, ◌≤◌, ◌⊎◌}
+pub use Rattle.std.proofs.Common.{Bool, Equal, Greater, Less, List, Ordering, T, [], add_comm, ap, append-nil, arith, div-add-mod', div-le_self, div-lt_iff_lt-mul, div-mul-le_self, div-one, drop, drop-cons, drop-set-lt, eq-eqb, eq-zero-or-pos, eqb-true, eqb→eq, false, get_or-set_same, inl, inr, is_eq, is_gt, is_lt, le-div_iff_mul-le, le-ltb, length, length-append, length-set, lit<, lt-ltb, ltb-false, ltb-true, min, mod-lt, mul-one, mul_assoc, nat_cmp, ne_eqb, of_z, pos_of_ne-zero, pow-add, pow-suc, refl, shl_lt, subst, suc, suc-mul, sym, to_z, to_z-of_z, true, true≢false, zero, zero-le, ℕ, ◌%◌, ◌*◌, ◌++◌, ◌+◌, ◌-◌, ◌/◌, ◌<◌, ◌^◌, ◌∙◌, ◌∷◌, ◌≡◌, ◌≤◌, ◌⊎◌}
 pub use Rattle.std.proofs.lemmas.Bool.Decides.{nat_tests}
 pub use Rattle.std.proofs.lemmas.Float.{T_from_false, T_from_true, eq-not_lt, eq_flip, eq_trans, le_of_eq, le_of_not-lt, lt-or-eq, lt_irrefl, lt_of_le_of_lt, lt_of_lt_of_le, lt_of_not-le, lt_trans}
 pub use Rattle.std.proofs.lemmas.Int.{ints}

@@ -6,6 +6,7 @@ use Rattle.serde_json_path_syntax.specs.Tree.{QueryKind, root, current, SegmentK
 use Rattle.serde_json_path_syntax.specs.Tree as tree
 use Rattle.serde_json_path_syntax.specs.SliceView.{slice_view}
 use Rattle.serde_json_path_syntax.specs.Literals.{number_amount, operator_view}
+use Rattle.serde_json_path_numbers.specs.Views.{decimal_view}
 use Rattle.serde_json_path_functions.specs.Functions.{Signature}
 use Rattle.serde_json_path_functions.specs.Terms.{signature_view}
 use Rattle.serde_json_path_syntax.specs.PartBounds.{parts_bound}
@@ -21,7 +22,7 @@ use Rattle.serde_json_path_syntax.specs.declared.node.Basic.TheVariants.{Paren, 
 use Rattle.serde_json_path_syntax.specs.declared.node.Operand as operands
 use Rattle.serde_json_path_syntax.specs.declared.node.Operand.TheVariants as one_operand
 use Rattle.serde_json_path_syntax.specs.declared.literal.LiteralValue as held
-use Rattle.serde_json_path_syntax.specs.declared.literal.LiteralValue.TheVariants.{Value, Number}
+use Rattle.serde_json_path_syntax.specs.declared.literal.LiteralValue.TheVariants.{Value, Number, Decimal}
 use Rattle.serde_json_path_syntax.specs.declared.node.Part.{Part}
 use Rattle.serde_json_path_syntax.specs.declared.node.QueryKind as kind
 use Rattle.serde_json_path_syntax.specs.declared.node.QueryKind.TheVariants.{Root, Current}
@@ -154,6 +155,7 @@ literal_of _ = null
 abbrev pub held_view : held.LiteralValue → Literal
 held_view (Value v) = literal_of (view v)
 held_view (Number n) = tree.number (number_amount n)
+held_view (Decimal d) = tree.decimal (decimal_view d.decimal)
 
 abbrev pub operand_of : List Branch → operands.Operand → Operand
 operand_of earlier (one_operand.Literal l) = literal (held_view l)

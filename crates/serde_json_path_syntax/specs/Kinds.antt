@@ -15,7 +15,7 @@ use Rattle.serde_json_path_syntax.specs.declared.node.Basic.TheVariants.{Paren, 
 use Rattle.serde_json_path_syntax.specs.declared.node.Operand as operands
 use Rattle.serde_json_path_syntax.specs.declared.node.Operand.TheVariants as one_operand
 use Rattle.serde_json_path_syntax.specs.declared.literal.LiteralValue.{LiteralValue}
-use Rattle.serde_json_path_syntax.specs.declared.literal.LiteralValue.TheVariants.{Value, Number}
+use Rattle.serde_json_path_syntax.specs.declared.literal.LiteralValue.TheVariants.{Value, Number, Decimal}
 use Rattle.serde_json_path_syntax.specs.declared.node.Part.{Part}
 use Rattle.serde_json_path_syntax.specs.declared.selector_ref.SelectorRef.{SelectorRef}
 use Rattle.serde_json_path_syntax.specs.declared.selector_ref.SelectorRef.TheVariants as selector_ref
@@ -124,6 +124,7 @@ is_written _ = false
 abbrev pub literal_fits : LiteralValue → Bool
 literal_fits (Value v) = is_written (view v)
 literal_fits (Number n) = true
+literal_fits (Decimal d) = true
 
 abbrev pub operand_fits : List Branch → operands.Operand → Bool
 operand_fits earlier (one_operand.Literal l) = literal_fits l

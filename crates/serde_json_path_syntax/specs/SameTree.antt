@@ -1,11 +1,12 @@
 -- Whether two trees are the same, as a computed test.
-use Rattle.std.specs.Prelude.{Bool, true, false, ◌&&◌}
+use Rattle.std.specs.Prelude.{Bool, true, false, ◌&&◌, nat_eq}
 use Rattle.std.proofs.Math.Bool.{beq}
 use Rattle.std.specs.Option.{option_eq}
 use Rattle.std.specs.Ordering.{int_eq}
 use Rattle.std.specs.Str.{bytes_eq}
+use Rattle.serde_json_path_numbers.specs.Decimals.{Decimal}
 use Rattle.serde_json_path_syntax.specs.Branch.{Branch, a_query, a_segment, a_selector, an_or, an_and, a_basic, an_operand, a_call}
-use Rattle.serde_json_path_syntax.specs.Tree.{QueryKind, root, current, SegmentKind, child, descendant, Slice, Operator, equal, not_equal, less, less_or_equal, greater, greater_or_equal, Literal, text, number, truth, null, Query, query, Segments, no_segments, segment, Segment, dot_name, dot_wildcard, long_hand, Selectors, no_selectors, selector, Selector, name, wildcard, index, slice, filter, LogicalOr, no_or, or, LogicalAnd, no_and, and, Basic, paren, relation, test, Operand, literal, queried, called, Call, call, Arguments, no_arguments, argument, Argument, operand, logical_argument}
+use Rattle.serde_json_path_syntax.specs.Tree.{QueryKind, root, current, SegmentKind, child, descendant, Slice, Operator, equal, not_equal, less, less_or_equal, greater, greater_or_equal, Literal, text, number, decimal, truth, null, Query, query, Segments, no_segments, segment, Segment, dot_name, dot_wildcard, long_hand, Selectors, no_selectors, selector, Selector, name, wildcard, index, slice, filter, LogicalOr, no_or, or, LogicalAnd, no_and, and, Basic, paren, relation, test, Operand, literal, queried, called, Call, call, Arguments, no_arguments, argument, Argument, operand, logical_argument}
 
 abbrev pub same_query_kind : QueryKind → QueryKind → Bool
 same_query_kind root root = true
@@ -29,9 +30,13 @@ same_operator greater greater = true
 same_operator greater_or_equal greater_or_equal = true
 same_operator _ _ = false
 
+abbrev pub same_decimal : Decimal → Decimal → Bool
+same_decimal a b = beq a.negative b.negative && (nat_eq a.digits b.digits && int_eq a.exponent b.exponent)
+
 abbrev pub same_literal : Literal → Literal → Bool
 same_literal (text a) (text b) = bytes_eq a b
 same_literal (number a) (number b) = int_eq a b
+same_literal (decimal a) (decimal b) = same_decimal a b
 same_literal (truth a) (truth b) = beq a b
 same_literal null null = true
 same_literal _ _ = false

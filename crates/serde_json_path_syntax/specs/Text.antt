@@ -3,7 +3,9 @@ use Rattle.std.specs.Prelude.{ℕ, zero, suc, ◌*◌, ◌/◌, ◌%◌, ◌==�
 use Rattle.std.specs.List.{flat_map}
 use Rattle.std.specs.Fmt.{decimal, signed_decimal}
 use Rattle.serde_json_path_nodes.specs.Text.{quoted}
+use Rattle.serde_json_path_numbers.specs.Decimals.{decimal_text}
 use Rattle.serde_json_path_syntax.specs.Branch.{Branch, a_query, a_segment, a_selector, an_or, an_and, a_basic, an_operand, a_call}
+use Rattle.serde_json_path_syntax.specs.Tree as tree
 use Rattle.serde_json_path_syntax.specs.Tree.{Query, query, QueryKind, root, current, Segments, no_segments, segment, SegmentKind, child, descendant, Segment, dot_name, dot_wildcard, long_hand, Selectors, no_selectors, selector, Selector, name, wildcard, index, slice, filter, Slice, LogicalOr, no_or, or, LogicalAnd, no_and, and, Basic, paren, relation, test, Operand, literal, queried, called, Call, call, Arguments, no_arguments, argument, Argument, operand, logical_argument, Operator, equal, not_equal, less, less_or_equal, greater, greater_or_equal, Literal, text, number, truth, null}
 
 -- the digits of a fraction in billionths, up to the last that is not 0; a fraction has no more than nine
@@ -27,6 +29,7 @@ number_text (negsuc n) = codes "-" ++ amount_text (suc n)
 abbrev pub literal_text : Literal → List ℕ
 literal_text (text t) = quoted t
 literal_text (number amount) = number_text amount
+literal_text (tree.decimal d) = decimal_text d
 literal_text (truth true) = codes "true"
 literal_text (truth false) = codes "false"
 literal_text null = codes "null"

@@ -1,5 +1,6 @@
 -- Syntax trees (RFC 9535, sections 2.1 to 2.5). Names and texts are the bytes of their UTF-8.
 use Rattle.std.specs.Prelude.{ℕ, ℤ, pos, ◌-ℤ◌, ◌≤ℤ◌, List, Bool, Option}
+use Rattle.serde_json_path_numbers.specs.Decimals.{Decimal}
 
 -- where a query begins: `$` or `@`
 pub data QueryKind : Type 0 where
@@ -34,10 +35,11 @@ pub data Operator : Type 0 where
   greater : Operator
   greater_or_equal : Operator
 
--- a number is a whole number of billionths: 1.5 is 1500000000
+-- a number is a whole number of billionths: 1.5 is 1500000000; by all numbers one that is not is the double nearest to it
 pub data Literal : Type 0 where
   text : List ℕ → Literal
   number : ℤ → Literal
+  decimal : Decimal → Literal
   truth : Bool → Literal
   null : Literal
 

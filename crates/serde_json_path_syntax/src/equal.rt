@@ -229,6 +229,9 @@ fn same_literal(literal: &LiteralValue, other: &LiteralValue) -> bool
         (LiteralValue::Number(number), LiteralValue::Number(other)) => {
             number.billionths() == other.billionths()
         }
+        (LiteralValue::Decimal(held), LiteralValue::Decimal(other)) => {
+            held.decimal == other.decimal
+        }
         (LiteralValue::Value(value), LiteralValue::Value(other)) => match (value, other) {
             (Value::String(text), Value::String(other)) => text == other,
             (Value::Bool(truth), Value::Bool(other)) => truth == other,

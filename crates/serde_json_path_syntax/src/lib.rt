@@ -33,7 +33,7 @@ mod slice;
 pub use argument_ref::ArgumentRef;
 pub use builder::SyntaxBuilder;
 pub use checked::Checked;
-pub use literal::{Literal, LiteralValue, NumberLiteral};
+pub use literal::{HeldDecimal, Literal, LiteralValue, NumberLiteral};
 pub use node::{Basic, Node, Operand, Part, QueryKind, Segment, SegmentKind, Selector};
 pub use operator::ComparisonOperator;
 pub use parts::Parts;

@@ -1,11 +1,15 @@
 //! Literals of filters (RFC 9535, section 2.3.5.1).
 
-ghost use Rattle.std.specs.Prelude.{◌≡◌};
+ghost use Rattle.std.specs.Prelude.{◌≡◌, Some};
+ghost use Rattle.serde_json.specs.Data.{float, number};
+ghost use Rattle.serde_json.specs.View.{view};
+ghost use Rattle.serde_json_path_numbers.specs.Decimals.{decimal_number};
 ghost use Rattle.serde_json_path_numbers.specs.Numbers.{literal_double};
-ghost use Rattle.serde_json_path_syntax.specs.WellFormed.{IsLiteralAmount};
+ghost use Rattle.serde_json_path_numbers.specs.Views.{decimal_view};
+ghost use Rattle.serde_json_path_syntax.specs.WellFormed.{IsLiteralAmount, double_in};
 
 use serde_json::Value;
-use serde_json_path_numbers::{ExactNumber, literal_double};
+use serde_json_path_numbers::{Decimal, ExactNumber, literal_double};
 use std::alloc::AllocError;
 
 /// One, in billionths.
@@ -30,7 +34,7 @@ pub struct NumberLiteral {
 
 impl NumberLiteral {
     ghost use Rattle.std.specs.Prelude.{◌↔◌, IsSome, IfSome};
-    ghost use Rattle.serde_json_path_syntax.specs.Words.{number, view, literal_held, literal_number, exact_view, number_amount, whole_amount};
+    ghost use Rattle.serde_json_path_syntax.specs.Words.{literal_held, literal_number, exact_view, number_amount, whole_amount};
 
     /// The number of that many billionths, or `None` if it is out of range.
     pub fn from_billionths(billionths: i128) -> Option<NumberLiteral>
@@ -98,6 +102,8 @@ pub enum Literal {
     String(String),
     /// A number.
     Number(NumberLiteral),
+    /// A number that is no whole number of billionths in range, as the double nearest to it (by all numbers alone).
+    Decimal(Decimal),
     /// A truth value.
     Bool(bool),
     /// The value `null`.
@@ -116,9 +122,37 @@ impl Literal {
         match self {
             Literal::String(text) => LiteralValue::Value(Value::String(text)),
             Literal::Number(number) => LiteralValue::Number(number),
+            Literal::Decimal(decimal) => LiteralValue::Decimal(HeldDecimal::new(decimal)),
             Literal::Bool(truth) => LiteralValue::Value(Value::Bool(truth)),
             Literal::Null => LiteralValue::Value(Value::Null),
         }
+    }
+}
+
+/// A decimal as a tree holds it: with the value that a document would hold for its double.
+#[derive(Drop)]
+pub struct HeldDecimal {
+    pub(crate) decimal: Decimal,
+    value: Value,
+    ghost same: { double_in (view value) ≡ Some (decimal_number (decimal_view decimal)) },
+}
+
+impl HeldDecimal {
+    /// The decimal with its value.
+    pub(crate) fn new(decimal: Decimal) -> HeldDecimal
+        ensures { result.decimal ≡ decimal }
+    {
+        let value = Value::from(decimal.double());
+        HeldDecimal { decimal, value }
+    }
+
+    /// The double nearest to the literal, as a document would hold it.
+    #[inline]
+    pub fn value(&self) -> &Value
+        ensures { view result.now
+            ≡ number (float (decimal_number (decimal_view self.now.decimal))) }
+    {
+        &self.value
     }
 }
 
@@ -129,6 +163,8 @@ pub enum LiteralValue {
     Value(Value),
     /// A number.
     Number(NumberLiteral),
+    /// A number as the double nearest to it.
+    Decimal(HeldDecimal),
 }
 
 impl LiteralValue {
@@ -143,6 +179,9 @@ impl LiteralValue {
         match self {
             LiteralValue::Value(value) => Ok(LiteralValue::Value(value.clone()?)),
             LiteralValue::Number(number) => Ok(LiteralValue::Number(*number)),
+            LiteralValue::Decimal(held) => {
+                Ok(LiteralValue::Decimal(HeldDecimal::new(held.decimal)))
+            }
         }
     }
 }

@@ -7,11 +7,12 @@ use Rattle.std.specs.Option.{option_eq}
 use Rattle.std.specs.Ordering.{int_eq}
 use Rattle.std.proofs.Common.{◌∙◌, ap, sym}
 use Rattle.std.proofs.lemmas.Cmp.{on_equiv}
-use Rattle.std.proofs.lemmas.Bool.Decides.{Decides-and, Decides-like, same_from_decides}
-use Rattle.serde_json_path_syntax.specs.Tree.{QueryKind, root, current, SegmentKind, child, descendant, Slice, Operator, equal, not_equal, less, less_or_equal, greater, greater_or_equal, Literal, text, number, truth, null, Query, query, Segments, no_segments, segment, Segment, dot_name, dot_wildcard, long_hand, Selectors, no_selectors, selector, Selector, name, wildcard, index, slice, filter, LogicalOr, no_or, or, LogicalAnd, no_and, and, Basic, paren, relation, test, Operand, literal, queried, called, Call, call, Arguments, no_arguments, argument, Argument, operand, logical_argument}
+use Rattle.std.proofs.lemmas.Bool.Decides.{Decides-and, Decides-eqb, Decides-like, same_from_decides}
+use Rattle.serde_json_path_numbers.specs.Decimals.{Decimal, decimal_of}
+use Rattle.serde_json_path_syntax.specs.Tree.{QueryKind, root, current, SegmentKind, child, descendant, Slice, Operator, equal, not_equal, less, less_or_equal, greater, greater_or_equal, Literal, text, number, decimal, truth, null, Query, query, Segments, no_segments, segment, Segment, dot_name, dot_wildcard, long_hand, Selectors, no_selectors, selector, Selector, name, wildcard, index, slice, filter, LogicalOr, no_or, or, LogicalAnd, no_and, and, Basic, paren, relation, test, Operand, literal, queried, called, Call, call, Arguments, no_arguments, argument, Argument, operand, logical_argument}
 use Rattle.serde_json_path_syntax.specs.Parts.{tree_of}
 use Rattle.serde_json_path_syntax.specs.declared.checked.Checked.{Checked}
-use Rattle.serde_json_path_syntax.specs.SameTree.{same_query_kind, same_segment_kind, same_slice, same_operator, same_literal, same_query, same_segments, same_segment, same_selectors, same_selector, same_or, same_and, same_basic, same_operand, same_call, same_arguments, same_argument}
+use Rattle.serde_json_path_syntax.specs.SameTree.{same_query_kind, same_segment_kind, same_slice, same_operator, same_decimal, same_literal, same_query, same_segments, same_segment, same_selectors, same_selector, same_or, same_and, same_basic, same_operand, same_call, same_arguments, same_argument}
 
 -- ---- what has no parts of its own
 
@@ -50,9 +51,19 @@ Decides-same_slice a b =
     (λ e. ((ap (λ (s : Slice). s.start) e, ap (λ (s : Slice). s.end) e), ap (λ (s : Slice). s.step) e))
     (Decides-and _ _ (Decides-and _ _ (Decides-same_integer a.start b.start) (Decides-same_integer a.end b.end)) (Decides-same_integer a.step b.step))
 
+same_fields : (a b : Decimal) → a.negative ≡ b.negative → a.digits ≡ b.digits → a.exponent ≡ b.exponent → a ≡ b
+same_fields a b negative digits exponent = ap (λ s. decimal_of s a.digits a.exponent) negative ∙ ap (λ n. decimal_of b.negative n a.exponent) digits ∙ ap (λ e. decimal_of b.negative b.digits e) exponent
+
+Decides-same_decimal : (a b : Decimal) → Decides (same_decimal a b) (a ≡ b)
+Decides-same_decimal a b =
+    Decides-like (same_decimal a b) (λ h. same_fields a b h.0 h.1.0 h.1.1)
+    (λ e. (ap (λ (d : Decimal). d.negative) e, (ap (λ (d : Decimal). d.digits) e, ap (λ (d : Decimal). d.exponent) e)))
+    (Decides-and _ _ (booleans_Decides a.negative b.negative) (Decides-and _ _ (Decides-eqb a.digits b.digits) (signed_Decides a.exponent b.exponent)))
+
 Decides-same_literal : (a b : Literal) → Decides (same_literal a b) (a ≡ b)
 Decides-same_literal (text a) (text b) = Decides-like _ (ap text) (λ e. cc) (bytes_decides a b)
 Decides-same_literal (number a) (number b) = Decides-like _ (ap number) (λ e. cc) (signed_Decides a b)
+Decides-same_literal (decimal a) (decimal b) = Decides-like _ (ap decimal) (λ e. cc) (Decides-same_decimal a b)
 Decides-same_literal (truth a) (truth b) = Decides-like _ (ap truth) (λ e. cc) (booleans_Decides a b)
 Decides-same_literal null null = (λ h. refl, λ e. refl)
 Decides-same_literal _ _ = (λ h. cc, λ e. cc)

@@ -65,6 +65,7 @@ impl fmt::Display for Literal {
         match self {
             Literal::String(text) => write!(f, "{}", Quoted(text.as_str())),
             Literal::Number(number) => write!(f, "{number}"),
+            Literal::Decimal(decimal) => write!(f, "{decimal}"),
             Literal::Bool(true) => f.write_str("true"),
             Literal::Bool(false) => f.write_str("false"),
             Literal::Null => f.write_str("null"),
@@ -80,6 +81,7 @@ pub(crate) fn write_literal<W: Write>(f: &mut Formatter<W>, literal: &LiteralVal
 {
     match literal {
         LiteralValue::Number(number) => write!(f, "{number}"),
+        LiteralValue::Decimal(held) => write!(f, "{}", held.decimal),
         LiteralValue::Value(Value::String(text)) => write!(f, "{}", Quoted(text.as_str())),
         LiteralValue::Value(Value::Bool(true)) => f.write_str("true"),
         LiteralValue::Value(Value::Bool(false)) => f.write_str("false"),

@@ -1,0 +1,12 @@
+use Rattle.serde_json_path_syntax.proofs.Words.{◌≡◌, Some, ap, same_Some}
+use Rattle.std.specs.Float.Ieee.{Float}
+use Rattle.serde_json.specs.Data.{Data, number, float}
+use Rattle.serde_json_path_syntax.specs.WellFormed.{double_in}
+use Rattle.serde_json_path_syntax.proofs.literal.HeldDecimal.value.Goals as goal
+
+double_is : (v : Data) (x : Float) → double_in v ≡ Some x → v ≡ number (float x)
+double_is (number (float y)) x e = ap (λ z. number (float z)) (same_Some y x e)
+double_is _ x e = absurd cc
+
+pub returns : goal.returns
+returns c = double_is _ _ c.args.self.now.same
