@@ -5,7 +5,7 @@ use Rattle.std.specs.Str.Parse.{digits_value, digits_value_after, AllDigits}
 use Rattle.std.proofs.lemmas.Float.Parse.{scan_numeral-text_of}
 use Rattle.fast_float.specs.Text.{Parts, scan, nearest}
 
-digit_is : (d : ℕ) → d < 10 → digit_value (48 + d) ≡ d
+pub digit_is : (d : ℕ) → d < 10 → digit_value (48 + d) ≡ d
 digit_is d h = rw (le-ltb (48 + d) 48 (omega arith), lt-ltb (48 + d) 58 (omega arith)) (omega arith)
 
 -- digits after a number move it up

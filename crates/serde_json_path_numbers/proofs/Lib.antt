@@ -5,7 +5,9 @@
 -- Forms: numbers by what holds them; integers keep their order.
 -- Digits: digits written from the last to the first.
 -- Finite: numbers of literals are in range, and finite.
+-- Found: what the search for the fewest digits has found is found again.
 -- Numerals: digits, and the fewest that are read as a double.
+-- ReadBack: the text of a decimal is read as that decimal.
 -- Whole: a literal of whole billions of billionths is that integer.
 -- Places: the places after the point of a decimal.
 -- Words: the words of definitions and lemmas, from one place.
@@ -14,6 +16,8 @@ pub mod Finite
 pub mod Floats
 pub mod Forms
 pub mod Numerals
+pub mod ReadBack
+pub mod Found
 mod Orders
 mod Places
 mod Ratios

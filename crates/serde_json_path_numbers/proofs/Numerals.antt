@@ -1,5 +1,5 @@
 -- Digits of numerals, and the fewest that are read as a double.
-use Rattle.serde_json_path_numbers.proofs.Words.{◌≡◌, ℕ, suc, ◌+◌, ◌-◌, ◌*◌, ◌/◌, ◌%◌, ◌^◌, ◌<◌, ◌≤◌, min, Bool, true, false, List, [], ◌∷◌, ◌++◌, length, drop, T, refl, sym, ap, ◌∙◌, arith, nat_tests, Some, None, ℤ, pos, negsuc, int_lt, unsigned_abs, nat_eq, nat_lt}
+use Rattle.serde_json_path_numbers.proofs.Words.{◌≡◌, ℕ, suc, ◌+◌, ◌-◌, ◌*◌, ◌/◌, ◌^◌, ◌<◌, ◌≤◌, min, Bool, true, false, List, [], ◌∷◌, ◌++◌, length, drop, T, refl, sym, ap, ◌∙◌, arith, nat_tests, Some, None, ℤ, pos, negsuc}
 use Rattle.serde_json_path_numbers.specs.Inside.{AreHeldAlike}
 use Rattle.std.proofs.Common.{Option}
 use Rattle.std.proofs.Common.{take, get_or, slice_index, lit<, length-drop}
@@ -18,7 +18,7 @@ use Rattle.serde_json_path_numbers.specs.Decimals.{fewest, found_at, reads_as}
 use Rattle.core.proofs.dec2flt.DigitsLemmas.{digits_value-append}
 use Rattle.core.proofs.dec2flt.Rows.{AllDigits-append, AllDigits-drop}
 use Rattle.std.specs.Option.{option_or}
-use Rattle.std.specs.Prelude.{to_bits, nat_le, ◌==◌, ◌+ℤ◌, if◌then◌else◌}
+use Rattle.std.specs.Prelude.{to_bits, nat_le, ◌+ℤ◌, if◌then◌else◌}
 use Rattle.std.proofs.lemmas.Str.Parse.{numerals_by_value, tells_digits, digits_value_short}
 use Rattle.std.specs.Str.Parse.{digits_value, AllDigits}
 
@@ -83,6 +83,9 @@ module _ (ds : List ℕ) (h : AllDigits 10 ds) (at cut digit : ℕ) (within : at
 
 pub too_many : (cut : ℕ) {A : Type 0} (a : Option A) → 10 ^ 18 ≤ cut → (if nat_le (10 ^ 18) cut then None else a) ≡ None
 too_many cut a many = grind (arith, nat_tests)
+
+pub few_enough : (cut : ℕ) {A : Type 0} (a : Option A) → cut < 10 ^ 18 → (if nat_le (10 ^ 18) cut then None else a) ≡ a
+few_enough cut a few = grind (arith, nat_tests)
 
 pub here : (cut : ℕ) {A : Type 0} {o : Option A} {r : A} (a : Option A) → cut < 10 ^ 18 → o ≡ Some r → (if nat_le (10 ^ 18) cut then None else option_or o a) ≡ Some r
 here cut a few is = grind (arith, nat_tests)

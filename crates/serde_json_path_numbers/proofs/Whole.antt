@@ -1,5 +1,5 @@
 -- A literal of whole billions of billionths is that integer.
-use Rattle.serde_json_path_numbers.proofs.Words.{◌≡◌, ◌+◌, ◌*◌, ◌/◌, ◌%◌, ◌==◌, true, arith, ints, nat_tests, eqb-true, div-add-mod', ℤ, pos, negsuc, ◌*ℤ◌, int_div, unsigned_abs, None, integer, literal_double, literal_number}
+use Rattle.serde_json_path_numbers.proofs.Words.{◌≡◌, ◌+◌, ◌%◌, arith, ints, nat_tests, div-add-mod', ℤ, pos, negsuc, ◌*ℤ◌, int_div, unsigned_abs, None, integer, literal_double, literal_number}
 
 whole_size : (b : ℤ) → literal_double b ≡ None → unsigned_abs b % 1000000000 ≡ 0
 whole_size b whole = grind (arith, nat_tests)

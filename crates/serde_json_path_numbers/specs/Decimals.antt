@@ -1,5 +1,5 @@
 -- Doubles as decimals of few digits, and their texts.
-use Rattle.std.specs.Prelude.{ℕ, zero, suc, ◌+◌, ◌*◌, ◌/◌, ◌%◌, ◌^◌, ◌==◌, ◌&&◌, nat_le, nat_lt, ℤ, pos, negsuc, ◌+ℤ◌, unsigned_abs, Bool, true, false, List, [], ◌++◌, codes, Option, Some, None, if◌then◌else◌, to_bits}
+use Rattle.std.specs.Prelude.{ℕ, zero, suc, ◌+◌, ◌*◌, ◌/◌, ◌%◌, ◌^◌, ◌==◌, ◌&&◌, nat_le, ℤ, pos, negsuc, ◌+ℤ◌, unsigned_abs, Bool, false, List, [], ◌++◌, codes, Option, Some, None, if◌then◌else◌, to_bits}
 use Rattle.std.specs.Option.{option_or}
 use Rattle.std.specs.Float.Ieee.{Float, binary64}
 use Rattle.std.specs.Fmt.{decimal, signed_decimal, sign_text}

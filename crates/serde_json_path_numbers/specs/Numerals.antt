@@ -1,10 +1,10 @@
 -- What a number literal of any length is worth (RFC 9535, section 2.3.5.1): a whole number of billionths, or the double
 -- nearest to it.
-use Rattle.std.specs.Prelude.{ℕ, ◌+◌, ◌-◌, ◌*◌, ◌^◌, ◌==◌, ◌&&◌, ◌||◌, ◌<◌, nat_le, nat_lt, ℤ, pos, negsuc, ◌+ℤ◌, ◌-ℤ◌, unsigned_abs, Bool, true, false, List, ◌++◌, length, drop, Option, Some, None, if◌then◌else◌, IsTrue, int_lt}
+use Rattle.std.specs.Prelude.{ℕ, ◌+◌, ◌-◌, ◌*◌, ◌^◌, ◌==◌, ◌&&◌, ◌||◌, nat_le, nat_lt, ℤ, pos, negsuc, ◌+ℤ◌, ◌-ℤ◌, unsigned_abs, Bool, true, false, ◌++◌, length, drop, Option, Some, None, if◌then◌else◌, int_lt}
 use Rattle.std.specs.Float.{float_is_finite}
 use Rattle.std.specs.Float.Ieee.{Float, eq, binary64, to_unsigned}
 use Rattle.std.specs.Str.Parse.{digits_value}
-use Rattle.fast_float.specs.Text.{Parts, scan, digits_of, nearest, with_sign, point_at, whole_of}
+use Rattle.fast_float.specs.Text.{Parts, digits_of, nearest, with_sign, point_at, whole_of}
 use Rattle.serde_json_path_numbers.specs.Numbers.{integer}
 use Rattle.serde_json_path_numbers.specs.Decimals.{Decimal, decimal_of, fewest}
 

@@ -1,4 +1,4 @@
-use Rattle.serde_json_path_numbers.proofs.Words.{◌≡◌, ◌+◌, ◌-◌, ◌<◌, ◌++◌, length, refl, ap, sym, ◌∙◌, arith, nat_tests, length-append, to_z-of_z, ints, ℤ, pos, w128, to_z, of_z, FitsSigned}
+use Rattle.serde_json_path_numbers.proofs.Words.{◌≡◌, ◌-◌, ◌<◌, ◌++◌, length, refl, sym, ◌∙◌, arith, nat_tests, length-append, to_z-of_z, pos, w128, FitsSigned}
 use Rattle.std.specs.Prelude.{◌+ℤ◌}
 use Rattle.serde_json_path_numbers.proofs.Numerals.{one_taken, level, too_many, here, further}
 use Rattle.serde_json_path_numbers.proofs.numeral.fewest.Goals as goal

@@ -1,4 +1,4 @@
-use Rattle.serde_json_path_numbers.proofs.Words.{◌≡◌, refl, ap, sym, ◌∙◌, true, to_z-of_z, Some}
+use Rattle.serde_json_path_numbers.proofs.Words.{ap, sym, ◌∙◌, to_z-of_z, Some}
 use Rattle.std.specs.Option.{option_map, option_or}
 use Rattle.serde_json_path_numbers.specs.Decimals.{decimal_of}
 use Rattle.serde_json_path_numbers.specs.Numerals.{decimal}
