@@ -2,7 +2,8 @@
 -- 2.5.1.1). A text is a list of characters, each a Unicode scalar value; names and strings in trees
 -- are the bytes of their characters.
 use Rattle.std.specs.Prelude.{◌≡◌, ◌==◌, ℕ, suc, ◌+◌, ◌-◌, ◌*◌, ◌<◌, ◌≤◌, ◌^◌, ◌⊎◌, ◌&&◌, ◌||◌, not, nat_le, ℤ, pos, negsuc, ◌-ℤ◌, Bool, true, false, List, [], ◌∷◌, ◌++◌, length, drop, codes, slice_index, Option, Some, None, if◌then◌else◌}
-use Rattle.serde_json_path_parser.specs.Imports.{AllByRecursion, encode_utf8_all, code, IsInteger, IsLiteralAmount}
+use Rattle.serde_json_path_numbers.specs.Numerals.{decimal}
+use Rattle.serde_json_path_parser.specs.Imports.{AllByRecursion, encode_utf8_all, code, IsInteger, IsLiteralAmount, Numbers, whole_numbers, all_numbers, Amount, billionths, held_as, scan, sign_text}
 use Prim.Native.String.{String}
 
 -- every character passes the test
@@ -171,6 +172,20 @@ abbrev pub IsNumeral : List ℕ → Type 0
 IsNumeral text =
     (a b c : List ℕ) × (n : ℕ) × IsDecimal a n × IsPlaces b × IsExponent c
     × (text ≡ a ++ (b ++ c))
+
+-- a numeral, perhaps after `-`, and what it is held as
+abbrev pub IsNumeralOf : List ℕ → Amount → Type 0
+IsNumeralOf text amount =
+    (negative : Bool) × (numeral : List ℕ) × IsNumeral numeral
+    × (text ≡ sign_text negative ++ numeral)
+    × (held_as negative (scan numeral) ≡ Some amount)
+
+-- a number literal: by whole numbers one of at most nine places, and without an exponent, in the
+-- range; by all numbers any that the RFC has, up to the greatest double
+abbrev pub IsNumberLiteral : Numbers → List ℕ → Amount → Type 0
+IsNumberLiteral whole_numbers text (billionths b) = IsNumber text b
+IsNumberLiteral whole_numbers text (decimal d) = ⊥
+IsNumberLiteral all_numbers text amount = IsNumeralOf text amount
 
 -- ---- strings (section 2.3.1.1)
 

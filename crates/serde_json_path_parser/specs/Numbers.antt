@@ -2,7 +2,9 @@
 -- characters: as amounts, and as texts of any length. That an amount has no exponent and one to
 -- nine digits of a fraction, and its range, are this project's own rules. Each refusal is reported
 -- where the literal begins: `start` bytes are left there.
-use Rattle.std.specs.Prelude.{ℕ, ◌+◌, ◌-◌, ◌*◌, ◌^◌, min, nat_le, ℤ, pos, ◌-ℤ◌, Bool, List, [], length, codes, take, drop, Ok, Err, if◌then◌else◌}
+use Rattle.std.specs.Prelude.{ℕ, ◌+◌, ◌-◌, ◌*◌, ◌^◌, min, nat_le, ℤ, pos, ◌-ℤ◌, Bool, true, false, List, [], length, codes, take, drop, Option, Some, None, Ok, Err, if◌then◌else◌}
+use Rattle.serde_json_path_numbers.specs.Numerals as amount
+use Rattle.serde_json_path_parser.specs.Imports.{Numbers, whole_numbers, all_numbers, Literal, number, decimal, Amount, billionths, held_as, scan}
 use Rattle.serde_json_path_parser.specs.declared.error.ParseErrorKind.TheVariants.{ExpectedExpression, ExponentOrEmptyFraction, FractionTooLong, NumberOutOfRange}
 use Rattle.serde_json_path_parser.specs.declared.error.Context.TheVariants as context
 use Rattle.serde_json_path_parser.specs.Lexical.{◌∈◌, is_at, begins, is_digit, value_from, fraction_of}
@@ -53,9 +55,9 @@ read_amount start cs = do
 abbrev pub greatest_amount : ℕ
 greatest_amount = (2 ^ 64 - 1) * 1000000000
 
--- -2 ^ 63 to 2 ^ 64 - 1
-abbrev pub read_number : List ℕ → Parsed ℤ
-read_number cs =
+-- by whole numbers: -2 ^ 63 to 2 ^ 64 - 1
+abbrev pub read_billionths : List ℕ → Parsed ℤ
+read_billionths cs =
     if is_at "-" cs then
     (read_amount (byte_count cs) (drop 1 cs) >>= λ n.
     if nat_le n.0 (2 ^ 63 * 1000000000) then Ok (pos 0 -ℤ pos n.0, n.1)
@@ -105,3 +107,24 @@ read_numeral start cs = do
   whole ← read_whole_text start cs
   places ← with_front whole.0 (read_places start whole.1)
   with_front places.0 (read_exponent start places.1)
+
+-- the literal that is held as an amount
+abbrev pub literal_of : Amount → Literal
+literal_of (billionths b) = number b
+literal_of (amount.decimal d) = decimal d
+
+-- the literal of an amount, if there is one, of a text that begins at start
+abbrev pub as_literal : List ℕ → Option Amount → List ℕ → Parsed Literal
+as_literal start None cs = Err (refusal NumberOutOfRange context.LongHand start)
+as_literal start (Some a) cs = Ok (literal_of a, cs)
+
+-- by all numbers, after the sign
+abbrev pub read_held : Bool → List ℕ → List ℕ → Parsed Literal
+read_held negative start cs =
+    read_numeral (byte_count start) cs >>= λ t.
+    as_literal start (held_as negative (scan t.0)) t.1
+
+abbrev pub read_number : Numbers → List ℕ → Parsed Literal
+read_number whole_numbers cs = read_billionths cs >>= λ n. Ok (number n.0, n.1)
+read_number all_numbers cs =
+    if is_at "-" cs then read_held true cs (drop 1 cs) else read_held false cs cs

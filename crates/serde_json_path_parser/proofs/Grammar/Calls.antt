@@ -5,6 +5,7 @@ use Rattle.serde_json_path_parser.proofs.Grammar.LogicalForms.{query_singular, D
 use Rattle.serde_json_path_parser.proofs.Grammar.LogicalExpressions.{or_again, or_outcome, and_from_outcome, or_from_outcome}
 use Rattle.serde_json_path_parser.proofs.Grammar.Comparisons.{operand_again, operand_outcome, no_operator, basic_from_outcome}
 use Rattle.serde_json_path_parser.proofs.Rows.{Follows, at_sign}
+use Rattle.serde_json_path_syntax.specs.Tree as tree
 
 -- ---- types of arguments
 
@@ -85,6 +86,7 @@ module _ (rule : Numbers) (signature : List ℕ → Option Signature) (n : ℕ) 
   may_be (literal (number amount)) of_value e = suits_number rule amount e
   may_be (literal (number amount)) _ e = absurd cc
   may_be (literal (text bytes)) kind e = tt
+  may_be (literal (tree.decimal d)) kind e = tt
   may_be (literal (truth b)) kind e = tt
   may_be (literal null) kind e = tt
   may_be (queried q) kind e = tt

@@ -1,5 +1,5 @@
 -- Integers and number literals: what is read is one, each is read, and where a refusal of one stands.
-use Rattle.serde_json_path_parser.proofs.Words.{nat_le, ◌==◌, ℤ, pos, negsuc, ints, largest, ExpectedSelector, IntegerOutOfRange, is_at, cases_Bool, begins, is_blank, is_digit, value_from, IsDecimal, IsInt, front, past, byte_count, is_first_digit, read_digits, negative, read_int, begins_int, ◌||◌, ◌-ℤ◌, encode_utf8, ExpectedExpression, ExponentOrEmptyFraction, FractionTooLong, NumberOutOfRange, AllPass, AreDigits, fraction_of, IsFraction, IsAmount, IsNumber, refusal_at, is_exponent, read_whole, read_digits_after_point, read_fraction, read_amount, greatest_amount, read_number, read_whole_text, mul-le-mul_right, mul-lt-mul_of_pos_right, le-mul_of_pos_right, one-le-pow, pow-succ', length-append, pow-add, encode_ascii, encode_utf8_all, ◌≡◌, ℕ, zero, suc, ◌+◌, ◌-◌, ◌*◌, ◌≤◌, inl, inr, Bool, true, false, List, [], ◌∷◌, ◌++◌, drop, Ok, refl, sym, ap, ◌∙◌, arith, ◌^◌, length, Err, append_assoc, ◌<◌, min, LongHand}
+use Rattle.serde_json_path_parser.proofs.Words.{nat_le, ◌==◌, ℤ, pos, negsuc, ints, largest, ExpectedSelector, IntegerOutOfRange, is_at, cases_Bool, begins, is_blank, is_digit, value_from, IsDecimal, IsInt, front, past, byte_count, is_first_digit, read_digits, negative, read_int, begins_int, ◌||◌, ◌-ℤ◌, encode_utf8, ExpectedExpression, ExponentOrEmptyFraction, FractionTooLong, NumberOutOfRange, AllPass, AreDigits, fraction_of, IsFraction, IsAmount, IsNumber, refusal_at, is_exponent, read_whole, read_digits_after_point, read_fraction, read_amount, greatest_amount, read_billionths, read_whole_text, mul-le-mul_right, mul-lt-mul_of_pos_right, le-mul_of_pos_right, one-le-pow, pow-succ', length-append, pow-add, encode_ascii, encode_utf8_all, ◌≡◌, ℕ, zero, suc, ◌+◌, ◌-◌, ◌*◌, ◌≤◌, inl, inr, Bool, true, false, List, [], ◌∷◌, ◌++◌, drop, Ok, refl, sym, ap, ◌∙◌, arith, ◌^◌, length, Err, append_assoc, ◌<◌, min, LongHand}
 use Rattle.serde_json_path_parser.proofs.Reading.{begins_where, differs, begins_differs, no_blank, whole, front_each, front_begins, front_begins_not, front_all, past_run, value_least, some_begun, begins_front, after_one, Plain, OutcomeIn, Outcome, gives, choose, guarded, past_in, made, refused, onward, after_in}
 use Rattle.serde_json_path_syntax.specs.WellFormed.{IsLiteralAmount}
 
@@ -140,8 +140,8 @@ negative_in_range n e = let most : n ≤ 2 ^ 63 * 1000000000 = grind (arith, e) 
 positive_in_range : (n : ℕ) → nat_le n greatest_amount ≡ true → IsLiteralAmount (pos n)
 positive_in_range n e = let most : n ≤ greatest_amount = grind (arith, e) in (omega (arith, ints, most), omega (arith, ints, most))
 
-pub number_outcome : (cs : List ℕ) → Outcome IsNumber Plain cs (read_number cs)
-number_outcome cs =
+pub billionths_outcome : (cs : List ℕ) → Outcome IsNumber Plain cs (read_billionths cs)
+billionths_outcome cs =
     choose (λ e. past_in (45 ∷ []) (after_one 45 cs e) (onward (amount_outcome cs (drop 1 cs)) (λ n f r. guarded NumberOutOfRange LongHand refl (λ most.
     gives _ (record { text = r.text; is_so = ((n.0, inr (r.text, r.is_so, refl, refl)), negative_in_range n.0 most); split = r.split }))))) (λ _.
     onward (amount_outcome cs cs) (λ n f r. guarded NumberOutOfRange LongHand refl (λ most.
@@ -207,13 +207,13 @@ amount_first p b t n rest h is =
     let regrouped : t ++ rest ≡ is.0 ++ (is.1 ++ rest) = ap (λ (l : List ℕ). l ++ rest) is.6 ∙ append_assoc is.0 is.1 rest in
     ap (begins p) regrouped ∙ decimal_first p b is.0 is.2 (is.1 ++ rest) h is.4
 
-pub number_again : (t : List ℕ) (amount : ℤ) (rest : List ℕ) → IsNumber t amount → begins goes_on rest ≡ false → read_number (t ++ rest) ≡ Ok (amount, rest)
-number_again t amount rest ((n, inl (is, same)), in_range) e =
+pub billionths_again : (t : List ℕ) (amount : ℤ) (rest : List ℕ) → IsNumber t amount → begins goes_on rest ≡ false → read_billionths (t ++ rest) ≡ Ok (amount, rest)
+billionths_again t amount rest ((n, inl (is, same)), in_range) e =
     let most : n ≤ greatest_amount = let within = in_range.1 in omega (arith, ints, within, same) in
     let judged : nat_le n greatest_amount ≡ true = grind (arith, most) in
     let no_sign = amount_first (λ c. c == 45) false t n rest (λ c d. differs is_digit 45 c refl d) is in
     rw (no_sign, amount_again (t ++ rest) t n rest is e, judged) (ap (λ (i : ℤ). Ok (i, rest)) (sym same))
-number_again t amount rest ((n, inr (digits, is, whole, same)), in_range) e =
+billionths_again t amount rest ((n, inr (digits, is, whole, same)), in_range) e =
     let most : n ≤ 2 ^ 63 * 1000000000 = let within = in_range.0 in omega (arith, ints, within, same) in
     let judged : nat_le n (2 ^ 63 * 1000000000) ≡ true = grind (arith, most) in
     rw (whole, amount_again (45 ∷ (digits ++ rest)) digits n rest is e, judged) (ap (λ (i : ℤ). Ok (i, rest)) (sym same))
@@ -221,8 +221,8 @@ number_again t amount rest ((n, inr (digits, is, whole, same)), in_range) e =
 -- ---- how a number begins
 
 -- each character that may begin a number answers so, and a number with it
-pub number_first : (p : ℕ → Bool) (b : Bool) (t : List ℕ) (amount : ℤ) (rest : List ℕ) → ((c : ℕ) → begins_int c ≡ true → p c ≡ b) → IsNumber t amount → begins p (t ++ rest) ≡ b
-number_first p b t amount rest h is = elim is.0.1 [
+pub billionths_first : (p : ℕ → Bool) (b : Bool) (t : List ℕ) (amount : ℤ) (rest : List ℕ) → ((c : ℕ) → begins_int c ≡ true → p c ≡ b) → IsNumber t amount → begins p (t ++ rest) ≡ b
+billionths_first p b t amount rest h is = elim is.0.1 [
   | inl above ↦ amount_first p b t is.0.0 rest (λ c d. h c (digit_begins c d)) above.0
   | inr below ↦ ap (λ (l : List ℕ). begins p (l ++ rest)) below.2 ∙ h 45 refl
 ]
