@@ -1,5 +1,5 @@
 -- Numbers, slices and literals, as they are printed, read as themselves.
-use Rattle.serde_json_path_parser.proofs.Words.{AreDigits, AreSignedDigits, IsNumeral, IsNumberLiteral, IsLiteralAmount, Numbers, whole_numbers, all_numbers, billionths, scan, sign_text, unsigned_abs, cases_Bool, one-le-pow, ℤ, pos, negsuc, ◌-ℤ◌, decimal, signed_decimal, AllByRecursion, pow-succ', mul-sub, mul_comm, mul_assoc, nat_tests, eqb_tells, ints, pow-add, in_decimal, largest, fraction_digits, fraction_text, amount_text, number_text, begins, is_digit, AllPass, value_from, IsDecimal, IsInt, fraction_of, IsFraction, IsAmount, IsNumber, all_scalars, Slice, Literal, text, number, truth, null, integer_text, slice_step_text, slice_text, literal_text, IsBound, IsSliceStep, IsSlice, IsLiteral, ◌≡◌, ◌≤◌, ◌<◌, ◌+◌, ◌-◌, ◌*◌, ◌/◌, ◌%◌, ◌^◌, ◌==◌, ℕ, zero, suc, inl, inr, Bool, true, false, if◌then◌else◌, List, [], ◌∷◌, length, map, get_or, refl, sym, ap, subst, ◌∙◌, arith, ◌++◌, Option, Some, None, codes, append_assoc, append-nil}
+use Rattle.serde_json_path_parser.proofs.Words.{AreDigits, AreSignedDigits, IsNumeral, IsNumberLiteral, held_as, Numbers, whole_numbers, all_numbers, billionths, scan, sign_text, unsigned_abs, cases_Bool, one-le-pow, ℤ, pos, negsuc, ◌-ℤ◌, decimal, signed_decimal, AllByRecursion, pow-succ', mul-sub, mul_comm, mul_assoc, nat_tests, eqb_tells, ints, pow-add, in_decimal, largest, fraction_digits, fraction_text, amount_text, number_text, begins, is_digit, AllPass, value_from, IsDecimal, IsInt, fraction_of, IsFraction, IsAmount, IsNumber, all_scalars, Slice, Literal, text, number, truth, null, integer_text, slice_step_text, slice_text, literal_text, IsBound, IsSliceStep, IsSlice, IsLiteral, ◌≡◌, ◌≤◌, ◌<◌, ◌+◌, ◌-◌, ◌*◌, ◌/◌, ◌%◌, ◌^◌, ◌==◌, ℕ, zero, suc, inl, inr, Bool, true, false, if◌then◌else◌, List, [], ◌∷◌, length, map, get_or, refl, sym, ap, subst, ◌∙◌, arith, ◌++◌, Option, Some, None, codes, append_assoc, append-nil}
 use Rattle.std.specs.Int.Digits.{digits_of, number_from_digits_after, AllBelowBase}
 use Rattle.std.proofs.lemmas.Fmt.{decimal_digit, decimal-digits_of}
 use Rattle.std.proofs.lemmas.Int.Digits.{all_below_base_digits_of, first_digits_of, number_digits_of}
@@ -11,6 +11,7 @@ use Rattle.serde_json_path_numbers.proofs.ReadBack.{held_in_range, read_back}
 use Rattle.serde_json_path_numbers.specs.Decimals.{Decimal, decimal_text, has_point, place_digits, size_text}
 use Rattle.serde_json_path_numbers.specs.Numerals as amount
 use Rattle.serde_json_path_syntax.specs.Tree as tree
+use Rattle.serde_json_path_syntax.specs.WellFormed.{IsLiteralAmount}
 use Rattle.std.proofs.Common.{div-le_self, div-lt_iff_lt-mul, mod-lt}
 
 -- ---- digits
@@ -222,8 +223,8 @@ places_are : (k n : ℕ) → n < 10 ^ k → AllPass is_digit (place_digits k n) 
 places_are zero n small = (tt, refl, spell_nothing)
 places_are (suc k) n small =
     let first = n / 10 ^ k in
-    let digit : first < 10 = (div-lt_iff_lt-mul (one-le-pow 10 k)).1 (omega (arith, small, pow-succ' 10 k)) in
-    let rest = places_are k (n % 10 ^ k) (mod-lt n (one-le-pow 10 k)) in
+    let digit : first < 10 = (div-lt_iff_lt-mul (one-le-pow k 10 (omega arith))).1 (omega (arith, small, pow-succ' 10 k)) in
+    let rest = places_are k (n % 10 ^ k) (mod-lt n (one-le-pow k 10 (omega arith))) in
     rw (decimal_digit first digit) ((digit_is first digit, rest.0), ap suc rest.1, spell_both (spell_sign (48 + first) (omega (arith, digit))) rest.2)
 
 with_point : (n k : ℕ) → n < 2 ^ 64 → IsSize (decimal (n / 10 ^ suc k) ++ (46 ∷ place_digits (suc k) (n % 10 ^ suc k)))
@@ -231,7 +232,7 @@ with_point n k fits =
     let front = n / 10 ^ suc k in
     let d = decimal_is front (omega (arith, fits, div-le_self n (10 ^ suc k))) in
     let rest = n % 10 ^ suc k in
-    let p = places_are (suc k) rest (mod-lt n (one-le-pow 10 (suc k))) in
+    let p = places_are (suc k) rest (mod-lt n (one-le-pow (suc k) 10 (omega arith))) in
     let places = place_digits (suc k) rest in
     ((decimal front, 46 ∷ places, [], front, d.0, inr (places, (p.0, omega (arith, p.1)), refl), inl refl, ap (λ (l : List ℕ). decimal front ++ l) (sym (append-nil (46 ∷ places)))), spell_both d.1 (spell_both (spell_sign 46 (omega arith)) p.2))
 
@@ -248,7 +249,7 @@ decimal_spelt whole_numbers t d is = absurd is
 decimal_spelt all_numbers t d (negative, numeral, is, same, held) =
     let (sign, few, low, again) = read_back negative numeral d held in
     let size = size_is d.digits d.exponent (omega (arith, few)) low in
-    record { characters = decimal_text d; spells = spell_both (sign_spells d.negative) size.1; is_so = (d.negative, size_text d.digits d.exponent, size.0, refl, rw sign again) }
+    record { characters = decimal_text d; spells = spell_both (sign_spells d.negative) size.1; is_so = (d.negative, size_text d.digits d.exponent, size.0, refl, ap (λ (s : Bool). held_as s (scan (size_text d.digits d.exponent))) sign ∙ again) }
 
 -- ---- slices and literals, as they are printed, read as themselves
 
