@@ -2,6 +2,10 @@
 
 -- integers and number literals: what is read is one, each is read, and where a refusal of one stands
 pub mod Numbers
+-- numerals of any length, and number literals by either rule
+pub mod Numerals
+-- what reads by whole numbers reads by all numbers
+pub mod ReadMore
 -- string literals
 pub mod Strings
 -- selectors, brackets with them, and segments

@@ -175,7 +175,7 @@ module _ (rule : Numbers) where
     basic_spelt (test b o) t e h = negation_spelt b t e (λ t e h. operand_spelt o t e h) h
 
     operand_spelt : (o : Operand) (t : List ℕ) → all_scalars t ≡ true → ReadsOperand rule o t → Spelt (ReadsOperand rule o) (operand_text o)
-    operand_spelt (literal l) t e h = literal_spelt l t e h
+    operand_spelt (literal l) t e h = literal_spelt rule l t e h
     operand_spelt (queried q) t e h = query_spelt q t e h
     operand_spelt (called c) t e h = call_spelt c t e h
 

@@ -1,5 +1,5 @@
 -- Reading lists of characters, whatever is read: runs at the start, items one after another, and what a reader gives.
-use Rattle.serde_json_path_parser.proofs.Words.{cases_lt, eqb-true, encode_utf8_all, encode_utf8, ◌==◌, AllByRecursion, begins, is_blank, is_digit, value_from, front, past, length-append, IsBlank, past_blanks, Refusal, Parsed, ◌>>=◌, many_within, many, and_parts, begins_both, Joined, Failure, Fails, Signature, ParseErrorKind, ExpectedRoot, UndefinedFunction, TextAfterPath, NoMemory, IsUndeclared, byte_count, refusal, cases_Bool, false_from_ne_true, ◌≡◌, ℕ, ◌+◌, ◌-◌, ◌*◌, ◌<◌, ◌≤◌, min, Bool, true, false, true≢false, List, [], ◌∷◌, ◌++◌, length, refl, sym, ap, ◌∙◌, append_assoc, inl, inr, arith, zero, suc, Ok, Err, drop, Result, subst, ◌⊎◌, Option, cond, Memory, Refused, Context, append-nil, ◌||◌}
+use Rattle.serde_json_path_parser.proofs.Words.{cases_lt, eqb-true, encode_utf8_all, encode_utf8, ◌==◌, AllByRecursion, begins, is_blank, is_digit, value_from, front, past, length-append, IsBlank, past_blanks, Refusal, Parsed, ◌>>=◌, with_front, many_within, many, and_parts, begins_both, Joined, Failure, Fails, Signature, ParseErrorKind, ExpectedRoot, UndefinedFunction, TextAfterPath, NoMemory, IsUndeclared, byte_count, refusal, cases_Bool, false_from_ne_true, ◌≡◌, ℕ, ◌+◌, ◌-◌, ◌*◌, ◌<◌, ◌≤◌, min, Bool, true, false, true≢false, List, [], ◌∷◌, ◌++◌, length, refl, sym, ap, ◌∙◌, append_assoc, inl, inr, arith, zero, suc, Ok, Err, drop, Result, subst, ◌⊎◌, Option, cond, Memory, Refused, Context, append-nil, ◌||◌}
 
 -- ---- what begins a list
 
@@ -136,10 +136,6 @@ begins_not p [] rest none h e = e
 begins_not p (c ∷ k) rest none h e = none c h.0
 
 -- ---- reading items one after the other
-
--- what was read before, and what is still read
-abbrev pub with_front : {A : Type 0} → List A → Parsed (List A) → Parsed (List A)
-with_front before read = read >>= λ x. Ok (before ++ x.0, x.1)
 
 pub with_none : {A : Type 0} (read : Parsed (List A)) → with_front [] read ≡ read
 with_none (Ok x) = refl

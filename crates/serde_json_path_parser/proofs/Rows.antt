@@ -1,6 +1,6 @@
 -- Items in a row, with a sign and blanks between them: as they are read, each with the blanks after it, and as the grammar has them, with blanks round each sign.
-use Rattle.serde_json_path_parser.proofs.Words.{◌==◌, ◌&&◌, ◌||◌, or_right, and_parts, eq-eqb, append-nil, length-append, drop-append_seam, Signature, Parsed, ◌>>=◌, past_blanks, many, begins, is_blank, IsBlank, IsSign, Joined, ◌≡◌, ℕ, Bool, true, false, List, [], ◌∷◌, ◌++◌, length, drop, Option, Ok, refl, sym, ap, ◌∙◌, append_assoc, arith}
-use Rattle.serde_json_path_parser.proofs.Reading.{Read, Spaced, after_one, Inner, Outcome, past_text, made, weaker, many_outcome, split_again, blanks_of, spread, some_begun, begins_where, begins_differs, Consumes, many_end, many_more, with_front, past_run, front_each, whole}
+use Rattle.serde_json_path_parser.proofs.Words.{with_front, ◌==◌, ◌&&◌, ◌||◌, or_right, and_parts, eq-eqb, append-nil, length-append, drop-append_seam, Signature, Parsed, ◌>>=◌, past_blanks, many, begins, is_blank, IsBlank, IsSign, Joined, ◌≡◌, ℕ, Bool, true, false, List, [], ◌∷◌, ◌++◌, length, drop, Option, Ok, refl, sym, ap, ◌∙◌, append_assoc, arith}
+use Rattle.serde_json_path_parser.proofs.Reading.{Read, Spaced, after_one, Inner, Outcome, past_text, made, weaker, many_outcome, split_again, blanks_of, spread, some_begun, begins_where, begins_differs, Consumes, many_end, many_more, past_run, front_each, whole}
 
 -- after the blanks stands a character that passes
 abbrev pub Follows : (ℕ → Bool) → List ℕ → Type 0

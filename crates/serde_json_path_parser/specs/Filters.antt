@@ -2,7 +2,7 @@
 -- 2.3.5 and 2.4), on lists of characters. An operand is read before its use is known; what follows
 -- it decides. Each piece takes the blanks after it, but for segments.
 use Rattle.std.specs.Prelude.{ℕ, zero, suc, ◌==◌, ◌&&◌, ◌||◌, Bool, true, false, List, [], ◌∷◌, length, drop, codes, bytes_eq, Option, Some, None, Result, Ok, Err, if◌then◌else◌}
-use Rattle.serde_json_path_parser.specs.Imports.{Numbers, is_singular, QueryKind, root, current, Query, query, Segments, Selector, filter, LogicalOr, no_or, or, LogicalAnd, no_and, and, Basic, paren, relation, test, Operand, literal, queried, called, Call, call, Arguments, no_arguments, argument, Argument, operand, logical_argument, text, number, truth, null, Operator, equal, not_equal, less, less_or_equal, greater, greater_or_equal, result_kind, deepest, Kind, of_value, Signature, code}
+use Rattle.serde_json_path_parser.specs.Imports.{Numbers, is_singular, QueryKind, root, current, Query, query, Segments, Selector, filter, LogicalOr, no_or, or, LogicalAnd, no_and, and, Basic, paren, relation, test, Operand, literal, queried, called, Call, call, Arguments, no_arguments, argument, Argument, operand, logical_argument, text, truth, null, Operator, equal, not_equal, less, less_or_equal, greater, greater_or_equal, result_kind, deepest, Kind, of_value, Signature, code}
 use Rattle.serde_json_path_parser.specs.declared.error.ParseErrorKind.TheVariants.{ExpectedRoot, ExpectedExpression, ExpectedClosingParenthesis, ExpectedComparisonOperator, NonSingularQuery, UndefinedFunction, WrongNumberOfArguments, WrongArgumentType, WrongReturnType, NestedTooDeep, TextAfterPath}
 use Rattle.serde_json_path_parser.specs.declared.error.Context.TheVariants as context
 use Rattle.serde_json_path_parser.specs.declared.error.Refusal.{Refusal}
@@ -117,7 +117,7 @@ module _ (rule : Numbers) (signature : List ℕ → Option Signature) (deeper : 
       else if is_at "$" cs then (read_query root cs >>= λ q. Ok (queried q.0, q.1))
       else if begins_call cs then (read_named_call cs >>= λ c. Ok (called c.0, c.1))
       else if begins is_small_letter cs then read_literal_word cs
-      else (read_number cs >>= λ n. Ok (literal (number n.0), past_blanks n.1))
+      else (read_number rule cs >>= λ l. Ok (literal l.0, past_blanks l.1))
 
   -- ---- comparisons and tests; start bytes are left where the operand begins
 

@@ -1,9 +1,9 @@
 -- The grammar: which text has which tree (RFC 9535, sections 2.1 to 2.5). A text is a list of
 -- characters, and the joining of the texts of its parts, of signs and of blanks.
 use Rattle.std.specs.Prelude.{Bool, true, false, ◌≡◌, ◌%◌, ℕ, ℤ, unsigned_abs, List, [], ◌++◌, ◌⊎◌, Option, Some, None, codes}
-use Rattle.serde_json_path_parser.specs.Imports.{Numbers, whole_numbers, all_numbers, QueryKind, root, current, Query, query, Segments, no_segments, segment, SegmentKind, child, descendant, Segment, dot_name, dot_wildcard, long_hand, Selectors, no_selectors, selector, Selector, name, wildcard, index, slice, filter, Slice, LogicalOr, no_or, or, LogicalAnd, no_and, and, Basic, paren, relation, test, Operator, equal, not_equal, less, less_or_equal, greater, greater_or_equal, Operand, literal, queried, called, Call, call, Arguments, no_arguments, argument, Argument, operand, logical_argument, Literal, text, number, truth, null}
-use Rattle.serde_json_path_parser.specs.Lexical.{IsBlank, IsName, IsFunctionName, IsInt, IsNumber, IsString}
-use Rattle.serde_json_path_syntax.specs.Tree as tree
+use Rattle.serde_json_path_parser.specs.Imports.{billionths, Numbers, whole_numbers, all_numbers, QueryKind, root, current, Query, query, Segments, no_segments, segment, SegmentKind, child, descendant, Segment, dot_name, dot_wildcard, long_hand, Selectors, no_selectors, selector, Selector, name, wildcard, index, slice, filter, Slice, LogicalOr, no_or, or, LogicalAnd, no_and, and, Basic, paren, relation, test, Operator, equal, not_equal, less, less_or_equal, greater, greater_or_equal, Operand, literal, queried, called, Call, call, Arguments, no_arguments, argument, Argument, operand, logical_argument, Literal, text, number, decimal, truth, null}
+use Rattle.serde_json_path_parser.specs.Lexical.{IsBlank, IsName, IsFunctionName, IsInt, IsNumberLiteral, IsString}
+use Rattle.serde_json_path_numbers.specs.Numerals as amount
 
 -- ---- signs
 
@@ -52,13 +52,13 @@ IsSlice s t =
 -- ---- literals and tests
 
 -- `true`, `false`, `null`, a string or a number (section 2.3.5.1)
-abbrev pub IsLiteral : Literal → List ℕ → Type 0
-IsLiteral (text bytes) t = IsString t bytes
-IsLiteral (number amount) t = IsNumber t amount
-IsLiteral (tree.decimal d) t = ⊥
-IsLiteral (truth true) t = t ≡ codes "true"
-IsLiteral (truth false) t = t ≡ codes "false"
-IsLiteral null t = t ≡ codes "null"
+abbrev pub IsLiteral : Numbers → Literal → List ℕ → Type 0
+IsLiteral rule (text bytes) t = IsString t bytes
+IsLiteral rule (number amount) t = IsNumberLiteral rule t (billionths amount)
+IsLiteral rule (decimal d) t = IsNumberLiteral rule t (amount.decimal d)
+IsLiteral rule (truth true) t = t ≡ codes "true"
+IsLiteral rule (truth false) t = t ≡ codes "false"
+IsLiteral rule null t = t ≡ codes "null"
 
 -- in parentheses
 abbrev pub InParentheses : (List ℕ → Type 0) → List ℕ → Type 0
@@ -172,7 +172,7 @@ module _ (rule : Numbers) where
     -- what may stand where is typing's; blanks inside the brackets of a singular query are the
     -- project's own choice
     pub ReadsOperand : Operand → List ℕ → Type 0
-    ReadsOperand (literal l) t = IsLiteral l t
+    ReadsOperand (literal l) t = IsLiteral rule l t
     ReadsOperand (queried q) t = Reads q t
     ReadsOperand (called c) t = ReadsCall c t
 

@@ -2,7 +2,8 @@
 -- 2.5.1.1). A text is a list of characters, each a Unicode scalar value; names and strings in trees
 -- are the bytes of their characters.
 use Rattle.std.specs.Prelude.{◌≡◌, ◌==◌, ℕ, suc, ◌+◌, ◌-◌, ◌*◌, ◌<◌, ◌≤◌, ◌^◌, ◌⊎◌, ◌&&◌, ◌||◌, not, nat_le, ℤ, pos, negsuc, ◌-ℤ◌, Bool, true, false, List, [], ◌∷◌, ◌++◌, length, drop, codes, slice_index, Option, Some, None, if◌then◌else◌}
-use Rattle.serde_json_path_parser.specs.Imports.{AllByRecursion, encode_utf8_all, code, IsInteger, IsLiteralAmount}
+use Rattle.serde_json_path_numbers.specs.Numerals.{decimal}
+use Rattle.serde_json_path_parser.specs.Imports.{AllByRecursion, encode_utf8_all, code, IsInteger, IsLiteralAmount, Numbers, whole_numbers, all_numbers, Amount, billionths, held_as, scan, sign_text}
 use Prim.Native.String.{String}
 
 -- every character passes the test
@@ -140,6 +141,51 @@ IsNumber text amount =
     ⊎ ((digits : List ℕ) × IsAmount digits n × (text ≡ codes "-" ++ digits)
     × (amount ≡ (pos 0 -ℤ pos n)))))
     × IsLiteralAmount amount
+
+-- ---- numerals (section 2.3.5.1): a number as the RFC has it, without a sign
+
+-- digits, one at least
+abbrev pub AreDigits : List ℕ → Type 0
+AreDigits text = AllPass is_digit text × (1 ≤ length text)
+
+-- a point and digits, or nothing
+abbrev pub IsPlaces : List ℕ → Type 0
+IsPlaces text =
+    (text ≡ []) ⊎ ((digits : List ℕ) × AreDigits digits × (text ≡ codes "." ++ digits))
+
+-- digits, perhaps with `-` or `+` before them
+abbrev pub AreSignedDigits : List ℕ → Type 0
+AreSignedDigits text =
+    AreDigits text
+    ⊎ ((sign : ℕ) × (digits : List ℕ) × ((sign ∈ "-+") ≡ true) × AreDigits digits
+    × (text ≡ sign ∷ digits))
+
+-- `e` or `E` and such digits, or nothing
+abbrev pub IsExponent : List ℕ → Type 0
+IsExponent text =
+    (text ≡ [])
+    ⊎ ((e : ℕ) × (digits : List ℕ) × ((e ∈ "eE") ≡ true) × AreSignedDigits digits
+    × (text ≡ e ∷ digits))
+
+-- a whole part, and perhaps places and an exponent
+abbrev pub IsNumeral : List ℕ → Type 0
+IsNumeral text =
+    (a b c : List ℕ) × (n : ℕ) × IsDecimal a n × IsPlaces b × IsExponent c
+    × (text ≡ a ++ (b ++ c))
+
+-- a numeral, perhaps after `-`, and what it is held as
+abbrev pub IsNumeralOf : List ℕ → Amount → Type 0
+IsNumeralOf text amount =
+    (negative : Bool) × (numeral : List ℕ) × IsNumeral numeral
+    × (text ≡ sign_text negative ++ numeral)
+    × (held_as negative (scan numeral) ≡ Some amount)
+
+-- a number literal: by whole numbers one of at most nine places, and without an exponent, in the
+-- range; by all numbers any that the RFC has, up to the greatest double
+abbrev pub IsNumberLiteral : Numbers → List ℕ → Amount → Type 0
+IsNumberLiteral whole_numbers text (billionths b) = IsNumber text b
+IsNumberLiteral whole_numbers text (decimal d) = ⊥
+IsNumberLiteral all_numbers text amount = IsNumeralOf text amount
 
 -- ---- strings (section 2.3.1.1)
 

@@ -1,6 +1,6 @@
 -- What reading from left to right gives, on lists of characters: what was read and the characters
 -- after it, or the first refusal that is met.
-use Rattle.std.specs.Prelude.{ℕ, zero, suc, Bool, List, [], ◌∷◌, length, Result, Ok, Err, if◌then◌else◌}
+use Rattle.std.specs.Prelude.{ℕ, zero, suc, Bool, List, [], ◌∷◌, ◌++◌, length, Result, Ok, Err, if◌then◌else◌}
 use Rattle.serde_json_path_parser.specs.Imports.{encode_utf8_all}
 use Rattle.serde_json_path_parser.specs.declared.error.ParseErrorKind.{ParseErrorKind}
 use Rattle.serde_json_path_parser.specs.declared.error.Context as declared
@@ -14,6 +14,10 @@ infixl 10 ◌>>=◌
 abbrev pub ◌>>=◌ : {A B : Type 0} → Result A Refusal → (A → Result B Refusal) → Result B Refusal
 (Ok x) >>= f = f x
 (Err e) >>= f = Err e
+
+-- what was read before, and what is still read
+abbrev pub with_front : {A : Type 0} → List A → Parsed (List A) → Parsed (List A)
+with_front before read = read >>= λ x. Ok (before ++ x.0, x.1)
 
 -- how many bytes the characters have
 abbrev pub byte_count : List ℕ → ℕ

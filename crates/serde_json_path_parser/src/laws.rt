@@ -1,6 +1,6 @@
 //! Laws of the grammar and of the typed grammar, each the contract of a function with an empty body.
 
-ghost use Rattle.serde_json_path_parser.specs.Laws.{OneTreeAtMost, PrintedTextReadsBack};
+ghost use Rattle.serde_json_path_parser.specs.Laws.{AllNumbersReadMore, OneTreeAtMost, PrintedTextReadsBack};
 
 /// A text is accepted with one tree at most, whatever functions are declared.
 ///
@@ -16,4 +16,10 @@ pub fn law_one_tree_at_most()
 #[tactic(auto, using(crate::proofs::Printing::printed_reads_back))]
 pub fn law_print()
     ensures { PrintedTextReadsBack }
+{}
+
+/// What is accepted by whole numbers is accepted by all numbers, with the same tree.
+#[tactic(auto, using(crate::proofs::Grammar::ReadMore::all_numbers_read_more))]
+pub fn law_all_numbers_read_more()
+    ensures { AllNumbersReadMore }
 {}

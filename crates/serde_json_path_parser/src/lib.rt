@@ -19,6 +19,6 @@ mod parser;
 mod source;
 
 pub use error::{ParseError, ParseErrorKind};
-pub use laws::{law_one_tree_at_most, law_print};
+pub use laws::{law_all_numbers_read_more, law_one_tree_at_most, law_print};
 pub use parser::parse;
 pub use source::{PathSource, TextSource};

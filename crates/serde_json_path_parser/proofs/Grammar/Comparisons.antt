@@ -1,11 +1,13 @@
 -- Operands, comparisons and tests, by what holds one level deeper.
-use Rattle.serde_json_path_parser.proofs.Words.{Numbers, ◌==◌, codes, bytes_eq, ℤ, and_parts, ReadSegments, is_digit, is_exponent, nat_le, ◌&&◌, bytes_eq-Decides, QueryKind, root, current, query, Call, Literal, text, number, truth, null, Segments, call, Signature, ExpectedExpression, is_at, begins, is_small_letter, is_function_char, IsFunctionName, IsQuote, AllPass, is_blank, is_name_char, IsNumber, opens, IsLiteral, Reads, ReadsCall, query_sign, Parsed, past_blanks, byte_count, read_string, segment_list, begins_int, Operand, literal, called, Deeper, word, past_word, begins_call, read_literal_word, read_query, read_named_call, read_text, read_operand, ◌>>=◌, Basic, relation, test, queried, Operator, equal, less, greater, result_kind, IsTestKind, Kind, of_value, of_nodes, of_logical, NonSingularQuery, WrongReturnType, ExpectedComparisonOperator, IsBlank, operator_sign, is_result, read_operator, read_comparable, read_test, read_right_side, read_relation, read_basic_from, ℕ, ◌<◌, ◌≡◌, inl, inr, true, false, List, [], ◌∷◌, ◌++◌, drop, Option, Ok, refl, sym, ap, ◌∙◌, append_assoc, Bool, arith, cond, Some, None, subst, LongHand, read_named, or_parts, begins_operator, IsTypedOperand, operand_depth, ReadsOperand, ◌≤◌}
+use Rattle.serde_json_path_parser.proofs.Words.{Amount, billionths, literal_of, Numbers, ◌==◌, codes, bytes_eq, and_parts, ReadSegments, is_digit, is_exponent, nat_le, ◌&&◌, bytes_eq-Decides, QueryKind, root, current, query, Call, Literal, text, number, truth, null, Segments, call, Signature, ExpectedExpression, is_at, begins, is_small_letter, is_function_char, IsFunctionName, IsQuote, AllPass, is_blank, is_name_char, IsNumberLiteral, opens, IsLiteral, Reads, ReadsCall, query_sign, Parsed, past_blanks, byte_count, read_string, segment_list, begins_int, Operand, literal, called, Deeper, word, past_word, begins_call, read_literal_word, read_query, read_named_call, read_text, read_operand, ◌>>=◌, Basic, relation, test, queried, Operator, equal, less, greater, result_kind, IsTestKind, Kind, of_value, of_nodes, of_logical, NonSingularQuery, WrongReturnType, ExpectedComparisonOperator, IsBlank, operator_sign, is_result, read_operator, read_comparable, read_test, read_right_side, read_relation, read_basic_from, ℕ, ◌<◌, ◌≡◌, inl, inr, true, false, List, [], ◌∷◌, ◌++◌, drop, Option, Ok, refl, sym, ap, ◌∙◌, append_assoc, Bool, arith, cond, Some, None, subst, LongHand, read_named, or_parts, begins_operator, IsTypedOperand, operand_depth, ReadsOperand, ◌≤◌}
 use Rattle.serde_json_path_parser.proofs.Grammar.LogicalForms.{query_singular, IsGoodQuery, IsGoodCall, DeeperLaws, ends_operand, IsCallText, IsOperandText, singular_query, ends_basic, IsBasicText, IsComparableText, begins_operand, operand_begins, as_expression, no_blank_begins}
-use Rattle.serde_json_path_parser.proofs.Grammar.Numbers.{number_outcome, goes_on, number_first, number_again}
+use Rattle.serde_json_path_parser.proofs.Grammar.Numbers.{goes_on}
+use Rattle.serde_json_path_parser.proofs.Grammar.Numerals.{number_outcome, number_first, number_again}
 use Rattle.serde_json_path_parser.proofs.Reading.{whole, front_each, front_begins, some_begun, begins_front, begins_where, differs, begins_differs, front_all, past_run, no_blank, blanks_of, begins_not, Spaced, after_one, Read, after_two, made_spaced, read_spaced, guarded, along, choose, inner, past_spaced, remade, Outcome, past_text, read_as, refused, onward, gives, Inner}
 use Rattle.serde_json_path_parser.proofs.Grammar.Segments.{segments_outcome, same_segments, segments_again}
 use Rattle.serde_json_path_parser.proofs.Rows.{Follows}
 use Rattle.serde_json_path_parser.proofs.Grammar.Strings.{string_outcome, string_again, of_quote}
+use Rattle.serde_json_path_numbers.specs.Numerals as amount
 use Rattle.serde_json_path_syntax.specs.Tree as tree
 
 -- ---- words
@@ -21,7 +23,7 @@ module _ (rule : Numbers) (signature : List ℕ → Option Signature) (n : ℕ) 
   OperandOutcome cs answer = Outcome (Spaced (IsOperandText rule signature n)) (Inner signature) cs answer
 
   -- a literal word and the blanks after it
-  word_outcome : (cs bytes : List ℕ) (l : Literal) → ((t : List ℕ) → t ≡ bytes → IsLiteral l t) → bytes_eq (word cs) bytes ≡ true → OperandOutcome cs (Ok (literal l, past_blanks (past_word cs)))
+  word_outcome : (cs bytes : List ℕ) (l : Literal) → ((t : List ℕ) → t ≡ bytes → IsLiteral rule l t) → bytes_eq (word cs) bytes ≡ true → OperandOutcome cs (Ok (literal l, past_blanks (past_word cs)))
   word_outcome cs bytes l is e = read_spaced (literal l, past_word cs) (record { text = word cs; is_so = (tt, is (word cs) ((bytes_eq-Decides (word cs) bytes).0 e)); split = whole is_function_char cs })
 
   literal_word_outcome : (cs : List ℕ) → OperandOutcome cs (read_literal_word cs)
@@ -53,7 +55,7 @@ module _ (rule : Numbers) (signature : List ℕ → Option Signature) (n : ℕ) 
       choose (λ e. remade (λ q. queried q) (λ t q h. h) (query_outcome current 64 cs refl e)) (λ _.
       choose (λ e. remade (λ q. queried q) (λ t q h. h) (query_outcome root 36 cs refl e)) (λ _.
       choose (λ e. remade (λ c. called c) (λ t c h. h) (named_call_outcome cs e)) (λ _.
-      choose (λ e. literal_word_outcome cs) (λ _. inner (made_spaced (λ amount. literal (number amount)) (λ t amount h. (tt, h)) (number_outcome cs))))))))
+      choose (λ e. literal_word_outcome cs) (λ _. inner (made_spaced (λ l. literal l) (λ t l h. (tt, h)) (number_outcome rule cs))))))))
 
 -- ---- what stands after an operand
 
@@ -124,11 +126,11 @@ module _ (rule : Numbers) (signature : List ℕ → Option Signature) (n : ℕ) 
   unfolding read_text
   quoted_again quote cs bytes rest is e = of_quote (λ q. read_string q cs ≡ Ok (bytes, rest) → read (q ∷ cs) ≡ Ok (literal (text bytes), past_blanks rest)) (λ e. rw e refl) (λ e. rw e refl) quote is e
 
-  number_read : (t : List ℕ) (amount : ℤ) (rest : List ℕ) → IsNumber t amount → Follows ends_operand rest → read (t ++ rest) ≡ Ok (literal (number amount), past_blanks rest)
-  number_read t amount rest is follows =
-      let other : (k : ℕ) → begins_int k ≡ false → begins (λ c. c == k) (t ++ rest) ≡ false = λ k none. number_first (λ c. c == k) false t amount rest (λ c e. differs begins_int k c none e) is in
-      let no_word : begins is_small_letter (t ++ rest) ≡ false = number_first is_small_letter false t amount rest (λ c e. grind (arith, e)) is in
-      rw (other 39 refl, other 34 refl, other 64 refl, other 36 refl, no_word, number_again t amount rest is (none_after goes_on rest (λ c e. grind (arith, e)) (λ c e. let exponent : is_exponent c ≡ false = grind (arith, e) in rw (ends_no_digit c e, exponent) (grind (arith, e))) follows)) refl
+  number_read : (t : List ℕ) (a : Amount) (rest : List ℕ) → IsNumberLiteral rule t a → Follows ends_operand rest → read (t ++ rest) ≡ Ok (literal (literal_of a), past_blanks rest)
+  number_read t a rest is follows =
+      let other : (k : ℕ) → begins_int k ≡ false → begins (λ c. c == k) (t ++ rest) ≡ false = λ k none. number_first rule (λ c. c == k) false t a rest (λ c e. differs begins_int k c none e) is in
+      let no_word : begins is_small_letter (t ++ rest) ≡ false = number_first rule is_small_letter false t a rest (λ c e. grind (arith, e)) is in
+      rw (other 39 refl, other 34 refl, other 64 refl, other 36 refl, no_word, number_again rule t a rest is (none_after goes_on rest (λ c e. grind (arith, e)) (λ c e. let exponent : is_exponent c ≡ false = grind (arith, e) in rw (ends_no_digit c e, exponent) (grind (arith, e))) follows)) refl
 
   -- ---- operands
 
@@ -136,8 +138,8 @@ module _ (rule : Numbers) (signature : List ℕ → Option Signature) (n : ℕ) 
   operand_again t (literal (text bytes)) rest h follows =
       let s = string_again t bytes rest h.1 in
       ap (λ (l : List ℕ). read (l ++ rest)) s.3 ∙ quoted_again s.0 (s.1 ++ rest) bytes rest s.2 s.4
-  operand_again t (literal (number amount)) rest h follows = number_read t amount rest h.1 follows
-  operand_again t (literal (tree.decimal d)) rest h follows = absurd h.1
+  operand_again t (literal (number b)) rest h follows = number_read t (billionths b) rest h.1 follows
+  operand_again t (literal (tree.decimal d)) rest h follows = number_read t (amount.decimal d) rest h.1 follows
   operand_again t (literal (truth true)) rest h follows = ap (λ (l : List ℕ). read (l ++ rest)) h.1 ∙ word_again (codes "true") rest (truth true) (refl, (refl, (refl, (refl, tt)))) refl (λ cs is. rw is refl) follows
   operand_again t (literal (truth false)) rest h follows = ap (λ (l : List ℕ). read (l ++ rest)) h.1 ∙ word_again (codes "false") rest (truth false) (refl, (refl, (refl, (refl, (refl, tt))))) refl (λ cs is. rw is refl) follows
   operand_again t (literal null) rest h follows = ap (λ (l : List ℕ). read (l ++ rest)) h.1 ∙ word_again (codes "null") rest null (refl, (refl, (refl, (refl, tt)))) refl (λ cs is. rw is refl) follows

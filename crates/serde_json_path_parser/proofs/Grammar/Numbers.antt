@@ -1,6 +1,6 @@
 -- Integers and number literals: what is read is one, each is read, and where a refusal of one stands.
-use Rattle.serde_json_path_parser.proofs.Words.{nat_le, ◌==◌, ℤ, pos, negsuc, ints, largest, ExpectedSelector, IntegerOutOfRange, is_at, cases_Bool, begins, is_blank, is_digit, value_from, IsDecimal, IsInt, front, past, byte_count, is_first_digit, read_digits, negative, read_int, begins_int, ◌||◌, ◌-ℤ◌, encode_utf8, ExpectedExpression, ExponentOrEmptyFraction, FractionTooLong, NumberOutOfRange, AllPass, fraction_of, IsFraction, IsAmount, IsNumber, refusal_at, is_exponent, read_whole, read_digits_after_point, read_fraction, read_amount, greatest_amount, read_number, mul-le-mul_right, mul-lt-mul_of_pos_right, le-mul_of_pos_right, one-le-pow, pow-succ', length-append, pow-add, encode_ascii, encode_utf8_all, ◌≡◌, ℕ, zero, suc, ◌+◌, ◌-◌, ◌*◌, ◌≤◌, inl, inr, Bool, true, false, List, [], ◌∷◌, ◌++◌, drop, Ok, refl, sym, ap, ◌∙◌, arith, ◌^◌, length, Err, append_assoc, ◌<◌, min, LongHand}
-use Rattle.serde_json_path_parser.proofs.Reading.{begins_where, differs, begins_differs, no_blank, whole, front_each, front_begins, front_begins_not, front_all, past_run, value_least, some_begun, begins_front, Read, after_one, Plain, OutcomeIn, Outcome, gives, choose, guarded, past_in, made, refused, onward, after_in}
+use Rattle.serde_json_path_parser.proofs.Words.{nat_le, ◌==◌, ℤ, pos, negsuc, ints, largest, ExpectedSelector, IntegerOutOfRange, is_at, cases_Bool, begins, is_blank, is_digit, value_from, IsDecimal, IsInt, front, past, byte_count, is_first_digit, read_digits, negative, read_int, begins_int, ◌||◌, ◌-ℤ◌, encode_utf8, ExpectedExpression, ExponentOrEmptyFraction, FractionTooLong, NumberOutOfRange, AllPass, AreDigits, fraction_of, IsFraction, IsAmount, IsNumber, refusal_at, is_exponent, read_whole, read_digits_after_point, read_fraction, read_amount, greatest_amount, read_billionths, read_whole_text, mul-le-mul_right, mul-lt-mul_of_pos_right, le-mul_of_pos_right, one-le-pow, pow-succ', length-append, pow-add, encode_ascii, encode_utf8_all, ◌≡◌, ℕ, zero, suc, ◌+◌, ◌-◌, ◌*◌, ◌≤◌, inl, inr, Bool, true, false, List, [], ◌∷◌, ◌++◌, drop, Ok, refl, sym, ap, ◌∙◌, arith, ◌^◌, length, Err, append_assoc, ◌<◌, min, LongHand}
+use Rattle.serde_json_path_parser.proofs.Reading.{begins_where, differs, begins_differs, no_blank, whole, front_each, front_begins, front_begins_not, front_all, past_run, value_least, some_begun, begins_front, after_one, Plain, OutcomeIn, Outcome, gives, choose, guarded, past_in, made, refused, onward, after_in}
 use Rattle.serde_json_path_syntax.specs.WellFormed.{IsLiteralAmount}
 
 -- ---- first digits
@@ -16,17 +16,17 @@ some_value (c ∷ cs) e =
 
 -- ---- what a reading gives
 
+-- a whole number, which is worth what its digits write
+abbrev pub IsWhole : List ℕ → Type 0
+IsWhole text = IsDecimal text (value_from 0 text)
+
 -- digits that are read whole, the first of them not `0`
-pub decimal_read : (cs : List ℕ) → begins is_first_digit cs ≡ true → Read IsDecimal cs (value_from 0 (front is_digit cs), past is_digit cs)
-decimal_read cs first = record {
-  text = front is_digit cs;
-  is_so = record {
-    first = front_begins is_digit is_digit cs (λ c d. d) (begins_where is_first_digit is_digit true cs first_is_digit first);
-    passes = front_each is_digit cs;
-    plain = inr (front_begins_not is_digit (λ c. c == 48) cs (begins_differs is_first_digit 48 cs refl first));
-    value_of = refl;
-  };
-  split = whole is_digit cs;
+front_is_whole : (cs : List ℕ) → begins is_first_digit cs ≡ true → IsWhole (front is_digit cs)
+front_is_whole cs first = record {
+  first = front_begins is_digit is_digit cs (λ c d. d) (begins_where is_first_digit is_digit true cs first_is_digit first);
+  passes = front_each is_digit cs;
+  plain = inr (front_begins_not is_digit (λ c. c == 48) cs (begins_differs is_first_digit 48 cs refl first));
+  value_of = refl;
 }
 
 -- that many digits, which are not 0, and no more than an integer may be
@@ -35,9 +35,8 @@ IsPositive t n = IsDecimal t n × (1 ≤ n) × (n ≤ largest)
 
 digits_outcome : (start cs : List ℕ) → begins is_first_digit cs ≡ true → OutcomeIn IsPositive Plain start cs (read_digits (byte_count start) cs)
 digits_outcome start cs first = guarded IntegerOutOfRange LongHand refl (λ e.
-    let r = decimal_read cs first in
     let most : value_from 0 (front is_digit cs) ≤ largest = grind (arith, e) in
-    gives _ (record { text = r.text; is_so = (r.is_so, some_value cs first, most); split = r.split }))
+    gives _ (record { text = front is_digit cs; is_so = (front_is_whole cs first, some_value cs first, most); split = whole is_digit cs }))
 
 negative_is : (text : List ℕ) (n : ℕ) → IsPositive text n → IsInt (45 ∷ text) (negative n)
 negative_is text zero (d, some, most) = absurd (omega (arith, some))
@@ -100,18 +99,29 @@ int_no_blank t i rest is = int_first is_blank false t i rest (λ c e. no_blank b
 
 -- ---- what a reading gives, of a number that begins at start
 
+-- a text that is given as it stands
+abbrev pub AsText : (List ℕ → Type 0) → List ℕ → List ℕ → Type 0
+AsText is text given = (given ≡ text) × is text
+
+pub whole_text_outcome : (start cs : List ℕ) → OutcomeIn (AsText IsWhole) Plain start cs (read_whole_text (byte_count start) cs)
+whole_text_outcome start cs =
+    choose (λ e. gives (48 ∷ [], drop 1 cs) (record { text = 48 ∷ []; is_so = (refl, zero_is); split = after_one 48 cs e })) (λ _.
+    guarded ExpectedExpression LongHand refl (λ e. gives _ (record { text = front is_digit cs; is_so = (refl, front_is_whole cs e); split = whole is_digit cs })))
+
 whole_outcome : (start cs : List ℕ) → OutcomeIn IsDecimal Plain start cs (read_whole (byte_count start) cs)
-whole_outcome start cs =
-    choose (λ e. gives (0, drop 1 cs) (record { text = 48 ∷ []; is_so = zero_is; split = after_one 48 cs e })) (λ _. guarded ExpectedExpression LongHand refl (λ e. gives _ (decimal_read cs e)))
+whole_outcome start cs = made (value_from 0) (λ t n is. rw is.0 is.1) (whole_text_outcome start cs)
+
+pub front_are_digits : (cs : List ℕ) → begins is_digit cs ≡ true → AreDigits (front is_digit cs)
+front_are_digits cs some = (front_each is_digit cs, some_begun is_digit (front is_digit cs) (front_begins is_digit is_digit cs (λ c d. d) some))
 
 fraction_digits_outcome : (start cs : List ℕ) → OutcomeIn (λ t n. IsFraction (46 ∷ t) n) Plain start cs (read_digits_after_point (byte_count start) cs)
 fraction_digits_outcome start cs =
     guarded ExponentOrEmptyFraction LongHand refl (λ some.
     choose (λ _. refused ExponentOrEmptyFraction LongHand refl) (λ _.
     guarded FractionTooLong LongHand refl (λ (few : nat_le (length (front is_digit cs)) 9 ≡ true).
-    let least : 1 ≤ length (front is_digit cs) = some_begun is_digit (front is_digit cs) (front_begins is_digit is_digit cs (λ c d. d) some) in
+    let are = front_are_digits cs some in
     let most : length (front is_digit cs) ≤ 9 = grind (arith, few) in
-    gives _ (record { text = front is_digit cs; is_so = inr (front is_digit cs, refl, front_each is_digit cs, least, most, refl); split = whole is_digit cs }))))
+    gives _ (record { text = front is_digit cs; is_so = inr (front is_digit cs, refl, are.0, are.1, most, refl); split = whole is_digit cs }))))
 
 fraction_outcome : (start cs : List ℕ) → OutcomeIn IsFraction Plain start cs (read_fraction (byte_count start) cs)
 unfolding read_fraction
@@ -130,8 +140,8 @@ negative_in_range n e = let most : n ≤ 2 ^ 63 * 1000000000 = grind (arith, e) 
 positive_in_range : (n : ℕ) → nat_le n greatest_amount ≡ true → IsLiteralAmount (pos n)
 positive_in_range n e = let most : n ≤ greatest_amount = grind (arith, e) in (omega (arith, ints, most), omega (arith, ints, most))
 
-pub number_outcome : (cs : List ℕ) → Outcome IsNumber Plain cs (read_number cs)
-number_outcome cs =
+pub billionths_outcome : (cs : List ℕ) → Outcome IsNumber Plain cs (read_billionths cs)
+billionths_outcome cs =
     choose (λ e. past_in (45 ∷ []) (after_one 45 cs e) (onward (amount_outcome cs (drop 1 cs)) (λ n f r. guarded NumberOutOfRange LongHand refl (λ most.
     gives _ (record { text = r.text; is_so = ((n.0, inr (r.text, r.is_so, refl, refl)), negative_in_range n.0 most); split = r.split }))))) (λ _.
     onward (amount_outcome cs cs) (λ n f r. guarded NumberOutOfRange LongHand refl (λ most.
@@ -144,23 +154,24 @@ abbrev pub goes_on : ℕ → Bool
 goes_on c = is_digit c || c == 46 || is_exponent c
 
 -- a list that begins with no such character begins with no part of a number
-no_part : (cs : List ℕ) → begins goes_on cs ≡ false → (begins is_digit cs ≡ false) × (is_at "." cs ≡ false) × (begins is_exponent cs ≡ false)
+pub no_part : (cs : List ℕ) → begins goes_on cs ≡ false → (begins is_digit cs ≡ false) × (is_at "." cs ≡ false) × (begins is_exponent cs ≡ false)
 no_part [] e = (refl, refl, refl)
 no_part (c ∷ cs) e = (grind (arith, e), grind (arith, e), grind (arith, e))
 
-whole_again : (start t : List ℕ) (n : ℕ) (rest : List ℕ) → IsDecimal t n → begins is_digit rest ≡ false → read_whole (byte_count start) (t ++ rest) ≡ Ok (n, rest)
-whole_again start t n rest d e = elim d.plain [
-  | inl z ↦
-      let none : n ≡ 0 = d.value_of ∙ ap (value_from 0) z in
-      ap (λ (l : List ℕ). read_whole (byte_count start) (l ++ rest)) z ∙ ap (λ (k : ℕ). Ok (k, rest)) (sym none)
+pub whole_text_again : (start t : List ℕ) (n : ℕ) (rest : List ℕ) → IsDecimal t n → begins is_digit rest ≡ false → read_whole_text (byte_count start) (t ++ rest) ≡ Ok (t, rest)
+whole_text_again start t n rest d e = elim d.plain [
+  | inl z ↦ rw z refl
   | inr z ↦
       let first = first_digit t rest d.first z in
-      rw (begins_differs is_first_digit 48 (t ++ rest) refl first, first, front_all is_digit t rest d.passes e, past_run is_digit t rest d.passes e) (ap (λ (k : ℕ). Ok (k, rest)) (sym d.value_of))
+      rw (begins_differs is_first_digit 48 (t ++ rest) refl first, first, front_all is_digit t rest d.passes e, past_run is_digit t rest d.passes e) refl
 ]
 
-digits_begin : (digits rest : List ℕ) → 1 ≤ length digits → AllPass is_digit digits → begins is_digit (digits ++ rest) ≡ true
-digits_begin [] rest some passes = absurd (omega (arith, some))
-digits_begin (c ∷ digits) rest some passes = passes.0
+whole_again : (start t : List ℕ) (n : ℕ) (rest : List ℕ) → IsDecimal t n → begins is_digit rest ≡ false → read_whole (byte_count start) (t ++ rest) ≡ Ok (n, rest)
+whole_again start t n rest d e = rw (whole_text_again start t n rest d e) (ap (λ (k : ℕ). Ok (k, rest)) (sym d.value_of))
+
+pub digits_begin : (digits rest : List ℕ) → AreDigits digits → begins is_digit (digits ++ rest) ≡ true
+digits_begin [] rest are = absurd (let some = are.1 in omega (arith, some))
+digits_begin (c ∷ digits) rest are = are.0.0
 
 fraction_again : (start t : List ℕ) (n : ℕ) (rest : List ℕ) → IsFraction t n → begins goes_on rest ≡ false → read_fraction (byte_count start) (t ++ rest) ≡ Ok (n, rest)
 unfolding read_fraction
@@ -169,7 +180,7 @@ fraction_again start t n rest is e = elim is [
   | inr some ↦
       let few : nat_le (length some.0) 9 ≡ true = let most = some.4 in grind (arith, most) in
       ap (λ (l : List ℕ). read_fraction (byte_count start) (l ++ rest)) some.1
-      ∙ rw (digits_begin some.0 rest some.3 some.2, front_all is_digit some.0 rest some.2 (no_part rest e).0, past_run is_digit some.0 rest some.2 (no_part rest e).0, (no_part rest e).2, few)
+      ∙ rw (digits_begin some.0 rest (some.2, some.3), front_all is_digit some.0 rest some.2 (no_part rest e).0, past_run is_digit some.0 rest some.2 (no_part rest e).0, (no_part rest e).2, few)
       (ap (λ (k : ℕ). Ok (k, rest)) (sym some.5))
 ]
 
@@ -187,19 +198,22 @@ amount_again start t n rest is e =
     let read = whole_again start is.0 is.2 (is.1 ++ rest) is.4 (failures is.1 is.3 rest is.5 (no_part rest e).0) in
     ap (read_amount (byte_count start)) regrouped ∙ rw (read, fraction_again start is.1 is.3 rest is.5 e) (ap (λ (k : ℕ). Ok (k, rest)) (sym is.7))
 
+pub decimal_first : (p : ℕ → Bool) (b : Bool) (t : List ℕ) (n : ℕ) (rest : List ℕ) → ((c : ℕ) → is_digit c ≡ true → p c ≡ b) → IsDecimal t n → begins p (t ++ rest) ≡ b
+decimal_first p b t n rest h is =
+    begins_where is_digit p b (t ++ rest) h (begins_front is_digit true t rest (some_begun is_digit t is.first) is.first)
+
 amount_first : (p : ℕ → Bool) (b : Bool) (t : List ℕ) (n : ℕ) (rest : List ℕ) → ((c : ℕ) → is_digit c ≡ true → p c ≡ b) → IsAmount t n → begins p (t ++ rest) ≡ b
 amount_first p b t n rest h is =
     let regrouped : t ++ rest ≡ is.0 ++ (is.1 ++ rest) = ap (λ (l : List ℕ). l ++ rest) is.6 ∙ append_assoc is.0 is.1 rest in
-    let first = begins_front is_digit true is.0 (is.1 ++ rest) (some_begun is_digit is.0 is.4.first) is.4.first in
-    ap (begins p) regrouped ∙ begins_where is_digit p b (is.0 ++ (is.1 ++ rest)) h first
+    ap (begins p) regrouped ∙ decimal_first p b is.0 is.2 (is.1 ++ rest) h is.4
 
-pub number_again : (t : List ℕ) (amount : ℤ) (rest : List ℕ) → IsNumber t amount → begins goes_on rest ≡ false → read_number (t ++ rest) ≡ Ok (amount, rest)
-number_again t amount rest ((n, inl (is, same)), in_range) e =
+pub billionths_again : (t : List ℕ) (amount : ℤ) (rest : List ℕ) → IsNumber t amount → begins goes_on rest ≡ false → read_billionths (t ++ rest) ≡ Ok (amount, rest)
+billionths_again t amount rest ((n, inl (is, same)), in_range) e =
     let most : n ≤ greatest_amount = let within = in_range.1 in omega (arith, ints, within, same) in
     let judged : nat_le n greatest_amount ≡ true = grind (arith, most) in
     let no_sign = amount_first (λ c. c == 45) false t n rest (λ c d. differs is_digit 45 c refl d) is in
     rw (no_sign, amount_again (t ++ rest) t n rest is e, judged) (ap (λ (i : ℤ). Ok (i, rest)) (sym same))
-number_again t amount rest ((n, inr (digits, is, whole, same)), in_range) e =
+billionths_again t amount rest ((n, inr (digits, is, whole, same)), in_range) e =
     let most : n ≤ 2 ^ 63 * 1000000000 = let within = in_range.0 in omega (arith, ints, within, same) in
     let judged : nat_le n (2 ^ 63 * 1000000000) ≡ true = grind (arith, most) in
     rw (whole, amount_again (45 ∷ (digits ++ rest)) digits n rest is e, judged) (ap (λ (i : ℤ). Ok (i, rest)) (sym same))
@@ -207,8 +221,8 @@ number_again t amount rest ((n, inr (digits, is, whole, same)), in_range) e =
 -- ---- how a number begins
 
 -- each character that may begin a number answers so, and a number with it
-pub number_first : (p : ℕ → Bool) (b : Bool) (t : List ℕ) (amount : ℤ) (rest : List ℕ) → ((c : ℕ) → begins_int c ≡ true → p c ≡ b) → IsNumber t amount → begins p (t ++ rest) ≡ b
-number_first p b t amount rest h is = elim is.0.1 [
+pub billionths_first : (p : ℕ → Bool) (b : Bool) (t : List ℕ) (amount : ℤ) (rest : List ℕ) → ((c : ℕ) → begins_int c ≡ true → p c ≡ b) → IsNumber t amount → begins p (t ++ rest) ≡ b
+billionths_first p b t amount rest h is = elim is.0.1 [
   | inl above ↦ amount_first p b t is.0.0 rest (λ c d. h c (digit_begins c d)) above.0
   | inr below ↦ ap (λ (l : List ℕ). begins p (l ++ rest)) below.2 ∙ h 45 refl
 ]

@@ -1,11 +1,18 @@
 -- Numbers, slices and literals, as they are printed, read as themselves.
-use Rattle.serde_json_path_parser.proofs.Words.{ℤ, pos, negsuc, ◌-ℤ◌, decimal, signed_decimal, AllByRecursion, pow-succ', mul-sub, mul_comm, mul_assoc, nat_tests, eqb_tells, ints, pow-add, in_decimal, largest, fraction_digits, fraction_text, amount_text, number_text, begins, is_digit, AllPass, value_from, IsDecimal, IsInt, fraction_of, IsFraction, IsAmount, IsNumber, all_scalars, Slice, Literal, text, number, truth, null, integer_text, slice_step_text, slice_text, literal_text, IsBound, IsSliceStep, IsSlice, IsLiteral, ◌≡◌, ◌≤◌, ◌<◌, ◌+◌, ◌-◌, ◌*◌, ◌/◌, ◌%◌, ◌^◌, ◌==◌, ℕ, zero, suc, inl, inr, Bool, true, false, if◌then◌else◌, List, [], ◌∷◌, length, map, get_or, refl, sym, ap, subst, ◌∙◌, arith, ◌++◌, Option, Some, None, codes, append_assoc, append-nil}
+use Rattle.serde_json_path_parser.proofs.Words.{AreDigits, AreSignedDigits, IsNumeral, IsNumberLiteral, held_as, Numbers, whole_numbers, all_numbers, billionths, scan, sign_text, unsigned_abs, cases_Bool, one-le-pow, ℤ, pos, negsuc, ◌-ℤ◌, decimal, signed_decimal, AllByRecursion, pow-succ', mul-sub, mul_comm, mul_assoc, nat_tests, eqb_tells, ints, pow-add, in_decimal, largest, fraction_digits, fraction_text, amount_text, number_text, begins, is_digit, AllPass, value_from, IsDecimal, IsInt, fraction_of, IsFraction, IsAmount, IsNumber, all_scalars, Slice, Literal, text, number, truth, null, integer_text, slice_step_text, slice_text, literal_text, IsBound, IsSliceStep, IsSlice, IsLiteral, ◌≡◌, ◌≤◌, ◌<◌, ◌+◌, ◌-◌, ◌*◌, ◌/◌, ◌%◌, ◌^◌, ◌==◌, ℕ, zero, suc, inl, inr, Bool, true, false, if◌then◌else◌, List, [], ◌∷◌, length, map, get_or, refl, sym, ap, subst, ◌∙◌, arith, ◌++◌, Option, Some, None, codes, append_assoc, append-nil}
 use Rattle.std.specs.Int.Digits.{digits_of, number_from_digits_after, AllBelowBase}
 use Rattle.std.proofs.lemmas.Fmt.{decimal_digit, decimal-digits_of}
 use Rattle.std.proofs.lemmas.Int.Digits.{all_below_base_digits_of, first_digits_of, number_digits_of}
 use Rattle.serde_json_path_parser.proofs.Grammar.Numbers.{zero_is}
 use Rattle.serde_json_path_parser.proofs.Printing.QuotedTexts.{Spells, Spelt, spell_nothing, spell_both, spell_ascii, spell_sign, spelt_nothing, spelt_as, spelt_after, string_spelt}
+use Rattle.serde_json_path_parser.proofs.Grammar.Numerals.{plain_read}
+use Rattle.serde_json_path_parser.proofs.Reading.{some_begun}
+use Rattle.serde_json_path_numbers.proofs.ReadBack.{held_in_range, read_back}
+use Rattle.serde_json_path_numbers.specs.Decimals.{Decimal, decimal_text, has_point, place_digits, size_text}
+use Rattle.serde_json_path_numbers.specs.Numerals as amount
 use Rattle.serde_json_path_syntax.specs.Tree as tree
+use Rattle.serde_json_path_syntax.specs.WellFormed.{IsLiteralAmount}
+use Rattle.std.proofs.Common.{div-le_self, div-lt_iff_lt-mul, mod-lt}
 
 -- ---- digits
 
@@ -31,13 +38,13 @@ digits_value n (d ∷ ds) =
 -- ---- natural numbers and integers
 
 -- the text is a decimal number of ASCII
-abbrev IsNumeral : ℕ → List ℕ → Type 0
-IsNumeral n t = IsDecimal t n × Spells t t
+abbrev IsPrinted : ℕ → List ℕ → Type 0
+IsPrinted n t = IsDecimal t n × Spells t t
 
-zero_numeral : IsNumeral 0 (48 ∷ [])
+zero_numeral : IsPrinted 0 (48 ∷ [])
 zero_numeral = (zero_is, spell_ascii (48 ∷ []) (omega arith, tt))
 
-digits_numeral : (n : ℕ) → 0 < n → IsNumeral n (map (λ digit. 48 + digit) (digits_of 10 n))
+digits_numeral : (n : ℕ) → 0 < n → IsPrinted n (map (λ digit. 48 + digit) (digits_of 10 n))
 digits_numeral n some =
     let digits = digits_of 10 n in
     let below = all_below_base_digits_of 10 n (omega arith) in
@@ -46,7 +53,7 @@ digits_numeral n some =
     (record { first = first.0; passes = passes.0; plain = inr first.1; value_of = sym (digits_value 0 digits ∙ number_digits_of 10 n (omega arith)) }, spell_ascii _ passes.1)
 
 -- a position as it is printed in a location
-in_decimal_is : (n : ℕ) → IsNumeral n (in_decimal n)
+in_decimal_is : (n : ℕ) → IsPrinted n (in_decimal n)
 unfolding in_decimal
 in_decimal_is zero = zero_numeral
 in_decimal_is (suc n) = digits_numeral (suc n) (omega arith)
@@ -57,9 +64,9 @@ position_spelt n most =
     record { characters = in_decimal n; spells = d.1; is_so = (d.0, (omega (arith, ints, most), omega (arith, ints, most))) }
 
 -- a number as std prints it
-decimal_is : (n : ℕ) → n < 2 ^ 64 → IsNumeral n (decimal n)
-decimal_is zero fits = subst (IsNumeral 0) (sym (decimal_digit 0 (omega arith))) zero_numeral
-decimal_is (suc n) fits = subst (IsNumeral (suc n)) (sym (decimal-digits_of (suc n) (omega arith) fits)) (digits_numeral (suc n) (omega arith))
+decimal_is : (n : ℕ) → n < 2 ^ 64 → IsPrinted n (decimal n)
+decimal_is zero fits = subst (IsPrinted 0) (sym (decimal_digit 0 (omega arith))) zero_numeral
+decimal_is (suc n) fits = subst (IsPrinted (suc n)) (sym (decimal-digits_of (suc n) (omega arith) fits)) (digits_numeral (suc n) (omega arith))
 
 -- an integer is printed as it reads
 pub int_spelt : (t : List ℕ) (i : ℤ) → IsInt t i → Spelt (λ t. IsInt t i) (signed_decimal i)
@@ -177,16 +184,72 @@ amount_is n small =
     )
 
 -- a number in the range is printed as it reads
-pub number_spelt : (t : List ℕ) (amount : ℤ) → IsNumber t amount → Spelt (λ t. IsNumber t amount) (number_text amount)
-number_spelt t (pos n) is =
-    let small : n < 2 ^ 64 * 1000000000 = let most = is.1.1 in omega (arith, ints, most) in
+number_spelt : (b : ℤ) → IsLiteralAmount b → Spelt (λ t. IsNumber t b) (number_text b)
+number_spelt (pos n) range =
+    let small : n < 2 ^ 64 * 1000000000 = let most = range.1 in omega (arith, ints, most) in
     let a = amount_is n small in
-    record { characters = amount_text n; spells = a.1; is_so = ((n, inl (a.0, refl)), is.1) }
-number_spelt t (negsuc n) is =
-    let small : suc n < 2 ^ 64 * 1000000000 = let least = is.1.0 in omega (arith, ints, least) in
+    record { characters = amount_text n; spells = a.1; is_so = ((n, inl (a.0, refl)), range) }
+number_spelt (negsuc n) range =
+    let small : suc n < 2 ^ 64 * 1000000000 = let least = range.0 in omega (arith, ints, least) in
     let a = amount_is (suc n) small in
     let less : negsuc n ≡ pos 0 -ℤ pos (suc n) = omega (arith, ints) in
-    spelt_after (spell_sign 45 (omega arith)) (record { characters = amount_text (suc n); spells = a.1; is_so = a.0 }) (λ t amount. ((suc n, inr (t, amount, refl, less)), is.1))
+    spelt_after (spell_sign 45 (omega arith)) (record { characters = amount_text (suc n); spells = a.1; is_so = a.0 }) (λ t amount. ((suc n, inr (t, amount, refl, less)), range))
+
+billionths_spelt : (rule : Numbers) (t : List ℕ) (b : ℤ) → IsNumberLiteral rule t (billionths b) → Spelt (λ t. IsNumberLiteral rule t (billionths b)) (number_text b)
+billionths_spelt whole_numbers t b is = number_spelt b is.1
+billionths_spelt all_numbers t b (negative, numeral, is, same, held) = spelt_as (λ t is. plain_read t b is) (number_spelt b (held_in_range negative (scan numeral) b held))
+
+-- ---- decimals
+
+-- the text is a numeral of ASCII
+abbrev IsSize : List ℕ → Type 0
+IsSize t = IsNumeral t × Spells t t
+
+-- a number's digits
+digits_are : (n : ℕ) → n < 2 ^ 64 → AreDigits (decimal n) × Spells (decimal n) (decimal n)
+digits_are n fits = let d = decimal_is n fits in ((d.0.passes, some_begun is_digit (decimal n) d.0.first), d.1)
+
+exponent_is : (e : ℤ) → unsigned_abs e ≤ 1000 → AreSignedDigits (signed_decimal e) × Spells (signed_decimal e) (signed_decimal e)
+exponent_is (pos n) low = let d = digits_are n (omega (arith, low)) in (inl d.0, d.1)
+exponent_is (negsuc n) low = let d = digits_are (suc n) (omega (arith, low)) in (inr (45, decimal (suc n), refl, d.0, refl), spell_both (spell_sign 45 (omega arith)) d.1)
+
+with_exponent : (n : ℕ) (e : ℤ) → n < 2 ^ 64 → unsigned_abs e ≤ 1000 → IsSize (decimal n ++ (101 ∷ signed_decimal e))
+with_exponent n e fits low =
+    let d = decimal_is n fits in
+    let x = exponent_is e low in
+    ((decimal n, [], 101 ∷ signed_decimal e, n, d.0, inl refl, inr (101, signed_decimal e, refl, x.0, refl), refl), spell_both d.1 (spell_both (spell_sign 101 (omega arith)) x.1))
+
+places_are : (k n : ℕ) → n < 10 ^ k → AllPass is_digit (place_digits k n) × (length (place_digits k n) ≡ k) × Spells (place_digits k n) (place_digits k n)
+places_are zero n small = (tt, refl, spell_nothing)
+places_are (suc k) n small =
+    let first = n / 10 ^ k in
+    let digit : first < 10 = (div-lt_iff_lt-mul (one-le-pow k 10 (omega arith))).1 (omega (arith, small, pow-succ' 10 k)) in
+    let rest = places_are k (n % 10 ^ k) (mod-lt n (one-le-pow k 10 (omega arith))) in
+    rw (decimal_digit first digit) ((digit_is first digit, rest.0), ap suc rest.1, spell_both (spell_sign (48 + first) (omega (arith, digit))) rest.2)
+
+with_point : (n k : ℕ) → n < 2 ^ 64 → IsSize (decimal (n / 10 ^ suc k) ++ (46 ∷ place_digits (suc k) (n % 10 ^ suc k)))
+with_point n k fits =
+    let front = n / 10 ^ suc k in
+    let d = decimal_is front (omega (arith, fits, div-le_self n (10 ^ suc k))) in
+    let rest = n % 10 ^ suc k in
+    let p = places_are (suc k) rest (mod-lt n (one-le-pow (suc k) 10 (omega arith))) in
+    let places = place_digits (suc k) rest in
+    ((decimal front, 46 ∷ places, [], front, d.0, inr (places, (p.0, omega (arith, p.1)), refl), inl refl, ap (λ (l : List ℕ). decimal front ++ l) (sym (append-nil (46 ∷ places)))), spell_both d.1 (spell_both (spell_sign 46 (omega arith)) p.2))
+
+size_is : (n : ℕ) (e : ℤ) → n < 2 ^ 64 → unsigned_abs e ≤ 1000 → IsSize (size_text n e)
+size_is n (pos k) fits low = with_exponent n (pos k) fits low
+size_is n (negsuc k) fits low = elim (cases_Bool (has_point n (negsuc k))) [ inl point ↦ rw point (with_point n k fits) | inr none ↦ rw none (with_exponent n (negsuc k) fits low) ]
+
+sign_spells : (negative : Bool) → Spells (sign_text negative) (sign_text negative)
+sign_spells true = spell_sign 45 (omega arith)
+sign_spells false = spell_nothing
+
+decimal_spelt : (rule : Numbers) (t : List ℕ) (d : Decimal) → IsNumberLiteral rule t (amount.decimal d) → Spelt (λ t. IsNumberLiteral rule t (amount.decimal d)) (decimal_text d)
+decimal_spelt whole_numbers t d is = absurd is
+decimal_spelt all_numbers t d (negative, numeral, is, same, held) =
+    let (sign, few, low, again) = read_back negative numeral d held in
+    let size = size_is d.digits d.exponent (omega (arith, few)) low in
+    record { characters = decimal_text d; spells = spell_both (sign_spells d.negative) size.1; is_so = (d.negative, size_text d.digits d.exponent, size.0, refl, ap (λ (s : Bool). held_as s (scan (size_text d.digits d.exponent))) sign ∙ again) }
 
 -- ---- slices and literals, as they are printed, read as themselves
 
@@ -212,10 +275,10 @@ slice_spelt s t (a, k, b, c, start, blank, end, step, split) =
       is_so = (x.characters, [], y.characters, z.characters, x.is_so, tt, y.is_so, z.is_so, simp append_assoc refl);
     }
 
-pub literal_spelt : (l : Literal) (t : List ℕ) → all_scalars t ≡ true → IsLiteral l t → Spelt (IsLiteral l) (literal_text l)
-literal_spelt (text bytes) t e h = string_spelt t bytes e h
-literal_spelt (number amount) t e h = number_spelt t amount h
-literal_spelt (tree.decimal d) t e h = absurd h
-literal_spelt (truth true) t e h = record { characters = codes "true"; spells = spell_ascii (codes "true") (omega arith, (omega arith, (omega arith, (omega arith, tt)))); is_so = refl }
-literal_spelt (truth false) t e h = record { characters = codes "false"; spells = spell_ascii (codes "false") (omega arith, (omega arith, (omega arith, (omega arith, (omega arith, tt))))); is_so = refl }
-literal_spelt null t e h = record { characters = codes "null"; spells = spell_ascii (codes "null") (omega arith, (omega arith, (omega arith, (omega arith, tt)))); is_so = refl }
+pub literal_spelt : (rule : Numbers) (l : Literal) (t : List ℕ) → all_scalars t ≡ true → IsLiteral rule l t → Spelt (IsLiteral rule l) (literal_text l)
+literal_spelt rule (text bytes) t e h = string_spelt t bytes e h
+literal_spelt rule (number b) t e h = billionths_spelt rule t b h
+literal_spelt rule (tree.decimal d) t e h = decimal_spelt rule t d h
+literal_spelt rule (truth true) t e h = record { characters = codes "true"; spells = spell_ascii (codes "true") (omega arith, (omega arith, (omega arith, (omega arith, tt)))); is_so = refl }
+literal_spelt rule (truth false) t e h = record { characters = codes "false"; spells = spell_ascii (codes "false") (omega arith, (omega arith, (omega arith, (omega arith, (omega arith, tt))))); is_so = refl }
+literal_spelt rule null t e h = record { characters = codes "null"; spells = spell_ascii (codes "null") (omega arith, (omega arith, (omega arith, (omega arith, tt)))); is_so = refl }

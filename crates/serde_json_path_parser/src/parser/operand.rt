@@ -111,9 +111,9 @@ impl<F: Functions> Parser<'_, F> {
             }
             Some(b'a'..=b'z') => self.parse_named(builder, reader),
             _ => {
-                let number = parse_number(reader)?;
+                let number = parse_number(self.alloc, reader, self.numbers)?;
                 reader.skip_blanks();
-                Ok(builder.literal(Literal::Number(number))?)
+                Ok(builder.literal(number)?)
             }
         }
     }

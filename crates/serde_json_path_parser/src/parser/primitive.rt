@@ -4,6 +4,7 @@ mod decimal;
 pub(crate) mod int;
 pub(crate) mod name;
 pub(crate) mod number;
+pub(crate) mod numeral;
 pub(crate) mod operator;
 pub(crate) mod string;
 pub(crate) mod word;

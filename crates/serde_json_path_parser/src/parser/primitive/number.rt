@@ -1,13 +1,19 @@
 //! Number literals.
 
 ghost use Rattle.std.specs.Prelude.{◌≡◌, ◌≤◌, ◌<◌, ℕ, List, length, IfOk};
-ghost use Rattle.serde_json_path_parser.specs.Inside.Words.{number_amount, IsAsRead, MovesTo, left, read_whole, read_fraction, read_amount, read_number, capped};
+ghost use Rattle.std.specs.Option.{option_map};
+ghost use Rattle.serde_json_path_functions.specs.Terms.{numbers_view};
+ghost use Rattle.serde_json_path_parser.specs.Inside.Words.{all_numbers, held_as, scan, literal_of, literal_view, number_amount, IsAsRead, MovesTo, left, read_whole, read_fraction, read_amount, read_billionths, read_number, capped};
 
 use crate::error::{Failure, ParseErrorKind as Kind};
 use crate::parser::primitive::decimal::parse_decimal;
+use crate::parser::primitive::numeral::parse_numeral;
 use crate::parser::reader::Reader;
 use crate::source::PathSource;
-use serde_json_path_syntax::NumberLiteral;
+use serde_json_path_functions::Numbers;
+use serde_json_path_numbers::{Amount, numeral_amount};
+use serde_json_path_syntax::{Literal, NumberLiteral};
+use std::alloc::Global;
 
 /// How many billionths one is.
 const ONE: u128 = 1_000_000_000;
@@ -74,13 +80,11 @@ fn parse_amount<S: PathSource>(reader: &mut Reader<'_, S>, place: usize) -> Resu
     Ok(whole.saturating_mul(ONE).saturating_add(fraction))
 }
 
-/// Parses a number literal from -2^63 to 2^64 - 1 (RFC 9535, section 2.3.5.1), from its first digit or its `-` on. It
-/// has no exponent, and at most nine digits after its point. Its digits are read whole before they are checked.
-pub(crate) fn parse_number<S: PathSource>(
-    reader: &mut Reader<'_, S>,
-) -> Result<NumberLiteral, Failure>
+/// Parses a number literal from -2^63 to 2^64 - 1, from its first digit or its `-` on. It has no exponent, and at most nine
+/// digits after its point. Its digits are read whole before they are checked.
+fn parse_billionths<S: PathSource>(reader: &mut Reader<'_, S>) -> Result<NumberLiteral, Failure>
     ensures moves { MovesTo result reader.old reader.new }
-    ensures gives { IsAsRead number_amount result reader.new (read_number (left reader.old)) }
+    ensures gives { IsAsRead number_amount result reader.new (read_billionths (left reader.old)) }
 {
     let place = reader.bytes_left();
     let is_negative = reader.sees(b'-');
@@ -92,5 +96,57 @@ pub(crate) fn parse_number<S: PathSource>(
     match NumberLiteral::from_billionths(signed) {
         Some(literal) => Ok(literal),
         None => Err(Failure::in_long_hand(Kind::NumberOutOfRange, place)),
+    }
+}
+
+/// The literal that a numeral with that sign is held as, unless it is beyond the greatest double.
+#[tactic(auto, using(serde_json_path_numbers::proofs::ReadBack::held_in_range))]
+fn literal_of(is_negative: bool, numeral: &str) -> Option<Literal>
+    ensures { option_map literal_view result
+        ≡ option_map literal_of (held_as is_negative (scan numeral.now)) }
+{
+    match numeral_amount(is_negative, numeral.as_bytes())? {
+        Amount::Billionths(amount) => {
+            let number = NumberLiteral::from_billionths(amount)?;
+            Some(Literal::Number(number))
+        }
+        Amount::Decimal(decimal) => Some(Literal::Decimal(decimal)),
+    }
+}
+
+/// Parses a number literal of any length, perhaps with an exponent, from its first digit or its `-` on.
+fn parse_held<S: PathSource>(
+    alloc: Global,
+    reader: &mut Reader<'_, S>,
+) -> Result<Literal, Failure>
+    ensures moves { MovesTo result reader.old reader.new }
+    ensures gives { IsAsRead literal_view result reader.new
+        (read_number all_numbers (left reader.old)) }
+{
+    let place = reader.bytes_left();
+    let is_negative = reader.sees(b'-');
+    if is_negative {
+        reader.take_char();
+    }
+    let numeral = parse_numeral(alloc, reader, place)?;
+    match literal_of(is_negative, numeral.as_str()) {
+        Some(literal) => Ok(literal),
+        None => Err(Failure::in_long_hand(Kind::NumberOutOfRange, place)),
+    }
+}
+
+/// Parses a number literal (RFC 9535, section 2.3.5.1). By whole numbers it takes no memory.
+pub(crate) fn parse_number<S: PathSource>(
+    alloc: Global,
+    reader: &mut Reader<'_, S>,
+    numbers: Numbers,
+) -> Result<Literal, Failure>
+    ensures moves { MovesTo result reader.old reader.new }
+    ensures gives { IsAsRead literal_view result reader.new
+        (read_number (numbers_view numbers) (left reader.old)) }
+{
+    match numbers {
+        Numbers::Whole => Ok(Literal::Number(parse_billionths(reader)?)),
+        Numbers::All => parse_held(alloc, reader),
     }
 }

@@ -1,0 +1,203 @@
+-- Numerals of any length, and number literals by either rule: what is read is one, each is read, and how one begins.
+use Rattle.serde_json_path_parser.proofs.Words.{Amount, IsAmount, IsDecimal, IsFraction, IsLiteral, IsNumber, IsNumberLiteral, IsNumeralOf, NumberOutOfRange, AllPass, Numbers, whole_numbers, all_numbers, as_literal, begins_int, billionths, held_as, literal_of, number, read_held, read_number, scan, sign_text, value_from, ints, append-nil, drop, length, Option, None, Some, ℤ, pos, if◌then◌else◌, ◌+◌, ◌-◌, ◌*◌, ◌^◌, ◌≤◌, eqb-true, ◌<◌, Err, encode_utf8, encode_ascii, ◌==◌, ◌≡◌, ℕ, Bool, true, false, List, [], ◌∷◌, ◌++◌, Ok, refl, sym, ap, ◌∙◌, inl, inr, arith, append_assoc, begins, is_digit, is_exponent, is_sign, is_at, byte_count, front, Parsed, with_front, after_first, AreDigits, AreSignedDigits, IsExponent, IsNumeral, IsPlaces, read_some_digits, read_places, read_signed_digits, read_exponent, read_numeral, ExponentOrEmptyFraction, LongHand}
+use Rattle.serde_json_path_parser.proofs.Reading.{whole, front_all, past_run, begins_where, differs, after_one, Plain, OutcomeIn, Outcome, Read, gives, choose, guarded, refused, onward, past_in, made, after_in, weaker}
+use Rattle.serde_json_path_parser.proofs.Grammar.Numbers.{billionths_outcome, billionths_again, billionths_first, digit_begins, AsText, goes_on, no_part, front_are_digits, digits_begin, whole_text_outcome, whole_text_again, decimal_first}
+use Rattle.serde_json_path_numbers.proofs.ReadBack.{plain_held}
+use Rattle.serde_json_path_numbers.specs.Numerals.{most_billionths}
+use Rattle.serde_json_path_numbers.specs.Numerals as amount
+use Rattle.std.specs.Prelude.{neg_ℤ}
+use Rattle.std.specs.Char.{digit_value}
+use Rattle.std.specs.Str.Parse.{AllDigits, digits_value, digits_value_after}
+use Rattle.std.proofs.lemmas.Str.{digit_value_digit}
+
+-- ---- what a reading gives, of a numeral that begins at start
+
+digits_outcome : (start cs : List ℕ) → OutcomeIn (AsText AreDigits) Plain start cs (read_some_digits (byte_count start) cs)
+digits_outcome start cs = guarded ExponentOrEmptyFraction LongHand refl (λ some.
+    gives _ (record { text = front is_digit cs; is_so = (refl, front_are_digits cs some); split = whole is_digit cs }))
+
+-- a character that passes, and what is read after it
+first_outcome : {Is Is_whole : List ℕ → Type 0} (p : ℕ → Bool) (start cs : List ℕ) (read : List ℕ → Parsed (List ℕ)) → ((c : ℕ) (t : List ℕ) → p c ≡ true → Is t → Is_whole (c ∷ t))
+    → ((ds : List ℕ) → OutcomeIn (AsText Is) Plain start ds (read ds)) → begins p cs ≡ true → OutcomeIn (AsText Is_whole) Plain start cs (after_first read cs)
+first_outcome p start [] read good each e = absurd cc
+first_outcome p start (c ∷ cs) read good each e =
+    past_in (c ∷ []) refl (made (λ n. c ∷ n) (λ t n is. (ap (λ (l : List ℕ). c ∷ l) is.0, good c t e is.1)) (each cs))
+
+none_outcome : {Is : List ℕ → Type 0} (start cs : List ℕ) → Is [] → OutcomeIn (AsText Is) Plain start cs (Ok ([], cs))
+none_outcome start cs is = gives ([], cs) (record { text = []; is_so = (refl, is); split = refl })
+
+places_outcome : (start cs : List ℕ) → OutcomeIn (AsText IsPlaces) Plain start cs (read_places (byte_count start) cs)
+unfolding read_places
+places_outcome start cs = choose
+    (first_outcome (λ c. c == 46) start cs (read_some_digits (byte_count start)) (λ c t e is. inr (t, is, ap (λ (k : ℕ). k ∷ t) (eqb-true c 46 e))) (digits_outcome start))
+    (λ _. none_outcome start cs (inl refl))
+
+signed_outcome : (start cs : List ℕ) → OutcomeIn (AsText AreSignedDigits) Plain start cs (read_signed_digits (byte_count start) cs)
+unfolding read_signed_digits
+signed_outcome start cs = choose
+    (first_outcome is_sign start cs (read_some_digits (byte_count start)) (λ c t e is. inr (c, t, e, is, refl)) (digits_outcome start))
+    (λ _. weaker (λ t n is. (is.0, inl is.1)) (digits_outcome start cs))
+
+exponent_outcome : (start cs : List ℕ) → OutcomeIn (AsText IsExponent) Plain start cs (read_exponent (byte_count start) cs)
+unfolding read_exponent
+exponent_outcome start cs = choose
+    (first_outcome is_exponent start cs (read_signed_digits (byte_count start)) (λ c t e is. inr (c, t, e, is, refl)) (signed_outcome start))
+    (λ _. none_outcome start cs (inl refl))
+
+pub numeral_outcome : (start cs : List ℕ) → OutcomeIn (AsText IsNumeral) Plain start cs (read_numeral (byte_count start) cs)
+unfolding read_numeral
+numeral_outcome start cs = after_in (whole_text_outcome start cs) (λ w _ a.
+    after_in (made {is_made = λ t n. (n ≡ a.text ++ t) × IsPlaces t} (λ n. w.0 ++ n) (λ t n is. (cc (is.0, a.is_so.0), is.1)) (places_outcome start w.1)) (λ p _ b.
+    made (λ n. p.0 ++ n) (λ t n is. (cc (is.0, b.is_so.0, append_assoc a.text b.text t), (a.text, b.text, t, _, a.is_so.1, b.is_so.1, is.1, refl))) (exponent_outcome start p.1)))
+
+-- ---- each numeral is read
+
+digits_again : (start : ℕ) (t rest : List ℕ) → AreDigits t → begins is_digit rest ≡ false → read_some_digits start (t ++ rest) ≡ Ok (t, rest)
+digits_again start t rest is e = rw (digits_begin t rest is, front_all is_digit t rest is.0 e, past_run is_digit t rest is.0 e) refl
+
+places_again : (start : ℕ) (t rest : List ℕ) → IsPlaces t → begins is_digit rest ≡ false → is_at "." rest ≡ false → read_places start (t ++ rest) ≡ Ok (t, rest)
+unfolding read_places
+places_again start t rest is e none = elim is [
+  | inl empty ↦ rw (empty, none) refl
+  | inr some ↦ rw (some.2, digits_again start some.0 rest some.1 e) refl
+]
+
+signed_again : (start : ℕ) (t rest : List ℕ) → AreSignedDigits t → begins is_digit rest ≡ false → read_signed_digits start (t ++ rest) ≡ Ok (t, rest)
+unfolding read_signed_digits
+signed_again start t rest is e = elim is [
+  | inl are ↦ rw (begins_where is_digit is_sign false (t ++ rest) (λ c d. grind (arith, d)) (digits_begin t rest are), digits_again start t rest are e) refl
+  | inr some ↦ rw (some.4, some.2, digits_again start some.1 rest some.3 e) refl
+]
+
+exponent_again : (start : ℕ) (t rest : List ℕ) → IsExponent t → begins is_digit rest ≡ false → begins is_exponent rest ≡ false → read_exponent start (t ++ rest) ≡ Ok (t, rest)
+unfolding read_exponent
+exponent_again start t rest is e none = elim is [
+  | inl empty ↦ rw (empty, none) refl
+  | inr some ↦ rw (some.4, some.2, signed_again start some.1 rest some.3 e) refl
+]
+
+-- no digit stands after a whole number, whatever follows
+no_digit : (t rest : List ℕ) → IsPlaces t → begins is_digit rest ≡ false → begins is_digit (t ++ rest) ≡ false
+no_digit t rest is e = elim is [ inl empty ↦ rw empty e | inr some ↦ rw some.2 refl ]
+
+-- what an exponent never begins with, its text and more does not, if the rest does not
+not_before : (p : ℕ → Bool) (t rest : List ℕ) → ((c : ℕ) → is_exponent c ≡ true → p c ≡ false) → IsExponent t → begins p rest ≡ false → begins p (t ++ rest) ≡ false
+not_before p t rest h is e = elim is [ inl empty ↦ rw empty e | inr some ↦ rw some.4 (h some.0 some.2) ]
+
+-- the parts of a numeral, and what follows
+parted : {t : List ℕ} (a b c rest : List ℕ) → t ≡ a ++ (b ++ c) → t ++ rest ≡ a ++ (b ++ (c ++ rest))
+parted a b c rest e = rw e (simp append_assoc refl)
+
+pub numeral_again : (start t rest : List ℕ) → IsNumeral t → begins goes_on rest ≡ false → read_numeral (byte_count start) (t ++ rest) ≡ Ok (t, rest)
+unfolding read_numeral
+numeral_again start t rest (a, b, c, n, is_whole, are_places, is_exp, same) e =
+    let (digit, point, exponent) = no_part rest e in
+    let none = not_before is_digit c rest (λ k x. grind (arith, x)) is_exp digit in
+    let no_point = not_before (λ k. k == 46) c rest (λ k x. differs is_exponent 46 k refl x) is_exp point in
+    rw (parted a b c rest same, whole_text_again start a n (b ++ (c ++ rest)) is_whole (no_digit b (c ++ rest) are_places none), places_again (byte_count start) b (c ++ rest) are_places none no_point, exponent_again (byte_count start) c rest is_exp digit exponent)
+    (ap (λ (l : List ℕ). Ok (l, rest)) (append_assoc a b c ∙ sym same))
+
+-- ---- how a numeral begins
+
+pub numeral_first : (p : ℕ → Bool) (b : Bool) (t rest : List ℕ) → ((c : ℕ) → is_digit c ≡ true → p c ≡ b) → IsNumeral t → begins p (t ++ rest) ≡ b
+numeral_first p b t rest h (a, q, c, n, is_whole, are_places, is_exp, same) =
+    rw (parted a q c rest same) (decimal_first p b a n (q ++ (c ++ rest)) h is_whole)
+
+-- ---- number literals, by either rule
+
+literal_is : (rule : Numbers) (t : List ℕ) (a : Amount) → IsNumberLiteral rule t a → IsLiteral rule (literal_of a) t
+literal_is rule t (billionths b) h = h
+literal_is rule t (amount.decimal d) h = h
+
+-- the literal of a numeral that begins at start, or its sign does
+held_outcome : (negative : Bool) (start cs : List ℕ) → OutcomeIn (λ t l. IsLiteral all_numbers l (sign_text negative ++ t)) Plain start cs (read_held negative start cs)
+held_outcome negative start cs = onward (numeral_outcome start cs) (λ t e r. held t r (held_as negative (scan t.0)) refl)
+  where
+    held : (t : List ℕ × List ℕ) → Read (AsText IsNumeral) cs t → (a : Option Amount) → held_as negative (scan t.0) ≡ a → OutcomeIn (λ t l. IsLiteral all_numbers l (sign_text negative ++ t)) Plain start cs (as_literal start a t.1)
+    held t r None e = refused NumberOutOfRange LongHand refl
+    held t r (Some a) e = gives (literal_of a, t.1) (record {
+      text = r.text;
+      is_so = literal_is all_numbers _ a (negative, r.text, r.is_so.1, refl, ap (λ (l : List ℕ). held_as negative (scan l)) (sym r.is_so.0) ∙ e);
+      split = r.split;
+    })
+
+pub number_outcome : (rule : Numbers) (cs : List ℕ) → Outcome (λ t l. IsLiteral rule l t) Plain cs (read_number rule cs)
+number_outcome whole_numbers cs = made (λ b. number b) (λ t b is. is) (billionths_outcome cs)
+number_outcome all_numbers cs = choose (λ e. past_in (45 ∷ []) (after_one 45 cs e) (held_outcome true cs (drop 1 cs))) (λ _. held_outcome false cs cs)
+
+pub number_again : (rule : Numbers) (t : List ℕ) (a : Amount) (rest : List ℕ) → IsNumberLiteral rule t a → begins goes_on rest ≡ false → read_number rule (t ++ rest) ≡ Ok (literal_of a, rest)
+number_again whole_numbers t (billionths b) rest is e = rw (billionths_again t b rest is e) refl
+number_again whole_numbers t (amount.decimal d) rest is e = absurd is
+number_again all_numbers t a rest (true, numeral, is, same, held) e = rw (same, numeral_again (45 ∷ (numeral ++ rest)) numeral rest is e, held) refl
+number_again all_numbers t a rest (false, numeral, is, same, held) e =
+    let no_sign = numeral_first (λ c. c == 45) false numeral rest (λ c d. differs is_digit 45 c refl d) is in
+    rw (same, no_sign, numeral_again (numeral ++ rest) numeral rest is e, held) refl
+
+-- each character that may begin a number answers so, and a number with it
+pub number_first : (rule : Numbers) (p : ℕ → Bool) (b : Bool) (t : List ℕ) (a : Amount) (rest : List ℕ) → ((c : ℕ) → begins_int c ≡ true → p c ≡ b) → IsNumberLiteral rule t a → begins p (t ++ rest) ≡ b
+number_first whole_numbers p b t (billionths n) rest h is = billionths_first p b t n rest h is
+number_first whole_numbers p b t (amount.decimal d) rest h is = absurd is
+number_first all_numbers p b t a rest h (true, numeral, is, same, held) = rw same (h 45 refl)
+number_first all_numbers p b t a rest h (false, numeral, is, same, held) = rw same (numeral_first p b numeral rest (λ c d. h c (digit_begins c d)) is)
+
+-- ---- what is read by whole numbers is read by all numbers
+
+-- the digits, as they are scanned, and what they write
+digits_are : (n : ℕ) (ds : List ℕ) → AllPass is_digit ds → AllDigits 10 ds × (digits_value_after 10 n ds ≡ value_from n ds)
+digits_are n [] passes = (tt, refl)
+digits_are n (c ∷ ds) passes =
+    let digit = passes.0 in
+    let least : 48 ≤ c = grind (arith, digit) in
+    let most : c ≤ 57 = grind (arith, digit) in
+    let is : digit_value c ≡ c - 48 = omega (arith, digit_value_digit c (least, most)) in
+    let rest = digits_are (n * 10 + (c - 48)) ds passes.1 in
+    rw is ((omega (arith, most), rest.0), rest.1)
+
+-- n, or -n
+abbrev signed : Bool → ℕ → ℤ
+signed negative n = if negative then neg_ℤ (pos n) else pos n
+
+fraction_places : (t : List ℕ) (n : ℕ) → IsFraction t n → IsPlaces t
+fraction_places t n is = elim is [ inl none ↦ inl none.0 | inr some ↦ inr (some.0, (some.2, some.3), some.1) ]
+
+fraction_held : (negative : Bool) (a b : List ℕ) (w f : ℕ) → IsDecimal a w → IsFraction b f → w * 1000000000 + f ≤ most_billionths negative
+    → held_as negative (scan (a ++ b)) ≡ Some (billionths (signed negative (w * 1000000000 + f)))
+fraction_held negative a b w f d is few =
+    let whole = digits_are 0 a d.passes in
+    let worth : digits_value 10 a ≡ w = whole.1 ∙ sym d.value_of in
+    elim is [
+      | inl none ↦
+          let value : digits_value 10 a * 1000000000 + digits_value 10 [] * 10 ^ 9 ≡ w * 1000000000 + f = omega (arith, worth, none.1) in
+          ap (λ (l : List ℕ). held_as negative (scan (a ++ l))) none.0 ∙ plain_held negative false a [] whole.0 tt (λ e. refl) (omega arith) (omega (arith, value, few)) ∙ ap (λ (n : ℕ). Some (billionths (signed negative n))) value
+      | inr some ↦
+          let digits = digits_are 0 some.0 some.2 in
+          let value : digits_value 10 a * 1000000000 + digits_value 10 some.0 * 10 ^ (9 - length some.0) ≡ w * 1000000000 + f = rw (worth, digits.1, some.5) refl in
+          ap (λ (l : List ℕ). held_as negative (scan (a ++ l))) some.1 ∙ plain_held negative true a some.0 whole.0 digits.0 (λ e. cc) some.4 (rw value few) ∙ ap (λ (n : ℕ). Some (billionths (signed negative n))) value
+    ]
+
+amount_held : (negative : Bool) (t : List ℕ) (n : ℕ) → IsAmount t n → n ≤ most_billionths negative → IsNumeral t × (held_as negative (scan t) ≡ Some (billionths (signed negative n)))
+amount_held negative t n (a, b, w, f, is_whole, is, same, sum) few = (
+  (a, b, [], w, is_whole, fraction_places b f is, inl refl, same ∙ ap (λ (l : List ℕ). a ++ l) (sym (append-nil b))),
+  rw (same, sum) (fraction_held negative a b w f is_whole is (rw (← sum) few)),
+)
+
+pub plain_read : (t : List ℕ) (b : ℤ) → IsNumber t b → IsNumeralOf t (billionths b)
+plain_read t b ((n, inl (is, same)), range) =
+    let h = amount_held false t n is (let most = range.1 in omega (arith, ints, most, same)) in
+    (false, t, h.0, refl, h.1 ∙ ap (λ (i : ℤ). Some (billionths i)) (sym same))
+plain_read t b ((n, inr (digits, is, whole, same)), range) =
+    let h = amount_held true digits n is (let least = range.0 in omega (arith, ints, least, same)) in
+    (true, digits, h.0, whole, h.1 ∙ ap (λ (i : ℤ). Some (billionths i)) (omega (arith, ints, same)))
+
+-- ---- as the code reads it
+
+with_both : (a b : List ℕ) (read : Parsed (List ℕ)) → with_front a (with_front b read) ≡ with_front (a ++ b) read
+with_both a b (Ok x) = ap (λ (l : List ℕ). Ok (l, x.1)) (sym (append_assoc a b x.0))
+with_both a b (Err r) = refl
+
+-- a first character that is one byte is taken into the text
+pub first_taken : {cs ds after : List ℕ} {c : ℕ} (p : ℕ → Bool) (read : List ℕ → Parsed (List ℕ)) (before : List ℕ) → ((k : ℕ) → p k ≡ true → k < 128) → cs ≡ c ∷ ds → begins p cs ≡ true
+    → after ≡ before ++ encode_utf8 c → with_front before (after_first read cs) ≡ with_front after (read ds)
+first_taken {c = c} p read before ascii e begun pushed =
+    let passes : p c ≡ true = sym (ap (begins p) e) ∙ begun in
+    rw (e, pushed, encode_ascii c (ascii c passes)) (with_both before (c ∷ []) (read _))

@@ -1,0 +1,98 @@
+-- What reads by whole numbers reads by all numbers, part by part.
+use Rattle.serde_json_path_parser.proofs.Words.{Query, query, Segments, no_segments, segment, SegmentKind, Segment, dot_name, dot_wildcard, long_hand, Selectors, no_selectors, selector, Selector, name, wildcard, index, slice, filter, LogicalOr, no_or, or, LogicalAnd, no_and, and, Basic, paren, relation, test, Operand, literal, queried, called, Call, call, Arguments, no_arguments, argument, Argument, operand, logical_argument, Literal, text, number, truth, null, whole_numbers, all_numbers, MayBeArgument, Reads, ReadSegments, ReadsSegment, ReadSelectors, ReadMoreSelectors, ReadsSelector, ReadsOr, ReadMoreOrs, ReadsAnd, ReadMoreAnds, ReadsBasic, ReadsOperand, ReadsCall, ReadArguments, ReadMoreArguments, ReadsArgument, Negated, IsLiteral, ℕ, List, Bool, true, false}
+use Rattle.serde_json_path_parser.proofs.Grammar.Numerals.{plain_read}
+use Rattle.serde_json_path_parser.specs.Laws.{AllNumbersReadMore}
+use Rattle.serde_json_path_syntax.specs.Tree as tree
+
+literal_more : (l : Literal) (t : List ℕ) → IsLiteral whole_numbers l t → IsLiteral all_numbers l t
+literal_more (number b) t h = plain_read t b h
+literal_more (tree.decimal d) t h = absurd h
+literal_more (text bytes) t h = h
+literal_more (truth true) t h = h
+literal_more (truth false) t h = h
+literal_more null t h = h
+
+-- by all numbers each operand may be an argument
+any_argument : (o : Operand) → MayBeArgument all_numbers o
+any_argument (literal (number b)) = tt
+any_argument (literal (tree.decimal d)) = tt
+any_argument (literal (text bytes)) = tt
+any_argument (literal (truth b)) = tt
+any_argument (literal null) = tt
+any_argument _ = tt
+
+negated_more : {Is More : List ℕ → Type 0} (negated : Bool) (t : List ℕ) → ((a : List ℕ) → Is a → More a) → Negated negated Is t → Negated negated More t
+negated_more false t more h = more t h
+negated_more true t more (k, a, blank, is, e) = (k, a, blank, more a is, e)
+
+mutual
+  query_more : (q : Query) (t : List ℕ) → Reads whole_numbers q t → Reads all_numbers q t
+  query_more (query kind segs) t (a, is, e) = (a, segments_more segs a is, e)
+
+  segments_more : (segs : Segments) (t : List ℕ) → ReadSegments whole_numbers segs t → ReadSegments all_numbers segs t
+  segments_more no_segments t h = h
+  segments_more (segment kind seg more) t (k, a, b, blank, is, are, e) = (k, a, b, blank, segment_more seg kind a is, segments_more more b are, e)
+
+  segment_more : (seg : Segment) (kind : SegmentKind) (t : List ℕ) → ReadsSegment whole_numbers seg kind t → ReadsSegment all_numbers seg kind t
+  segment_more (long_hand sels) kind t (j, a, k, before, are, after, e) = (j, a, k, before, selectors_more sels a are, after, e)
+  segment_more (dot_name bytes) kind t h = h
+  segment_more dot_wildcard kind t h = h
+
+  selectors_more : (sels : Selectors) (t : List ℕ) → ReadSelectors whole_numbers sels t → ReadSelectors all_numbers sels t
+  selectors_more no_selectors t h = h
+  selectors_more (selector sel more) t (a, b, is, are, e) = (a, b, selector_more sel a is, further_selectors more b are, e)
+
+  further_selectors : (sels : Selectors) (t : List ℕ) → ReadMoreSelectors whole_numbers sels t → ReadMoreSelectors all_numbers sels t
+  further_selectors no_selectors t h = h
+  further_selectors (selector sel more) t (s, a, b, sign, is, are, e) = (s, a, b, sign, selector_more sel a is, further_selectors more b are, e)
+
+  selector_more : (sel : Selector) (t : List ℕ) → ReadsSelector whole_numbers sel t → ReadsSelector all_numbers sel t
+  selector_more (filter x) t (k, a, blank, is, e) = (k, a, blank, or_more x a is, e)
+  selector_more (name bytes) t h = h
+  selector_more wildcard t h = h
+  selector_more (index i) t h = h
+  selector_more (slice s) t h = h
+
+  or_more : (x : LogicalOr) (t : List ℕ) → ReadsOr whole_numbers x t → ReadsOr all_numbers x t
+  or_more no_or t h = h
+  or_more (or part more) t (a, b, is, are, e) = (a, b, and_more part a is, further_ors more b are, e)
+
+  further_ors : (x : LogicalOr) (t : List ℕ) → ReadMoreOrs whole_numbers x t → ReadMoreOrs all_numbers x t
+  further_ors no_or t h = h
+  further_ors (or part more) t (s, a, b, sign, is, are, e) = (s, a, b, sign, and_more part a is, further_ors more b are, e)
+
+  and_more : (x : LogicalAnd) (t : List ℕ) → ReadsAnd whole_numbers x t → ReadsAnd all_numbers x t
+  and_more no_and t h = h
+  and_more (and part more) t (a, b, is, are, e) = (a, b, basic_more part a is, further_ands more b are, e)
+
+  further_ands : (x : LogicalAnd) (t : List ℕ) → ReadMoreAnds whole_numbers x t → ReadMoreAnds all_numbers x t
+  further_ands no_and t h = h
+  further_ands (and part more) t (s, a, b, sign, is, are, e) = (s, a, b, sign, basic_more part a is, further_ands more b are, e)
+
+  basic_more : (x : Basic) (t : List ℕ) → ReadsBasic whole_numbers x t → ReadsBasic all_numbers x t
+  basic_more (paren negated x) t h = negated_more negated t (λ t (j, a, k, before, is, after, e). (j, a, k, before, or_more x a is, after, e)) h
+  basic_more (relation left op right) t (a, s, b, x, sign, y, e) = (a, s, b, operand_more left a x, sign, operand_more right b y, e)
+  basic_more (test negated o) t h = negated_more negated t (λ t is. operand_more o t is) h
+
+  operand_more : (o : Operand) (t : List ℕ) → ReadsOperand whole_numbers o t → ReadsOperand all_numbers o t
+  operand_more (literal l) t h = literal_more l t h
+  operand_more (queried q) t h = query_more q t h
+  operand_more (called c) t h = call_more c t h
+
+  call_more : (c : Call) (t : List ℕ) → ReadsCall whole_numbers c t → ReadsCall all_numbers c t
+  call_more (call f args) t (n, j, a, k, is, before, are, after, e) = (n, j, a, k, is, before, arguments_more args a are, after, e)
+
+  arguments_more : (args : Arguments) (t : List ℕ) → ReadArguments whole_numbers args t → ReadArguments all_numbers args t
+  arguments_more no_arguments t h = h
+  arguments_more (argument x more) t (a, b, is, are, e) = (a, b, argument_more x a is, further_arguments more b are, e)
+
+  further_arguments : (args : Arguments) (t : List ℕ) → ReadMoreArguments whole_numbers args t → ReadMoreArguments all_numbers args t
+  further_arguments no_arguments t h = h
+  further_arguments (argument x more) t (s, a, b, sign, is, are, e) = (s, a, b, sign, argument_more x a is, further_arguments more b are, e)
+
+  argument_more : (x : Argument) (t : List ℕ) → ReadsArgument whole_numbers x t → ReadsArgument all_numbers x t
+  argument_more (operand o) t h = (any_argument o, operand_more o t h.1)
+  argument_more (logical_argument x) t h = (h.0, or_more x t h.1)
+
+pub all_numbers_read_more : AllNumbersReadMore
+all_numbers_read_more signature t q h = record { reads = query_more q t h.reads; from_root = h.from_root; typed = h.typed; within_depth = h.within_depth }
