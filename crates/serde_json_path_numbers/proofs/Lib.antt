@@ -15,9 +15,9 @@ mod Digits
 pub mod Finite
 pub mod Floats
 pub mod Forms
+pub mod Found
 pub mod Numerals
 pub mod ReadBack
-pub mod Found
 mod Orders
 mod Places
 mod Ratios

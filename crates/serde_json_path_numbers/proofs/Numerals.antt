@@ -3,7 +3,7 @@ use Rattle.serde_json_path_numbers.proofs.Words.{◌≡◌, ℕ, suc, ◌+◌, �
 use Rattle.serde_json_path_numbers.specs.Inside.{AreHeldAlike}
 use Rattle.std.proofs.Common.{Option}
 use Rattle.std.proofs.Common.{take, get_or, slice_index, lit<, length-drop}
-use Rattle.std.proofs.Math.Nat.{pow-le-pow_right, lt_of_le_of_lt}
+use Rattle.std.proofs.Math.Nat.{mul-le-mul_right, pow-le-pow_right, lt_of_le_of_lt}
 use Rattle.std.proofs.lemmas.List.{take-append-drop, take_more}
 use Rattle.std.proofs.lemmas.Nat.{div-mul-add}
 use Rattle.std.specs.Float.Ieee.{Float, fits, of_bits, binary64}
@@ -14,7 +14,7 @@ use Rattle.std.proofs.lemmas.Float.{T_from_true}
 use lib.Ieee.Bits.{of_bits-to_bits}
 use lib.Ieee.Fits.{round-fits}
 use Rattle.std.specs.Char.{digit_value}
-use Rattle.serde_json_path_numbers.specs.Decimals.{fewest, found_at, reads_as}
+use Rattle.serde_json_path_numbers.specs.Decimals.{fewest, found_at, most_billionths, reads_as}
 use Rattle.core.proofs.dec2flt.DigitsLemmas.{digits_value-append}
 use Rattle.core.proofs.dec2flt.Rows.{AllDigits-append, AllDigits-drop}
 use Rattle.std.specs.Option.{option_or}
@@ -34,14 +34,22 @@ capped n false other = grind (arith, nat_tests)
 pub both_digits : (a b : List ℕ) → AllDigits 10 a → AllDigits 10 b → AllDigits 10 (a ++ b)
 both_digits a b h k = AllDigits-append a b h k
 
+-- twenty zeros make too many billionths
+pub many_zeros : (negative : Bool) (d k : ℕ) → 0 < d → 19 < k → most_billionths negative < d * 10 ^ (k + 9)
+many_zeros negative d k some many =
+    let zeros : 29 ≤ k + 9 = omega (arith, many) in
+    let least : 10 ^ 29 ≤ 10 ^ (k + 9) = pow-le-pow_right {n = 10} (omega arith) zeros in
+    let more : 10 ^ (k + 9) ≤ d * 10 ^ (k + 9) = omega (arith, mul-le-mul_right (10 ^ (k + 9)) some) in
+    elim negative as (λ s. most_billionths s < d * 10 ^ (k + 9)) [ true ↦ omega (arith, least, more) | false ↦ omega (arith, least, more) ]
+
 -- ---- decimals that are read as a double
 
 near_fits : (d : ℕ) (e : ℤ) → T (fits binary64 (nearest_to_decimal binary64 false d e))
 near_fits d (pos e) = round-fits binary64 false (d * 10 ^ e) 1
 near_fits d (negsuc e) = round-fits binary64 false d (10 ^ suc e)
 
-pub read_is : (x : Float) (d : ℕ) (e : ℤ) → T (fits binary64 x) → reads_as x d e ≡ true → nearest_to_decimal binary64 false d e ≡ x
-read_is x d e held read =
+pub read_is : (negative : Bool) (x : Float) (d : ℕ) (e : ℤ) → T (fits binary64 x) → reads_as negative x d e ≡ true → nearest_to_decimal binary64 false d e ≡ x
+read_is negative x d e held read =
     let same : to_bits binary64 (nearest_to_decimal binary64 false d e) ≡ to_bits binary64 x = grind (arith, nat_tests, read) in
     sym (of_bits-to_bits binary64 _ (near_fits d e)) ∙ ap (of_bits binary64) same ∙ of_bits-to_bits binary64 x held
 
@@ -49,9 +57,9 @@ signed_finite : (negative : Bool) (d : ℕ) (e : ℤ) → float_is_finite (neare
 signed_finite negative d (pos e) = same_finite negative (d * 10 ^ e) 1
 signed_finite negative d (negsuc e) = same_finite negative d (10 ^ suc e)
 
-pub finite_decimal : (negative : Bool) (x : Float) (d : ℕ) (e : ℤ) → fits binary64 x ≡ true → float_is_finite x ≡ true → reads_as x d e ≡ true
+pub finite_decimal : (negative : Bool) (x : Float) (d : ℕ) (e : ℤ) → fits binary64 x ≡ true → float_is_finite x ≡ true → reads_as negative x d e ≡ true
     → float_is_finite (nearest_to_decimal binary64 negative d e) ≡ true
-finite_decimal negative x d e held finite read = signed_finite negative d e ∙ ap float_is_finite (read_is x d e (T_from_true _ held) read) ∙ finite
+finite_decimal negative x d e held finite read = signed_finite negative d e ∙ ap float_is_finite (read_is negative x d e (T_from_true _ held) read) ∙ finite
 
 -- ---- the first digits of some
 
@@ -72,9 +80,9 @@ module _ (ds : List ℕ) (h : AllDigits 10 ds) (at cut digit : ℕ) (within : at
   pub one_taken : cut * 10 + digit ≡ digits_value 10 (take (at + 1) ds)
   one_taken = rw (is_cut, is_digit) (sym (ap (digits_value 10) (take_more ds at 0 within) ∙ digits_value-append (take at ds) (get_or ds at 0 ∷ []) ∙ omega arith))
 
-  pub level : (x : Float) (e u : ℤ) → u ≡ (e +ℤ pos (length ds - 1 - at)) → fewest x (digits_value 10 ds) e (length ds - at)
-      ≡ (if nat_le (10 ^ 18) (cut * 10 + digit) then None else option_or (found_at x (cut * 10 + digit) u) (fewest x (digits_value 10 ds) e (length ds - (at + 1))))
-  level x e u is_unit =
+  pub level : (negative : Bool) (x : Float) (e u : ℤ) → u ≡ (e +ℤ pos (length ds - 1 - at)) → fewest negative x (digits_value 10 ds) e (length ds - at)
+      ≡ (if nat_le (10 ^ 18) (cut * 10 + digit) then None else option_or (found_at negative x (cut * 10 + digit) u) (fewest negative x (digits_value 10 ds) e (length ds - (at + 1))))
+  level negative x e u is_unit =
       let k = length ds - (at + 1) in
       let one_less : length ds - at ≡ suc k = omega arith in
       let rest : length ds - 1 - at ≡ k = omega arith in

@@ -1,15 +1,15 @@
 -- The text of a decimal that was found is read as that decimal.
 use Rattle.serde_json_path_numbers.proofs.Words.{◌≡◌, ℕ, suc, ◌+◌, ◌-◌, ◌*◌, ◌/◌, ◌%◌, ◌^◌, ◌<◌, ◌≤◌, Bool, true, false, List, [], ◌∷◌, ◌++◌, length, drop, T, refl, sym, ap, subst, ◌∙◌, arith, nat_tests, ints, Some, None, ℤ, pos, negsuc, inl, inr, ◌⊎◌, mul-one, append-nil, length-append, float_is_finite, Float, binary64, fits, round, unsigned_abs, IsInLiteralRange}
 use Rattle.std.proofs.Common.{Option, zero, take, codes, leb-true, div-le_self, div-lt_iff_lt-mul, mod-lt, div-add-mod', length-drop, pow-add}
-use Rattle.std.proofs.Math.Nat.{mul-le-mul_right, mul_assoc, pow-le-pow_right, pow-suc, pow-succ'}
+use Rattle.std.proofs.Math.Nat.{mul_assoc, pow-suc, pow-succ'}
 use Rattle.std.proofs.Math.ListN.{drop_of_length-le}
 use Rattle.std.proofs.lemmas.List.{take_all, take-append-drop}
 use Rattle.core.proofs.dec2flt.ExactLemmas.{ten_to_pos}
 use Rattle.fast_float.specs.Rounding.{nearest_to_decimal}
-use Rattle.serde_json_path_numbers.specs.Numerals.{Amount, billionths, decimal_billionths, double_billionths, exponent_of, held_as, held_double, held_or, held_short, shortest, most_billionths, plain_billionths, whole_billionths}
+use Rattle.serde_json_path_numbers.specs.Numerals.{Amount, billionths, decimal_billionths, double_billionths, exponent_of, held_as, held_double, held_or, held_short, shortest, plain_billionths, whole_billionths}
 use Rattle.std.specs.Prelude.{nat_le, ◌==◌, if◌then◌else◌}
 use Rattle.std.proofs.lemmas.Option.{none-some}
-use Rattle.std.proofs.lemmas.Bool.{and_parts, cases_Bool, cases_lt}
+use Rattle.std.proofs.lemmas.Bool.{and_parts, cases_Bool}
 use Rattle.std.proofs.lemmas.Fmt.{decimal_digit, decimal_is_IsNumeral}
 use Rattle.std.specs.Fmt.{decimal, sign_text, signed_decimal}
 use Rattle.serde_json_path_numbers.specs.Numerals as numerals
@@ -20,7 +20,7 @@ use Rattle.fast_float.proofs.Reading.{scan_numeral-AllDigits}
 use lib.Ieee.Fits.{round-fits}
 use Rattle.std.specs.Str.Parse.{digits_value, AllDigits}
 use Rattle.fast_float.specs.Text.{Parts, scan, text_of, exponent_text, digits_of, nearest, point_at, with_sign, IsWellFormed}
-use Rattle.serde_json_path_numbers.specs.Decimals.{Decimal, decimal_of, has_point, place_digits, reads_as, size_text}
+use Rattle.serde_json_path_numbers.specs.Decimals.{Decimal, decimal_of, has_point, is_beyond, most_billionths, place_digits, reads_as, size_text}
 use Rattle.serde_json_path_numbers.proofs.Digits.{digit_is, digits_value-cons}
 use Rattle.serde_json_path_numbers.proofs.Found.{IsFound, again, is_found}
 use Rattle.serde_json_path_numbers.proofs.Numerals.{both_digits, read_is}
@@ -183,9 +183,6 @@ passed negative (Some n) other d is = elim (cases_Bool (nat_le n (most_billionth
   | inr many ↦ (λ o. rw many refl, rw many at is)
 ]
 
-too_many_for : (negative : Bool) (n : ℕ) → 10 ^ 29 ≤ n → Passes negative (Some n)
-too_many_for negative n many other = grind (arith, nat_tests, many)
-
 -- of digits the last ones end as all do
 ends_alike : (ds : List ℕ) (i : ℕ) → i < length ds → digits_value 10 (drop i ds) % 10 ≡ digits_value 10 ds % 10
 ends_alike ds i within =
@@ -195,29 +192,25 @@ ends_alike ds i within =
     let tens : digits_value 10 (take i ds) * 10 ^ length behind ≡ digits_value 10 (take i ds) * 10 ^ (length behind - 1) * 10 = ap (λ m. digits_value 10 (take i ds) * 10 ^ m) some ∙ ap (λ m. digits_value 10 (take i ds) * m) (pow-suc 10 (length behind - 1)) ∙ sym (mul_assoc (digits_value 10 (take i ds)) (10 ^ (length behind - 1)) 10) in
     omega (arith, value, tens)
 
-whole_again : (negative : Bool) (d k : ℕ) → 1 ≤ d → Passes negative (decimal_billionths (d, pos k)) → Passes negative (Some (d * 10 ^ k * 1000000000))
-whole_again negative d k some passes = elim (cases_lt k 20) [
-  | inl few ↦
-      let power : 10 ^ (k + 9) ≡ 10 ^ k * 1000000000 = pow-add 10 k 9 in
-      let same : d * 10 ^ (k + 9) ≡ d * 10 ^ k * 1000000000 = ap (λ m. d * m) power ∙ sym (mul_assoc d (10 ^ k) 1000000000) in
-      let is : decimal_billionths (d, pos k) ≡ Some (d * 10 ^ (k + 9)) = grind (arith, nat_tests, few) in
-      subst (λ m. Passes negative (Some m)) same (rw is at passes)
-  | inr many ↦ too_many_for negative (d * 10 ^ k * 1000000000) (omega (arith, mul-le-mul_right (10 ^ k) some, pow-le-pow_right {n = 10} (omega arith) many))
+beyond_passes : (negative : Bool) (d k : ℕ) → is_beyond negative d (pos k) ≡ true → Passes negative (Some (d * 10 ^ k * 1000000000))
+beyond_passes negative d k beyond other =
+    let power : 10 ^ (k + 9) ≡ 10 ^ k * 1000000000 = pow-add 10 k 9 in
+    let same : d * 10 ^ (k + 9) ≡ d * 10 ^ k * 1000000000 = ap (λ m. d * m) power ∙ sym (mul_assoc d (10 ^ k) 1000000000) in
+    grind (arith, nat_tests, beyond, same)
+
+read_beyond : (negative : Bool) (x : Float) (d : ℕ) (e : ℤ) → reads_as negative x d e ≡ true → is_beyond negative d e ≡ true
+read_beyond negative x d e read = grind (arith, nat_tests, read)
+
+-- a whole number that was found is beyond the range, and no other decimal is whole
+whole_passes : (negative : Bool) (x : Float) (d : ℕ) (e : ℤ) → IsFound negative x d e → (p : Parts) → IsOf p d e → Passes negative (whole_billionths p)
+whole_passes negative x d e f p is = elim is.whole [
+  | inl (k, same, whole) ↦ rw whole (beyond_passes negative d k (rw same at (read_beyond negative x d e f.reads)))
+  | inr behind ↦
+      let last = ends_alike (p.whole ++ p.fraction) (point_at p) behind in
+      let more = f.some in
+      let none : (digits_value 10 (drop (point_at p) (p.whole ++ p.fraction)) == 0) ≡ false = grind (arith, nat_tests, last, is.digits, more) in
+      rw none (λ other. refl)
 ]
-
-module _ (negative : Bool) (x : Float) (d : ℕ) (e : ℤ) (f : IsFound x d e) (p : Parts) (is : IsOf p d e) (passes : Passes negative (decimal_billionths (d, e))) where
-  some : 1 ≤ d
-  some = let ends = f.some in omega (arith, ends)
-
-  whole_passes : Passes negative (whole_billionths p)
-  whole_passes = elim is.whole [
-    | inl (k, same, whole) ↦ rw whole (whole_again negative d k some (rw same at passes))
-    | inr behind ↦
-        let ends = ends_alike (p.whole ++ p.fraction) (point_at p) behind in
-        let more = f.some in
-        let none : (digits_value 10 (drop (point_at p) (p.whole ++ p.fraction)) == 0) ≡ false = grind (arith, nat_tests, ends, is.digits, more) in
-        rw none (λ other. refl)
-  ]
 
 -- ---- the whole
 
@@ -225,7 +218,7 @@ module _ (negative : Bool) (x : Float) (d : ℕ) (e : ℤ) (f : IsFound x d e) (
 record IsHeldAs (negative : Bool) (p : Parts) (d : Decimal) : Type 0 where
   finite : float_is_finite (nearest binary64 false p) ≡ true
   double : Passes negative (double_billionths (nearest binary64 false p))
-  found : shortest (nearest binary64 false p) p (exponent_of p) ≡ Some (d.digits, d.exponent)
+  found : shortest negative (nearest binary64 false p) p (exponent_of p) ≡ Some (d.digits, d.exponent)
   decimal : Passes negative (decimal_billionths (d.digits, d.exponent))
   sign : d.negative ≡ negative
 
@@ -241,7 +234,7 @@ short_is negative (Some s) d is =
     (ap (λ (c : Decimal). Some (c.digits, c.exponent)) same, subst (λ (c : Decimal). Passes negative (decimal_billionths (c.digits, c.exponent))) same by.0, sym (ap (λ (c : Decimal). c.negative) same))
 
 double_is : (negative : Bool) (p : Parts) (x : Float) (d : Decimal) → held_double negative p x ≡ Some (numerals.decimal d) → (float_is_finite x ≡ true) × Passes negative (double_billionths x)
-    × (held_short negative (shortest x p (exponent_of p)) ≡ Some (numerals.decimal d))
+    × (held_short negative (shortest negative x p (exponent_of p)) ≡ Some (numerals.decimal d))
 double_is negative p x d is = elim (cases_Bool (float_is_finite x)) [
   | inl finite ↦ let by = passed negative (double_billionths x) _ d (rw finite at is) in (finite, by.0, by.1)
   | inr beyond ↦ absurd (none-some _ (rw beyond at is))
@@ -251,7 +244,7 @@ held_is : (negative : Bool) (p : Parts) (d : Decimal) → held_as negative p ≡
 held_is negative p d is =
     let whole = (passed negative (plain_billionths p) _ d is).1 in
     let double = double_is negative p (nearest binary64 false p) d (passed negative (whole_billionths p) _ d whole).1 in
-    let short = short_is negative (shortest (nearest binary64 false p) p (exponent_of p)) d double.2 in
+    let short = short_is negative (shortest negative (nearest binary64 false p) p (exponent_of p)) d double.2 in
     record { finite = double.0; double = double.1; found = short.0; decimal = short.1; sign = short.2 }
 
 -- and held so
@@ -259,13 +252,13 @@ held_again : (negative : Bool) (p : Parts) (d : Decimal) → IsHeldAs negative p
 held_again negative p d h plain whole = plain _ ∙ whole _ ∙ rw (h.finite) (h.double _ ∙ rw h.found (h.decimal _ ∙ ap (λ s. Some (numerals.decimal (decimal_of s d.digits d.exponent))) (sym h.sign)))
 
 -- what the search found in a numeral
-found_in : (x : Float) (p : Parts) (power : Option ℤ) (d : ℕ) (e : ℤ) → T (fits binary64 x) → float_is_finite x ≡ true → AllDigits 10 (p.whole ++ p.fraction) → shortest x p power ≡ Some (d, e) → IsFound x d e
-found_in x p None d e held finite all is = absurd (none-some _ is)
-found_in x p (Some power) d e held finite all is =
-    is_found x (digits_of p) power held finite (length (p.whole ++ p.fraction)) (d, e) (digits_value_short (numerals_by_value (AllDigits 10) tells_digits) (p.whole ++ p.fraction) (length (p.whole ++ p.fraction)) all (omega arith)) is
+found_in : (negative : Bool) (x : Float) (p : Parts) (power : Option ℤ) (d : ℕ) (e : ℤ) → AllDigits 10 (p.whole ++ p.fraction) → shortest negative x p power ≡ Some (d, e) → IsFound negative x d e
+found_in negative x p None d e all is = absurd (none-some _ is)
+found_in negative x p (Some power) d e all is =
+    is_found negative x (digits_of p) power (length (p.whole ++ p.fraction)) (d, e) (digits_value_short (numerals_by_value (AllDigits 10) tells_digits) (p.whole ++ p.fraction) (length (p.whole ++ p.fraction)) all (omega arith)) is
 
-low_exponent : (x : Float) (d : ℕ) (e : ℤ) → reads_as x d e ≡ true → unsigned_abs e ≤ 1000
-low_exponent x d e read = grind (arith, nat_tests, read)
+low_exponent : (negative : Bool) (x : Float) (d : ℕ) (e : ℤ) → reads_as negative x d e ≡ true → unsigned_abs e ≤ 1000
+low_exponent negative x d e read = grind (arith, nat_tests, read)
 
 pub read_back : (negative : Bool) (text : List ℕ) (d : Decimal) → held_as negative (scan text) ≡ Some (numerals.decimal d)
     → (d.negative ≡ negative) × (d.digits ≤ 10 ^ 18) × (unsigned_abs d.exponent ≤ 1000) × (held_as negative (scan (size_text d.digits d.exponent)) ≡ Some (numerals.decimal d))
@@ -275,19 +268,19 @@ read_back negative text d is =
     let h = held_is negative p d is in
     let held : T (fits binary64 x) = round-fits binary64 false _ _ in
     let all = scan_numeral-AllDigits text in
-    let f = found_in x p (exponent_of p) d.digits d.exponent held h.finite (both_digits p.whole p.fraction all.0 all.1) h.found in
-    let low = low_exponent x d.digits d.exponent f.reads in
+    let f = found_in negative x p (exponent_of p) d.digits d.exponent (both_digits p.whole p.fraction all.0 all.1) h.found in
+    let low = low_exponent negative x d.digits d.exponent f.reads in
     let printed = text_is d.digits d.exponent f.few low in
     let q = printed.1.1 in
-    let near : nearest binary64 false printed.0 ≡ x = q.near ∙ read_is x d.digits d.exponent held f.reads in
+    let near : nearest binary64 false printed.0 ≡ x = q.near ∙ read_is negative x d.digits d.exponent held f.reads in
     let count : length (printed.0.whole ++ printed.0.fraction) ≡ suc (length (printed.0.whole ++ printed.0.fraction) - 1) = omega (arith, q.count) in
     let again = held_again negative printed.0 d (record {
       finite = rw near h.finite;
       double = rw near h.double;
-      found = rw (near, q.power, q.digits, count) (again x d.digits d.exponent (length (printed.0.whole ++ printed.0.fraction) - 1) f);
+      found = rw (near, q.power, q.digits, count) (again negative x d.digits d.exponent (length (printed.0.whole ++ printed.0.fraction) - 1) f);
       decimal = h.decimal;
       sign = h.sign;
-    }) (rw q.plain (λ other. refl)) (whole_passes negative x d.digits d.exponent f printed.0 q h.decimal) in
+    }) (rw q.plain (λ other. refl)) (whole_passes negative x d.digits d.exponent f printed.0 q) in
     (h.sign, f.few, low, ap (λ t. held_as negative (scan t)) (sym printed.1.0) ∙ ap (held_as negative) (scan_numeral-text_of printed.0 q.well_formed) ∙ again)
 
 -- ---- numerals that are held as billionths
@@ -312,7 +305,7 @@ short_in_range negative (Some s) b is = elim (either negative (decimal_billionth
 
 double_in_range : (negative : Bool) (p : Parts) (x : Float) (b : ℤ) → held_double negative p x ≡ Some (billionths b) → IsInLiteralRange b
 double_in_range negative p x b is = elim (cases_Bool (float_is_finite x)) [
-  | inl finite ↦ elim (either negative (double_billionths x) _ b (rw finite at is)) [ inl range ↦ range | inr short ↦ short_in_range negative (shortest x p (exponent_of p)) b short ]
+  | inl finite ↦ elim (either negative (double_billionths x) _ b (rw finite at is)) [ inl range ↦ range | inr short ↦ short_in_range negative (shortest negative x p (exponent_of p)) b short ]
   | inr beyond ↦ absurd (none-some _ (rw beyond at is))
 ]
 

@@ -1,5 +1,5 @@
 -- Doubles as decimals of few digits, and their texts.
-use Rattle.std.specs.Prelude.{ℕ, zero, suc, ◌+◌, ◌*◌, ◌/◌, ◌%◌, ◌^◌, ◌==◌, ◌&&◌, nat_le, ℤ, pos, negsuc, ◌+ℤ◌, unsigned_abs, Bool, false, List, [], ◌++◌, codes, Option, Some, None, if◌then◌else◌, to_bits}
+use Rattle.std.specs.Prelude.{ℕ, zero, suc, ◌-◌, nat_lt, true, false, ◌+◌, ◌*◌, ◌/◌, ◌%◌, ◌^◌, ◌==◌, ◌&&◌, nat_le, ℤ, pos, negsuc, ◌+ℤ◌, unsigned_abs, Bool, false, List, [], ◌++◌, codes, Option, Some, None, if◌then◌else◌, to_bits}
 use Rattle.std.specs.Option.{option_or}
 use Rattle.std.specs.Float.Ieee.{Float, binary64}
 use Rattle.std.specs.Fmt.{decimal, signed_decimal, sign_text}
@@ -22,10 +22,22 @@ decimal_number d = nearest_to_decimal binary64 d.negative d.digits d.exponent
 
 -- ---- the shortest decimal
 
--- the double nearest to digits * 10 ^ exponent is x; there is none that differs from 0 beyond 10 ^ 1000 and its inverse
-abbrev pub reads_as : Float → ℕ → ℤ → Bool
-reads_as x digits exponent =
-    nat_le (unsigned_abs exponent) 1000
+-- as many billionths as a literal may have: those of -2 ^ 63, and of 2 ^ 64 - 1
+abbrev pub most_billionths : Bool → ℕ
+most_billionths true = 2 ^ 63 * 1000000000
+most_billionths false = (2 ^ 64 - 1) * 1000000000
+
+-- no whole number in the range of literals, as far as the exponent tells
+abbrev pub is_beyond : Bool → ℕ → ℤ → Bool
+is_beyond negative digits (pos k) = nat_lt (most_billionths negative) (digits * 10 ^ (k + 9))
+is_beyond negative digits (negsuc k) = true
+
+-- The double nearest to digits * 10 ^ exponent is x, the digits end in no 0, and it is no integer that a literal may be. No
+-- double that differs from 0 is beyond 10 ^ 1000 and its inverse.
+abbrev pub reads_as : Bool → Float → ℕ → ℤ → Bool
+reads_as negative x digits exponent =
+    nat_lt 0 (digits % 10) && is_beyond negative digits exponent
+    && nat_le (unsigned_abs exponent) 1000
     && to_bits binary64 (nearest_to_decimal binary64 false digits exponent) == to_bits binary64 x
 
 -- one more of the last digit; 10 is a 1 before it
@@ -34,22 +46,22 @@ raised digits exponent =
     if digits == 9 then (1, exponent +ℤ pos 1) else (digits + 1, exponent)
 
 -- some digits, or else these digits raised, if they are read as x
-abbrev pub found_at : Float → ℕ → ℤ → Option (ℕ × ℤ)
-found_at x digits exponent =
+abbrev pub found_at : Bool → Float → ℕ → ℤ → Option (ℕ × ℤ)
+found_at negative x digits exponent =
     if digits == 0 then None
-    else if reads_as x digits exponent then Some (digits, exponent)
-    else if reads_as x (raised digits exponent).0 (raised digits exponent).1 then
+    else if reads_as negative x digits exponent then Some (digits, exponent)
+    else if reads_as negative x (raised digits exponent).0 (raised digits exponent).1 then
     Some (raised digits exponent)
     else None
 
 -- The first digits of n * 10 ^ exponent, as few as are read as x, cut there or else raised; the last k are not tried yet.
 -- Eighteen are enough for any double, which is well known, and not shown here.
-abbrev pub fewest : Float → ℕ → ℤ → ℕ → Option (ℕ × ℤ)
-fewest x n exponent zero = None
-fewest x n exponent (suc k) =
+abbrev pub fewest : Bool → Float → ℕ → ℤ → ℕ → Option (ℕ × ℤ)
+fewest negative x n exponent zero = None
+fewest negative x n exponent (suc k) =
     let cut = n / 10 ^ k in
     if nat_le (10 ^ 18) cut then None
-    else option_or (found_at x cut (exponent +ℤ pos k)) (fewest x n exponent k)
+    else option_or (found_at negative x cut (exponent +ℤ pos k)) (fewest negative x n exponent k)
 
 -- ---- texts (RFC 9535, section 2.3.5.1)
 

@@ -1,22 +1,17 @@
 -- What a number literal of any length is worth (RFC 9535, section 2.3.5.1): a whole number of billionths, or the double
 -- nearest to it.
-use Rattle.std.specs.Prelude.{ℕ, ◌+◌, ◌-◌, ◌*◌, ◌^◌, ◌==◌, ◌&&◌, ◌||◌, nat_le, nat_lt, ℤ, pos, negsuc, ◌+ℤ◌, ◌-ℤ◌, unsigned_abs, Bool, true, false, ◌++◌, length, drop, Option, Some, None, if◌then◌else◌, int_lt}
+use Rattle.std.specs.Prelude.{ℕ, ◌+◌, ◌-◌, ◌*◌, ◌^◌, ◌==◌, ◌&&◌, nat_le, nat_lt, ℤ, pos, negsuc, ◌-ℤ◌, Bool, false, ◌++◌, length, drop, Option, Some, None, if◌then◌else◌}
 use Rattle.std.specs.Float.{float_is_finite}
 use Rattle.std.specs.Float.Ieee.{Float, eq, binary64, to_unsigned}
 use Rattle.std.specs.Str.Parse.{digits_value}
 use Rattle.fast_float.specs.Text.{Parts, digits_of, nearest, with_sign, point_at, whole_of}
 use Rattle.serde_json_path_numbers.specs.Numbers.{integer}
-use Rattle.serde_json_path_numbers.specs.Decimals.{Decimal, decimal_of, fewest}
+use Rattle.serde_json_path_numbers.specs.Decimals.{Decimal, decimal_of, fewest, most_billionths}
 
 -- what a literal is held as
 pub data Amount : Type 0 where
   billionths : ℤ → Amount
   decimal : Decimal → Amount
-
--- as many billionths as a literal may have: those of -2 ^ 63, and of 2 ^ 64 - 1
-abbrev pub most_billionths : Bool → ℕ
-most_billionths true = 2 ^ 63 * 1000000000
-most_billionths false = (2 ^ 64 - 1) * 1000000000
 
 -- so many billionths with that sign, where a literal may have so many, or else the other
 abbrev pub held_or : Bool → Option ℕ → Option Amount → Option Amount
@@ -41,11 +36,10 @@ abbrev pub double_billionths : Float → Option ℕ
 double_billionths x =
     if eq (integer (pos (to_unsigned 64 x))) x then Some (to_unsigned 64 x * 1000000000) else None
 
--- a decimal with at most nine digits after the point; with 20 zeros before it there are too many billionths
+-- a decimal with one to nine digits after the point
 abbrev pub decimal_billionths : ℕ × ℤ → Option ℕ
-decimal_billionths d =
-    if (int_lt d.1 (negsuc 8) || int_lt (pos 19) d.1) then None
-    else Some (d.0 * 10 ^ unsigned_abs (d.1 +ℤ pos 9))
+decimal_billionths (digits, pos k) = None
+decimal_billionths (digits, negsuc k) = if nat_le 9 k then None else Some (digits * 10 ^ (8 - k))
 
 -- the power of ten by which the digits are taken, if the exponent has 64 bits; by any other a number is 0 or infinite
 abbrev pub exponent_of : Parts → Option ℤ
@@ -55,9 +49,9 @@ exponent_of p =
     else None
 
 -- the fewest digits that are read as the double
-abbrev pub shortest : Float → Parts → Option ℤ → Option (ℕ × ℤ)
-shortest x p None = None
-shortest x p (Some e) = fewest x (digits_of p) e (length (p.whole ++ p.fraction))
+abbrev pub shortest : Bool → Float → Parts → Option ℤ → Option (ℕ × ℤ)
+shortest negative x p None = None
+shortest negative x p (Some e) = fewest negative x (digits_of p) e (length (p.whole ++ p.fraction))
 
 abbrev pub held_short : Bool → Option (ℕ × ℤ) → Option Amount
 held_short negative None = None
@@ -69,7 +63,7 @@ held_short negative (Some d) =
 abbrev pub held_double : Bool → Parts → Float → Option Amount
 held_double negative p x =
     if float_is_finite x then
-    held_or negative (double_billionths x) (held_short negative (shortest x p (exponent_of p)))
+    held_or negative (double_billionths x) (held_short negative (shortest negative x p (exponent_of p)))
     else None
 
 -- What a numeral with that sign is held as. There is nothing where it is beyond the greatest double.

@@ -5,7 +5,7 @@ ghost use Rattle.std.specs.Option.{option_map, option_or};
 ghost use Rattle.std.specs.Float.{float_is_finite, binary64};
 ghost use Rattle.std.specs.Str.Parse.{digits_value, AllDigits};
 ghost use Rattle.fast_float.specs.Text.{nearest, scan};
-ghost use Rattle.serde_json_path_numbers.specs.Decimals.{fewest, found_at, raised, reads_as};
+ghost use Rattle.serde_json_path_numbers.specs.Decimals.{fewest, found_at, is_beyond, most_billionths, raised, reads_as};
 ghost use Rattle.serde_json_path_numbers.specs.Inside.{AreHeldAlike};
 ghost use Rattle.serde_json_path_numbers.specs.Numerals.{decimal_billionths, double_billionths, exponent_of, held_as, held_double, held_or, held_short, plain_billionths, shortest, whole_billionths};
 ghost use Rattle.serde_json_path_numbers.specs.Numerals as numerals;
@@ -63,12 +63,7 @@ fn held(negative: bool, size: Option<u128>) -> Option<Amount>
         ≡ option_or (option_map amount_view result) other }
 {
     let size = size?;
-    let most = if negative {
-        (1 << 63) * ONE
-    } else {
-        ((1 << 64) - 1) * ONE
-    };
-    if size > most {
+    if size > most_billionths(negative) {
         return None;
     }
     let billionths = size as i128;
@@ -132,7 +127,7 @@ fn held_double(negative: bool, numeral: &Numeral<'_>) -> Option<Amount>
     if let Some(amount) = held(negative, whole_double(size)) {
         return Some(amount);
     }
-    let (digits, exponent) = shortest(size, numeral)?;
+    let (digits, exponent) = shortest(negative, size, numeral)?;
     Some(held_short(negative, size, digits, exponent))
 }
 
@@ -140,7 +135,7 @@ fn held_double(negative: bool, numeral: &Numeral<'_>) -> Option<Amount>
 #[tactic(auto, using(crate::proofs::Numerals::finite_decimal))]
 fn held_short(negative: bool, size: f64, digits: u64, exponent: i64) -> Amount
     requires finite { float_is_finite size ≡ true }
-    requires reads { reads_as size digits exponent ≡ true }
+    requires reads { reads_as negative size digits exponent ≡ true }
     ensures { Some (amount_view result) ≡ held_short negative (Some (digits, exponent)) }
 {
     match held(negative, short_billionths(digits, exponent)) {
@@ -153,12 +148,12 @@ fn held_short(negative: bool, size: f64, digits: u64, exponent: i64) -> Amount
     }
 }
 
-/// The billionths of a decimal, if it has at most nine digits after its point, or more than any literal has.
+/// The billionths of a decimal, if it has one to nine digits after its point.
 #[tactic(auto, using(crate::proofs::Numerals::capped, crate::proofs::Numerals::small_power))]
 fn short_billionths(digits: u64, exponent: i64) -> Option<u128>
     ensures { AreHeldAlike (decimal_billionths (digits, exponent)) result }
 {
-    if exponent < -9 || exponent > 19 {
+    if exponent < -9 || exponent >= 0 {
         return None;
     }
     let power = 10_u128.pow((exponent + 9) as u32);
@@ -167,29 +162,48 @@ fn short_billionths(digits: u64, exponent: i64) -> Option<u128>
 
 /// The fewest digits of a number that are read as the double nearest to it.
 #[tactic(auto, using(crate::proofs::Numerals::both_digits))]
-fn shortest(size: f64, numeral: &Numeral<'_>) -> Option<(u64, i64)>
+fn shortest(negative: bool, size: f64, numeral: &Numeral<'_>) -> Option<(u64, i64)>
     requires { float_is_finite size ≡ true }
-    ensures value { result ≡ shortest size numeral.now (exponent_of numeral.now) }
-    ensures reads { IfSome result (λ found. reads_as size found.0 found.1 ≡ true) }
+    ensures value { result ≡ shortest negative size numeral.now (exponent_of numeral.now) }
+    ensures reads { IfSome result (λ found. reads_as negative size found.0 found.1 ≡ true) }
+{
+    fewest(
+        negative,
+        size,
+        numeral.whole(),
+        numeral.fraction(),
+        exponent_of(numeral)?,
+    )
+}
+
+/// The power of ten by which the digits are taken, if the exponent has 64 bits.
+fn exponent_of(numeral: &Numeral<'_>) -> Option<i128>
+    ensures value { result ≡ exponent_of numeral.now }
+    ensures range { IfSome result (λ exponent. unsigned_abs exponent < 2 ^ 65) }
 {
     let power = number_of(numeral.exponent())? as i128;
-    let signed = if numeral.is_exponent_negative() {
-        -power
+    let places = numeral.fraction().len() as i128;
+    if numeral.is_exponent_negative() {
+        Some(-power - places)
     } else {
-        power
-    };
-    let exponent = signed - numeral.fraction().len() as i128;
-    fewest(size, numeral.whole(), numeral.fraction(), exponent)
+        Some(power - places)
+    }
 }
 
 /// The first digits, as few as are read as the double, cut there or else raised; `None` if eighteen are too few. The exponent
 /// is that of the last digit.
-fn fewest(size: f64, whole: &[u8], fraction: &[u8], exponent: i128) -> Option<(u64, i64)>
+fn fewest(
+    negative: bool,
+    size: f64,
+    whole: &[u8],
+    fraction: &[u8],
+    exponent: i128,
+) -> Option<(u64, i64)>
     requires digits { AllDigits 10 (whole.now ++ fraction.now) }
     requires exponent { unsigned_abs exponent < 2 ^ 65 }
-    ensures value { result ≡ fewest size (digits_value 10 (whole.now ++ fraction.now)) exponent
+    ensures value { result ≡ fewest negative size (digits_value 10 (whole.now ++ fraction.now)) exponent
         (length (whole.now ++ fraction.now)) }
-    ensures reads { IfSome result (λ found. reads_as size found.0 found.1 ≡ true) }
+    ensures reads { IfSome result (λ found. reads_as negative size found.0 found.1 ≡ true) }
 {
     let count = whole.len() + fraction.len();
     let mut cut = 0;
@@ -198,7 +212,7 @@ fn fewest(size: f64, whole: &[u8], fraction: &[u8], exponent: i128) -> Option<(u
         if cut >= MANY {
             return None;
         }
-        if let Some(found) = found_at(size, cut, unit(exponent, count - 1 - at)) {
+        if let Some(found) = found_at(negative, size, cut, unit(exponent, count - 1 - at)) {
             return Some(found);
         }
     }
@@ -214,20 +228,20 @@ fn unit(exponent: i128, left: usize) -> i128
 }
 
 /// Some digits, or else these digits raised, if they are read as the double.
-fn found_at(size: f64, digits: u64, exponent: i128) -> Option<(u64, i64)>
+fn found_at(negative: bool, size: f64, digits: u64, exponent: i128) -> Option<(u64, i64)>
     requires digits { digits < 10 ^ 18 }
     requires exponent { unsigned_abs exponent < 2 ^ 66 }
-    ensures value { result ≡ found_at size digits exponent }
-    ensures reads { IfSome result (λ found. reads_as size found.0 found.1 ≡ true) }
+    ensures value { result ≡ found_at negative size digits exponent }
+    ensures reads { IfSome result (λ found. reads_as negative size found.0 found.1 ≡ true) }
 {
     if digits == 0 {
         return None;
     }
-    if reads_as(size, digits, exponent) {
+    if reads_as(negative, size, digits, exponent) {
         return Some((digits, exponent as i64));
     }
     let (digits, exponent) = raised(digits, exponent);
-    if reads_as(size, digits, exponent) {
+    if reads_as(negative, size, digits, exponent) {
         Some((digits, exponent as i64))
     } else {
         None
@@ -247,13 +261,41 @@ fn raised(digits: u64, exponent: i128) -> (u64, i128)
     }
 }
 
-/// Whether the double nearest to a decimal is this one.
-fn reads_as(size: f64, digits: u64, exponent: i128) -> bool
-    ensures { result ≡ reads_as size digits exponent }
+/// Whether the double nearest to a decimal is this one, of which the digits end in no 0, and which is no integer that a
+/// literal may be.
+fn reads_as(negative: bool, size: f64, digits: u64, exponent: i128) -> bool
+    ensures { result ≡ reads_as negative size digits exponent }
 {
-    if exponent.unsigned_abs() > FARTHEST {
+    if digits % 10 == 0 || exponent.unsigned_abs() > FARTHEST {
+        return false;
+    }
+    if !is_beyond(negative, digits, exponent as i64) {
         return false;
     }
     let near: f64 = from_parts(false, digits, exponent as i64);
     f64_to_bits_with_nan(near) == f64_to_bits_with_nan(size)
+}
+
+/// Whether a decimal is no whole number in the range of literals, as far as its exponent tells.
+#[tactic(auto, using(crate::proofs::Numerals::small_power, crate::proofs::Numerals::many_zeros))]
+fn is_beyond(negative: bool, digits: u64, exponent: i64) -> bool
+    requires { 0 < digits }
+    ensures { result ≡ is_beyond negative digits exponent }
+{
+    if exponent < 0 || exponent > 19 {
+        return true;
+    }
+    let power = 10_u128.pow((exponent + 9) as u32);
+    (digits as u128).saturating_mul(power) > most_billionths(negative)
+}
+
+/// As many billionths as a literal may have.
+fn most_billionths(negative: bool) -> u128
+    ensures { result ≡ most_billionths negative }
+{
+    if negative {
+        (1 << 63) * ONE
+    } else {
+        ((1 << 64) - 1) * ONE
+    }
 }

@@ -9,4 +9,4 @@ abbrev pub invariant-loop-at : goal.invariant-loop-at
 invariant-loop-at l =
     let digits = l.fn.whole ++ l.fn.fraction in
     (l.cut ≡ digits_value 10 (take l.at digits)) × (l.cut < 10 ^ 18)
-    × (fewest l.fn.size (digits_value 10 digits) l.fn.exponent (length digits - l.at) ≡ fewest l.fn.size (digits_value 10 digits) l.fn.exponent (length digits))
+    × (fewest l.fn.negative l.fn.size (digits_value 10 digits) l.fn.exponent (length digits - l.at) ≡ fewest l.fn.negative l.fn.size (digits_value 10 digits) l.fn.exponent (length digits))
