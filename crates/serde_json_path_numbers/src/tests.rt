@@ -1,11 +1,13 @@
 //! Numbers in the order of their exact values, and laws of them.
 
+mod numerals;
 mod order;
 
 use crate::{
-    ExactNumber, law_equality_of_numbers, law_integers_keep_their_order, law_numbers_are_finite,
-    law_order_of_numbers,
+    Amount, ExactNumber, law_equality_of_numbers, law_integers_keep_their_order,
+    law_numbers_are_finite, law_order_of_numbers, numeral_amount,
 };
+use numerals::NUMERALS;
 use order::ORDER;
 use serde_json::Value;
 use std::alloc::Global;
@@ -84,4 +86,34 @@ fn numbers_at_the_edges(rt: HostRuntime) -> Result<(), Fail> {
 #[test]
 fn numbers_in_order(rt: HostRuntime) -> Result<(), Fail> {
     hold(&rt, rt.alloc(), ORDER)
+}
+
+/// What a literal is held as: `b` and its billionths, the text of a decimal, or `none`.
+fn told(alloc: Global, literal: &str) -> Result<String, Fail> {
+    let (negative, numeral) = match literal.strip_prefix('-') {
+        Some(numeral) => (true, numeral),
+        None => (false, literal),
+    };
+    match numeral_amount(negative, numeral.as_bytes()) {
+        Some(Amount::Billionths(billionths)) => Ok(format!(in alloc; "b{billionths}")?),
+        Some(Amount::Decimal(decimal)) => Ok(format!(in alloc; "{decimal}")?),
+        None => Ok(String::from_str(alloc, "none")?),
+    }
+}
+
+/// Whether a literal is held as its row says, and a decimal's text as that decimal.
+fn is_held_so(alloc: Global, row: &str) -> Result<bool, Fail> {
+    let (literal, held) = row.split_once(" > ").ok_or("no literal")?;
+    Ok(
+        told(alloc, literal)?.as_str() == held
+            && (held.starts_with(&['b', 'n']) || told(alloc, held)?.as_str() == held),
+    )
+}
+
+#[test]
+fn numerals_of_any_length(rt: HostRuntime) -> Result<(), Fail> {
+    for row in NUMERALS.split(';') {
+        assert!(rt; is_held_so(rt.alloc(), row)?, "{row}");
+    }
+    Ok(())
 }
