@@ -57,8 +57,12 @@ impl PathReading {
         }
         let mut message = String::new(self.alloc);
         let name = self.name(number)?;
-        let hint = if self.hints { hint(text, &e) } else { None };
-        push_refusal(&mut message, name.as_str(), text, &e, hint)?;
+        let hint = if self.hints {
+            hint(text, &e, self.numbers)
+        } else {
+            None
+        };
+        push_refusal(&mut message, name.as_str(), text, &e, self.numbers, hint)?;
         streams.tell_refusal(message.as_str());
         Ok(None)
     }

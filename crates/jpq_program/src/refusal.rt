@@ -2,11 +2,11 @@
 
 use crate::caret::push_with_caret;
 use crate::tokens::{first_token, open_quote};
-use serde_json_path::{ParseError, ParseErrorKind};
+use serde_json_path::{Numbers, ParseError, ParseErrorKind};
 use std::alloc::AllocError;
 
-/// What is wrong, in words.
-fn words(kind: ParseErrorKind) -> &'static str {
+/// What is wrong, in words, by the rule by which the path was read.
+fn words(kind: ParseErrorKind, numbers: Numbers) -> &'static str {
     use ParseErrorKind as Kind;
     match kind {
         Kind::ExpectedRoot => "a path begins with '$'",
@@ -19,8 +19,14 @@ fn words(kind: ParseErrorKind) -> &'static str {
             "expected a selector (a name in quotes, an index, a slice, '*' or '?')"
         }
         Kind::IntegerOutOfRange => "integers go from -(2^53 - 1) to 2^53 - 1",
-        Kind::ExponentOrEmptyFraction => "a number has no exponent, and digits after its point",
-        Kind::NumberOutOfRange => "numbers go from -2^63 to 2^64 - 1",
+        Kind::ExponentOrEmptyFraction => match numbers {
+            Numbers::Whole => "a number has no exponent, and digits after its point",
+            Numbers::All => "a number has digits after its point, and in its exponent",
+        },
+        Kind::NumberOutOfRange => match numbers {
+            Numbers::Whole => "numbers go from -2^63 to 2^64 - 1",
+            Numbers::All => "numbers go to 1.7976931348623157e308",
+        },
         Kind::FractionTooLong => "a number has at most 9 digits after its point",
         Kind::ExpectedExpression => {
             "expected a path, a number, a string, true, false, null or a call"
@@ -73,17 +79,18 @@ fn push_found(to: &mut String, text: &str, place: usize) -> Result<(), AllocErro
     }
 }
 
-/// Appends a refusal's lines: what is wrong and where, the text with a caret under the place, and a hint if there is one.
+/// Appends the lines of a refusal by that rule: what is wrong and where, the text with a caret under the place, and a hint if there is one.
 /// `name` says which path it is, as `the path` or `path 2`.
 pub(crate) fn push_refusal(
     to: &mut String,
     name: &str,
     text: &str,
     e: &ParseError,
+    numbers: Numbers,
     hint: Option<&str>,
 ) -> Result<(), AllocError> {
     let place = place_of(text, e);
-    let words = words(e.kind());
+    let words = words(e.kind(), numbers);
     write!(to, "jpq: {name} is refused at byte {place}: {words}")?;
     if tells_found(e.kind()) {
         push_found(to, text, place)?;

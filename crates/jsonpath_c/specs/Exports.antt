@@ -60,8 +60,8 @@ abbrev pub IsRefusedWith : Numbers → List ℕ → ParseError → Type 0
 IsRefusedWith rule path e = IsRead rule builtin_functions path (Err e) × (kind_of e ≢ NoMemory)
 
 -- what was probably meant by a text that is refused so, or an empty text where no slip is known
-abbrev pub hint_text : List ℕ → ParseError → List ℕ
-hint_text path e = unwrap_or (hint_of (kind_of e) (position_of e) path) []
+abbrev pub hint_text : Numbers → List ℕ → ParseError → List ℕ
+hint_text rule path e = unwrap_or (hint_of rule (kind_of e) (position_of e) path) []
 
 -- a text is refused as a path, and this says why and where
 abbrev pub IsRefusalOf : Numbers → List ℕ → Refusal → Type 0

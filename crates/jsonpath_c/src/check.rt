@@ -58,11 +58,11 @@ pub extern "C" fn jsonpath_message(
     }
 }
 
-/// The hint of a refusal, or an empty text where no slip is known.
-fn hint_text(path: &str, e: &ParseError) -> &'static str
-    ensures { result.now ≡ hint_text path.now e.now }
+/// The hint of a refusal by that rule, or an empty text where no slip is known.
+fn hint_text(path: &str, e: &ParseError, numbers: u8) -> &'static str
+    ensures { result.now ≡ hint_text (rule_of numbers) path.now e.now }
 {
-    hint(path, e).unwrap_or("")
+    hint(path, e, rule(numbers)).unwrap_or("")
 }
 
 /// What was probably meant by a path that is refused by that rule, or an empty text where no slip is known, and of a path: 0, 4
@@ -75,8 +75,8 @@ pub extern "C" fn jsonpath_hint(
     out: &mut [u8],
     size: &mut usize,
 ) -> u8
-    ensures text { AnswersText (IsTold (hint_text path.now) (rule_of numbers) path.now) out.old
-        out.new size.old size.new result }
+    ensures text { AnswersText (IsTold (hint_text (rule_of numbers) path.now) (rule_of numbers)
+        path.now) out.old out.new size.old size.new result }
     ensures statuses { (result ≡ 0) ⊎ (result ≡ 4) ⊎ (result ≡ 5) ⊎ (result ≡ 6) }
     ensures not_utf8 { (result ≡ 6) ↔ (IsUtf8 path.now → ⊥) }
 {
@@ -86,6 +86,6 @@ pub extern "C" fn jsonpath_hint(
     match JsonPath::parse_by(alloc, path, rule(numbers)) {
         Ok(_) => put("", out, size),
         Err(e) if e.kind() == ParseErrorKind::NoMemory => NO_MEMORY,
-        Err(e) => put(hint_text(path, &e), out, size),
+        Err(e) => put(hint_text(path, &e, numbers), out, size),
     }
 }

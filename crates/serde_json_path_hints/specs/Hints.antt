@@ -3,6 +3,7 @@
 use Rattle.std.specs.Prelude.{ℕ, ◌-◌, ◌&&◌, Bool, List, [], ◌++◌, Option, length, take, drop, find, option_map}
 use Rattle.std.specs.List.{prefix_len, suffix_len}
 use Rattle.std.specs.Char.{is_ascii_whitespace}
+use Rattle.serde_json_path_functions.specs.Terms.{Numbers, whole_numbers, all_numbers}
 use Rattle.serde_json_path_parser.specs.declared.error.ParseErrorKind.{ParseErrorKind}
 use Rattle.serde_json_path_parser.specs.declared.error.ParseErrorKind.TheVariants.{ExpectedRoot, BadMemberName, TextAfterPath, ExpectedSelector, ExpectedClosingBracket, IntegerOutOfRange, ExpectedClosingParenthesis, ExpectedComparisonOperator, ExpectedExpression, NonSingularQuery, NestedTooDeep, UndefinedFunction, WrongNumberOfArguments, WrongArgumentType, WrongReturnType, ExpectedEndingQuote, BadEscape, ControlCharacter, ExponentOrEmptyFraction, FractionTooLong, NumberOutOfRange, NoMemory}
 use Rattle.serde_json_path_hints.specs.declared.condition.Condition.{Condition}
@@ -11,7 +12,7 @@ use Rattle.serde_json_path_hints.specs.declared.slips.expressions.TheConstants.{
 use Rattle.serde_json_path_hints.specs.declared.slips.operands.TheConstants.{CLOSING_PARENTHESIS, AFTER_LITERAL, AFTER_OPERAND}
 use Rattle.serde_json_path_hints.specs.declared.slips.paths.TheConstants.{ROOT, MEMBER_NAME, AFTER_PATH}
 use Rattle.serde_json_path_hints.specs.declared.slips.selectors.TheConstants.{SELECTOR, CLOSING_BRACKET, INTEGER}
-use Rattle.serde_json_path_hints.specs.declared.slips.texts.TheConstants.{ENDING_QUOTE, ESCAPE, CONTROL_CHARACTER, EXPONENT, FRACTION, NUMBER}
+use Rattle.serde_json_path_hints.specs.declared.slips.texts.TheConstants.{ENDING_QUOTE, ESCAPE, CONTROL_CHARACTER, DIGIT, DOUBLE, EXPONENT, FRACTION, NUMBER}
 use Rattle.serde_json_path_hints.specs.Conditions.{Text, Texts, is_met}
 
 -- the text before the place that has this number, from 1, without the blanks at its end
@@ -38,33 +39,35 @@ is_there before ahead slip = is_met slip.0 before && is_met slip.1 ahead
 abbrev pub first_hint : List ℕ → List ℕ → List Slip → Option (List ℕ)
 first_hint before ahead slips = option_map (λ s. s.2.now) (find (is_there before ahead) slips)
 
--- the slips of a kind of refusal: its own, and then those that it shares with other kinds
-abbrev pub slips_of : ParseErrorKind → List Slip
-slips_of ExpectedRoot = ROOT.now
-slips_of BadMemberName = MEMBER_NAME.now
-slips_of TextAfterPath = AFTER_PATH.now
-slips_of ExpectedSelector = SELECTOR.now
-slips_of ExpectedClosingBracket = CLOSING_BRACKET.now ++ AFTER_OPERAND.now
-slips_of IntegerOutOfRange = INTEGER.now
-slips_of ExpectedClosingParenthesis = CLOSING_PARENTHESIS.now ++ AFTER_OPERAND.now
-slips_of ExpectedComparisonOperator = AFTER_LITERAL.now ++ AFTER_OPERAND.now
-slips_of ExpectedExpression = EXPRESSION.now
-slips_of NonSingularQuery = COMPARED_QUERY.now
-slips_of NestedTooDeep = NESTING.now
-slips_of UndefinedFunction = FUNCTION.now
-slips_of WrongNumberOfArguments = NUMBER_OF_ARGUMENTS.now
-slips_of WrongArgumentType = ARGUMENT.now
-slips_of WrongReturnType = RESULT.now
-slips_of ExpectedEndingQuote = ENDING_QUOTE.now
-slips_of BadEscape = ESCAPE.now
-slips_of ControlCharacter = CONTROL_CHARACTER.now
-slips_of ExponentOrEmptyFraction = EXPONENT.now
-slips_of FractionTooLong = FRACTION.now
-slips_of NumberOutOfRange = NUMBER.now
-slips_of NoMemory = []
+-- the slips of a kind of refusal by a rule for numbers: its own, and then those that it shares with other kinds
+abbrev pub slips_of : Numbers → ParseErrorKind → List Slip
+slips_of rule ExpectedRoot = ROOT.now
+slips_of rule BadMemberName = MEMBER_NAME.now
+slips_of rule TextAfterPath = AFTER_PATH.now
+slips_of rule ExpectedSelector = SELECTOR.now
+slips_of rule ExpectedClosingBracket = CLOSING_BRACKET.now ++ AFTER_OPERAND.now
+slips_of rule IntegerOutOfRange = INTEGER.now
+slips_of rule ExpectedClosingParenthesis = CLOSING_PARENTHESIS.now ++ AFTER_OPERAND.now
+slips_of rule ExpectedComparisonOperator = AFTER_LITERAL.now ++ AFTER_OPERAND.now
+slips_of rule ExpectedExpression = EXPRESSION.now
+slips_of rule NonSingularQuery = COMPARED_QUERY.now
+slips_of rule NestedTooDeep = NESTING.now
+slips_of rule UndefinedFunction = FUNCTION.now
+slips_of rule WrongNumberOfArguments = NUMBER_OF_ARGUMENTS.now
+slips_of rule WrongArgumentType = ARGUMENT.now
+slips_of rule WrongReturnType = RESULT.now
+slips_of rule ExpectedEndingQuote = ENDING_QUOTE.now
+slips_of rule BadEscape = ESCAPE.now
+slips_of rule ControlCharacter = CONTROL_CHARACTER.now
+slips_of whole_numbers ExponentOrEmptyFraction = EXPONENT.now
+slips_of all_numbers ExponentOrEmptyFraction = DIGIT.now
+slips_of rule FractionTooLong = FRACTION.now
+slips_of whole_numbers NumberOutOfRange = NUMBER.now
+slips_of all_numbers NumberOutOfRange = DOUBLE.now
+slips_of rule NoMemory = []
 
--- What was probably meant where a text is refused with this kind, at the place of this number: the hint of the first slip of
--- the kind that is there.
-abbrev pub hint_of : ParseErrorKind → ℕ → List ℕ → Option (List ℕ)
-hint_of kind position text =
-    first_hint (before_place position text) (ahead_of_place position text) (slips_of kind)
+-- What was probably meant where a text is refused by that rule with this kind, at the place of this number: the hint of the
+-- first slip of the kind that is there.
+abbrev pub hint_of : Numbers → ParseErrorKind → ℕ → List ℕ → Option (List ℕ)
+hint_of rule kind position text =
+    first_hint (before_place position text) (ahead_of_place position text) (slips_of rule kind)

@@ -15,15 +15,18 @@ mod selectors;
 mod texts;
 
 ghost use Rattle.std.specs.Prelude.{◌≡◌, ◌++◌, map};
+ghost use Rattle.serde_json_path_functions.specs.Terms.{numbers_view};
 ghost use Rattle.serde_json_path_hints.specs.Inside.Lent.{slip_of};
 ghost use Rattle.serde_json_path_hints.specs.Hints.{slips_of};
 
 use crate::slip::Slip;
+use serde_json_path_functions::Numbers;
 use serde_json_path_parser::ParseErrorKind;
 
-/// The slips of a kind of refusal: its own, and after them those that it shares with other kinds.
-pub(crate) fn slips_of(kind: ParseErrorKind) -> (&'static [Slip], &'static [Slip])
-    ensures { map slip_of result.0.now ++ map slip_of result.1.now ≡ slips_of kind }
+/// The slips of a kind of refusal by a rule for numbers: its own, and after them those that it shares with other kinds.
+pub(crate) fn slips_of(kind: ParseErrorKind, numbers: Numbers) -> (&'static [Slip], &'static [Slip])
+    ensures { map slip_of result.0.now ++ map slip_of result.1.now
+        ≡ slips_of (numbers_view numbers) kind }
 {
     use ParseErrorKind as Kind;
     match kind {
@@ -47,9 +50,15 @@ pub(crate) fn slips_of(kind: ParseErrorKind) -> (&'static [Slip], &'static [Slip
         Kind::ExpectedEndingQuote => (texts::ENDING_QUOTE, &[]),
         Kind::BadEscape => (texts::ESCAPE, &[]),
         Kind::ControlCharacter => (texts::CONTROL_CHARACTER, &[]),
-        Kind::ExponentOrEmptyFraction => (texts::EXPONENT, &[]),
+        Kind::ExponentOrEmptyFraction => match numbers {
+            Numbers::Whole => (texts::EXPONENT, &[]),
+            Numbers::All => (texts::DIGIT, &[]),
+        },
         Kind::FractionTooLong => (texts::FRACTION, &[]),
-        Kind::NumberOutOfRange => (texts::NUMBER, &[]),
+        Kind::NumberOutOfRange => match numbers {
+            Numbers::Whole => (texts::NUMBER, &[]),
+            Numbers::All => (texts::DOUBLE, &[]),
+        },
         Kind::NoMemory => (&[], &[]),
     }
 }

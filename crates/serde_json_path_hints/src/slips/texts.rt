@@ -24,9 +24,14 @@ pub(crate) const CONTROL_CHARACTER: &[Slip] = slips! {
     Any, Any => "an escape, as `\\n`, `\\t` or `\\u0000`";
 };
 
-/// At a number with an exponent, or without digits after the point.
+/// By whole numbers, at a number with an exponent, or without digits after the point.
 pub(crate) const EXPONENT: &[Slip] = slips! {
     Any, Any => "`1000` for `1e3`, `1` for `1.`";
+};
+
+/// By all numbers, at a number without digits after the point or in the exponent.
+pub(crate) const DIGIT: &[Slip] = slips! {
+    Any, Any => "`1` for `1.`, and digits after an `e`";
 };
 
 /// At a number with a long fraction.
@@ -34,7 +39,12 @@ pub(crate) const FRACTION: &[Slip] = slips! {
     Any, Any => "at most nine digits after the point";
 };
 
-/// At a number that is out of range.
+/// By whole numbers, at a number that is out of range.
 pub(crate) const NUMBER: &[Slip] = slips! {
     Any, Any => "a number from -2^63 to 2^64 - 1";
+};
+
+/// By all numbers, at a number that is out of range.
+pub(crate) const DOUBLE: &[Slip] = slips! {
+    Any, Any => "a number of at most 1.7976931348623157e308";
 };

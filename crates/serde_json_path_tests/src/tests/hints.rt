@@ -1,7 +1,7 @@
 //! What was probably meant by texts that are no paths.
 
 use crate::tests::nesting::PARENTHESES;
-use serde_json_path::JsonPath;
+use serde_json_path::{JsonPath, Numbers};
 use serde_json_path_hints::hint;
 use std::alloc::Global;
 use std::test::Fail;
@@ -259,15 +259,30 @@ const HINTS: &[&str] = &[
 const TOO_DEEP: &str =
     "NestedTooDeep 131 ~ 128 filters, parentheses and calls in one another at most";
 
-/// How a text is refused, and what was probably meant, or `nothing`.
-fn hinted(alloc: Global, text: &str) -> Came {
-    let e = JsonPath::parse(alloc, text).err().ok_or("accepted")?;
-    let hint = hint(text, &e).unwrap_or("nothing");
+/// The same by all numbers.
+const BY_ALL_NUMBERS: &[&str] = &[
+    "$[?@.a == 1.] -> ExponentOrEmptyFraction 11 ~ `1` for `1.`, and digits after an `e`",
+    "$[?@.a == 1e400] -> NumberOutOfRange 11 ~ a number of at most 1.7976931348623157e308",
+];
+
+/// How a text is refused by a rule for numbers, and what was probably meant, or `nothing`.
+fn hinted_by(alloc: Global, text: &str, numbers: Numbers) -> Came {
+    let e = JsonPath::parse_by(alloc, text, numbers).err().ok_or("accepted")?;
+    let hint = hint(text, &e, numbers).unwrap_or("nothing");
     Ok(format!(in alloc; "{:?} {} ~ {hint}", e.kind(), e.position())?)
+}
+
+fn hinted(alloc: Global, text: &str) -> Came {
+    hinted_by(alloc, text, Numbers::Whole)
+}
+
+fn hinted_by_all(alloc: Global, text: &str) -> Came {
+    hinted_by(alloc, text, Numbers::All)
 }
 
 #[test]
 fn tells_what_was_meant(rt: HostRuntime) -> Result<(), Fail> {
     hold_rows(&rt, HINTS, hinted)?;
+    hold_rows(&rt, BY_ALL_NUMBERS, hinted_by_all)?;
     hold_nested(&rt, &[(PARENTHESES, 128, TOO_DEEP)], hinted)
 }
