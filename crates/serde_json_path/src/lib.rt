@@ -72,6 +72,7 @@ pub use serde_json_path_core::{
     law_result_is_unique, law_singular_query_selects_at_most_one, law_texts_tell_locations,
 };
 pub use serde_json_path_parser::{
-    ParseError, ParseErrorKind, PathSource, TextSource, law_one_tree_at_most, law_print,
+    ParseError, ParseErrorKind, PathSource, TextSource, law_all_numbers_read_more,
+    law_one_tree_at_most, law_print,
 };
 pub use source::parse_source;

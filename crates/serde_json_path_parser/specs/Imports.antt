@@ -1,7 +1,7 @@
 -- What the definitions take from the crates below, from one place.
 pub use Rattle.serde_json_path_functions.specs.Functions.{Fits, FunctionSet, Kind, Numbers, Signature, all_numbers, of_logical, of_nodes, of_value, whole_numbers}
 pub use Rattle.serde_json_path_nodes.specs.Text.{code}
-pub use Rattle.serde_json_path_numbers.specs.Numerals.{Amount, billionths, held_as}
+pub use Rattle.serde_json_path_numbers.specs.Numerals.{Amount, billionths, held_as, held_or}
 pub use Rattle.serde_json_path_syntax.specs.Calls.{calls_from, calls_in_and, calls_in_argument, calls_in_arguments, calls_in_basic, calls_in_operand, calls_in_or, calls_in_segments, calls_in_selectors, calls_of, name_of, names_of}
 pub use Rattle.serde_json_path_syntax.specs.Depth.{depth}
 pub use Rattle.serde_json_path_syntax.specs.Flat.{query_kind_view, parts_in, segment_kind_view}

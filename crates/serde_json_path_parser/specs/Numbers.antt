@@ -4,7 +4,7 @@
 -- where the literal begins: `start` bytes are left there.
 use Rattle.std.specs.Prelude.{ℕ, ◌+◌, ◌-◌, ◌*◌, ◌^◌, min, nat_le, ℤ, pos, ◌-ℤ◌, Bool, true, false, List, [], length, codes, take, drop, Option, Some, None, Ok, Err, if◌then◌else◌}
 use Rattle.serde_json_path_numbers.specs.Numerals as amount
-use Rattle.serde_json_path_parser.specs.Imports.{Numbers, whole_numbers, all_numbers, Literal, number, decimal, Amount, billionths, held_as, scan}
+use Rattle.serde_json_path_parser.specs.Imports.{Numbers, whole_numbers, all_numbers, Literal, number, decimal, Amount, billionths, held_as, held_or, scan}
 use Rattle.serde_json_path_parser.specs.declared.error.ParseErrorKind.TheVariants.{ExpectedExpression, ExponentOrEmptyFraction, FractionTooLong, NumberOutOfRange}
 use Rattle.serde_json_path_parser.specs.declared.error.Context.TheVariants as context
 use Rattle.serde_json_path_parser.specs.Lexical.{◌∈◌, is_at, begins, is_digit, value_from, fraction_of}
@@ -51,21 +51,6 @@ read_amount start cs = do
   fraction ← read_fraction start whole.1
   Ok ((whole.0 * 1000000000) + fraction.0, fraction.1)
 
--- 2 ^ 64 - 1 in billionths
-abbrev pub greatest_amount : ℕ
-greatest_amount = (2 ^ 64 - 1) * 1000000000
-
--- by whole numbers: -2 ^ 63 to 2 ^ 64 - 1
-abbrev pub read_billionths : List ℕ → Parsed ℤ
-read_billionths cs =
-    if is_at "-" cs then
-    (read_amount (byte_count cs) (drop 1 cs) >>= λ n.
-    if nat_le n.0 (2 ^ 63 * 1000000000) then Ok (pos 0 -ℤ pos n.0, n.1)
-    else Err (refusal NumberOutOfRange context.LongHand cs))
-    else (read_amount (byte_count cs) cs >>= λ n.
-    if nat_le n.0 greatest_amount then Ok (pos n.0, n.1)
-    else Err (refusal NumberOutOfRange context.LongHand cs))
-
 -- what is read, as a number that stops at the greatest u128
 abbrev pub capped : Parsed ℕ → Parsed ℕ
 capped read = read >>= λ n. Ok (min n.0 (2 ^ 128 - 1), n.1)
@@ -108,6 +93,8 @@ read_numeral start cs = do
   places ← with_front whole.0 (read_places start whole.1)
   with_front places.0 (read_exponent start places.1)
 
+-- ---- number literals, by either rule
+
 -- the literal that is held as an amount
 abbrev pub literal_of : Amount → Literal
 literal_of (billionths b) = number b
@@ -118,13 +105,15 @@ abbrev pub as_literal : List ℕ → Option Amount → List ℕ → Parsed Liter
 as_literal start None cs = Err (refusal NumberOutOfRange context.LongHand start)
 as_literal start (Some a) cs = Ok (literal_of a, cs)
 
--- by all numbers, after the sign
-abbrev pub read_held : Bool → List ℕ → List ℕ → Parsed Literal
-read_held negative start cs =
+-- after the sign
+abbrev pub read_signed : Numbers → Bool → List ℕ → List ℕ → Parsed Literal
+read_signed whole_numbers negative start cs =
+    read_amount (byte_count start) cs >>= λ n.
+    as_literal start (held_or negative (Some n.0) None) n.1
+read_signed all_numbers negative start cs =
     read_numeral (byte_count start) cs >>= λ t.
     as_literal start (held_as negative (scan t.0)) t.1
 
 abbrev pub read_number : Numbers → List ℕ → Parsed Literal
-read_number whole_numbers cs = read_billionths cs >>= λ n. Ok (number n.0, n.1)
-read_number all_numbers cs =
-    if is_at "-" cs then read_held true cs (drop 1 cs) else read_held false cs cs
+read_number rule cs =
+    if is_at "-" cs then read_signed rule true cs (drop 1 cs) else read_signed rule false cs cs

@@ -1,7 +1,10 @@
 -- Integers and number literals: what is read is one, each is read, and where a refusal of one stands.
-use Rattle.serde_json_path_parser.proofs.Words.{nat_le, ◌==◌, ℤ, pos, negsuc, ints, largest, ExpectedSelector, IntegerOutOfRange, is_at, cases_Bool, begins, is_blank, is_digit, value_from, IsDecimal, IsInt, front, past, byte_count, is_first_digit, read_digits, negative, read_int, begins_int, ◌||◌, ◌-ℤ◌, encode_utf8, ExpectedExpression, ExponentOrEmptyFraction, FractionTooLong, NumberOutOfRange, AllPass, AreDigits, fraction_of, IsFraction, IsAmount, IsNumber, refusal_at, is_exponent, read_whole, read_digits_after_point, read_fraction, read_amount, greatest_amount, read_billionths, read_whole_text, mul-le-mul_right, mul-lt-mul_of_pos_right, le-mul_of_pos_right, one-le-pow, pow-succ', length-append, pow-add, encode_ascii, encode_utf8_all, ◌≡◌, ℕ, zero, suc, ◌+◌, ◌-◌, ◌*◌, ◌≤◌, inl, inr, Bool, true, false, List, [], ◌∷◌, ◌++◌, drop, Ok, refl, sym, ap, ◌∙◌, arith, ◌^◌, length, Err, append_assoc, ◌<◌, min, LongHand}
+use Rattle.serde_json_path_parser.proofs.Words.{nat_le, ◌==◌, ℤ, pos, negsuc, ints, largest, ExpectedSelector, IntegerOutOfRange, is_at, cases_Bool, begins, is_blank, is_digit, value_from, IsDecimal, IsInt, front, past, byte_count, is_first_digit, read_digits, negative, read_int, begins_int, ◌||◌, ◌-ℤ◌, encode_utf8, ExpectedExpression, ExponentOrEmptyFraction, FractionTooLong, AllPass, AreDigits, fraction_of, IsFraction, IsAmount, refusal_at, is_exponent, read_whole, read_digits_after_point, read_fraction, read_amount, read_whole_text, mul-le-mul_right, mul-lt-mul_of_pos_right, le-mul_of_pos_right, one-le-pow, pow-succ', length-append, pow-add, encode_ascii, encode_utf8_all, ◌≡◌, ℕ, zero, suc, ◌+◌, ◌-◌, ◌*◌, ◌≤◌, inl, inr, Bool, true, false, List, [], ◌∷◌, ◌++◌, drop, Ok, refl, sym, ap, ◌∙◌, arith, ◌^◌, length, Err, append_assoc, ◌<◌, min, LongHand}
 use Rattle.serde_json_path_parser.proofs.Reading.{begins_where, differs, begins_differs, no_blank, whole, front_each, front_begins, front_begins_not, front_all, past_run, value_least, some_begun, begins_front, after_one, Plain, OutcomeIn, Outcome, gives, choose, guarded, past_in, made, refused, onward, after_in}
-use Rattle.serde_json_path_syntax.specs.WellFormed.{IsLiteralAmount}
+use Rattle.std.specs.Char.{digit_value}
+use Rattle.std.specs.Str.Parse.{AllDigits, digits_value_after}
+use Rattle.std.proofs.lemmas.Str.{digit_value_digit}
+use Rattle.std.proofs.lemmas.Str.Parse.{digits_value_short, numerals_by_value, tells_digits}
 
 -- ---- first digits
 
@@ -129,23 +132,10 @@ fraction_outcome start cs =
     choose (λ e. past_in (46 ∷ []) (after_one 46 cs e) (fraction_digits_outcome start (drop 1 cs))) (λ _.
     choose (λ _. refused ExponentOrEmptyFraction LongHand refl) (λ _. gives (0, cs) (record { text = []; is_so = inl (refl, refl); split = refl })))
 
-amount_outcome : (start cs : List ℕ) → OutcomeIn IsAmount Plain start cs (read_amount (byte_count start) cs)
+pub amount_outcome : (start cs : List ℕ) → OutcomeIn IsAmount Plain start cs (read_amount (byte_count start) cs)
 unfolding read_amount
 amount_outcome start cs = after_in (whole_outcome start cs) (λ w e r.
     made (λ n. (w.0 * 1000000000) + n) (λ t n is. (r.text, t, w.0, n, r.is_so, is, refl, refl)) (fraction_outcome start w.1))
-
-negative_in_range : (n : ℕ) → nat_le n (2 ^ 63 * 1000000000) ≡ true → IsLiteralAmount (pos 0 -ℤ pos n)
-negative_in_range n e = let most : n ≤ 2 ^ 63 * 1000000000 = grind (arith, e) in (omega (arith, ints, most), omega (arith, ints, most))
-
-positive_in_range : (n : ℕ) → nat_le n greatest_amount ≡ true → IsLiteralAmount (pos n)
-positive_in_range n e = let most : n ≤ greatest_amount = grind (arith, e) in (omega (arith, ints, most), omega (arith, ints, most))
-
-pub billionths_outcome : (cs : List ℕ) → Outcome IsNumber Plain cs (read_billionths cs)
-billionths_outcome cs =
-    choose (λ e. past_in (45 ∷ []) (after_one 45 cs e) (onward (amount_outcome cs (drop 1 cs)) (λ n f r. guarded NumberOutOfRange LongHand refl (λ most.
-    gives _ (record { text = r.text; is_so = ((n.0, inr (r.text, r.is_so, refl, refl)), negative_in_range n.0 most); split = r.split }))))) (λ _.
-    onward (amount_outcome cs cs) (λ n f r. guarded NumberOutOfRange LongHand refl (λ most.
-    gives _ (record { text = r.text; is_so = ((n.0, inl (r.is_so, refl)), positive_in_range n.0 most); split = r.split }))))
 
 -- ---- each number is read
 
@@ -191,7 +181,7 @@ failures t n rest is e = elim is [
   | inr some ↦ ap (λ (l : List ℕ). begins is_digit (l ++ rest)) some.1
 ]
 
-amount_again : (start t : List ℕ) (n : ℕ) (rest : List ℕ) → IsAmount t n → begins goes_on rest ≡ false → read_amount (byte_count start) (t ++ rest) ≡ Ok (n, rest)
+pub amount_again : (start t : List ℕ) (n : ℕ) (rest : List ℕ) → IsAmount t n → begins goes_on rest ≡ false → read_amount (byte_count start) (t ++ rest) ≡ Ok (n, rest)
 unfolding read_amount
 amount_again start t n rest is e =
     let regrouped : t ++ rest ≡ is.0 ++ (is.1 ++ rest) = ap (λ (l : List ℕ). l ++ rest) is.6 ∙ append_assoc is.0 is.1 rest in
@@ -201,31 +191,6 @@ amount_again start t n rest is e =
 pub decimal_first : (p : ℕ → Bool) (b : Bool) (t : List ℕ) (n : ℕ) (rest : List ℕ) → ((c : ℕ) → is_digit c ≡ true → p c ≡ b) → IsDecimal t n → begins p (t ++ rest) ≡ b
 decimal_first p b t n rest h is =
     begins_where is_digit p b (t ++ rest) h (begins_front is_digit true t rest (some_begun is_digit t is.first) is.first)
-
-amount_first : (p : ℕ → Bool) (b : Bool) (t : List ℕ) (n : ℕ) (rest : List ℕ) → ((c : ℕ) → is_digit c ≡ true → p c ≡ b) → IsAmount t n → begins p (t ++ rest) ≡ b
-amount_first p b t n rest h is =
-    let regrouped : t ++ rest ≡ is.0 ++ (is.1 ++ rest) = ap (λ (l : List ℕ). l ++ rest) is.6 ∙ append_assoc is.0 is.1 rest in
-    ap (begins p) regrouped ∙ decimal_first p b is.0 is.2 (is.1 ++ rest) h is.4
-
-pub billionths_again : (t : List ℕ) (amount : ℤ) (rest : List ℕ) → IsNumber t amount → begins goes_on rest ≡ false → read_billionths (t ++ rest) ≡ Ok (amount, rest)
-billionths_again t amount rest ((n, inl (is, same)), in_range) e =
-    let most : n ≤ greatest_amount = let within = in_range.1 in omega (arith, ints, within, same) in
-    let judged : nat_le n greatest_amount ≡ true = grind (arith, most) in
-    let no_sign = amount_first (λ c. c == 45) false t n rest (λ c d. differs is_digit 45 c refl d) is in
-    rw (no_sign, amount_again (t ++ rest) t n rest is e, judged) (ap (λ (i : ℤ). Ok (i, rest)) (sym same))
-billionths_again t amount rest ((n, inr (digits, is, whole, same)), in_range) e =
-    let most : n ≤ 2 ^ 63 * 1000000000 = let within = in_range.0 in omega (arith, ints, within, same) in
-    let judged : nat_le n (2 ^ 63 * 1000000000) ≡ true = grind (arith, most) in
-    rw (whole, amount_again (45 ∷ (digits ++ rest)) digits n rest is e, judged) (ap (λ (i : ℤ). Ok (i, rest)) (sym same))
-
--- ---- how a number begins
-
--- each character that may begin a number answers so, and a number with it
-pub billionths_first : (p : ℕ → Bool) (b : Bool) (t : List ℕ) (amount : ℤ) (rest : List ℕ) → ((c : ℕ) → begins_int c ≡ true → p c ≡ b) → IsNumber t amount → begins p (t ++ rest) ≡ b
-billionths_first p b t amount rest h is = elim is.0.1 [
-  | inl above ↦ amount_first p b t is.0.0 rest (λ c d. h c (digit_begins c d)) above.0
-  | inr below ↦ ap (λ (l : List ℕ). begins p (l ++ rest)) below.2 ∙ h 45 refl
-]
 
 -- ---- bytes
 
@@ -247,39 +212,38 @@ counted cs rest before after e b a =
 
 -- ---- the number
 
--- each digit is at most nine
-value_below : (n : ℕ) (ds : List ℕ) → AllPass is_digit ds → value_from n ds < (n + 1) * 10 ^ length ds
-value_below n [] passes = omega arith
-value_below n (d ∷ ds) passes =
+-- digits, as they are scanned, and what they write
+pub digits_are : (n : ℕ) (ds : List ℕ) → AllPass is_digit ds → AllDigits 10 ds × (digits_value_after 10 n ds ≡ value_from n ds)
+digits_are n [] passes = (tt, refl)
+digits_are n (c ∷ ds) passes =
     let digit = passes.0 in
-    let nine : d - 48 ≤ 9 = grind (arith, digit) in
-    let next : n * 10 + (d - 48) + 1 ≤ (n + 1) * 10 = omega (arith, nine) in
-    let below = value_below (n * 10 + (d - 48)) ds passes.1 in
-    let grown = mul-le-mul_right (10 ^ length ds) next in
-    let more : 10 ^ suc (length ds) ≡ 10 * 10 ^ length ds = pow-succ' 10 (length ds) in
-    rw more (omega (arith, below, grown))
+    let least : 48 ≤ c = grind (arith, digit) in
+    let most : c ≤ 57 = grind (arith, digit) in
+    let is : digit_value c ≡ c - 48 = omega (arith, digit_value_digit c (least, most)) in
+    let rest = digits_are (n * 10 + (c - 48)) ds passes.1 in
+    rw is ((omega (arith, most), rest.0), rest.1)
+
+few_below : (k : ℕ) (ds : List ℕ) → AllPass is_digit ds → length ds ≤ k → value_from 0 ds < 10 ^ k
+few_below k ds passes few =
+    let d = digits_are 0 ds passes in
+    rw (← d.1) (digits_value_short (numerals_by_value (AllDigits 10) tells_digits) ds k d.0 few)
 
 -- a fraction is less than one
 pub fraction_below : (ds : List ℕ) → AllPass is_digit ds → length ds ≤ 9 → fraction_of ds < 1000000000
 fraction_below ds passes few =
-    let below = value_below 0 ds passes in
+    let below = few_below (length ds) ds passes (omega arith) in
     let some : 0 < 10 ^ (9 - length ds) = one-le-pow (9 - length ds) 10 (omega arith) in
     let grown : value_from 0 ds * 10 ^ (9 - length ds) < 10 ^ length ds * 10 ^ (9 - length ds) = mul-lt-mul_of_pos_right (omega (arith, below)) some in
     let nine : length ds + (9 - length ds) ≡ 9 = omega (arith, few) in
     let whole : 10 ^ length ds * 10 ^ (9 - length ds) ≡ 1000000000 = sym (pow-add 10 (length ds) (9 - length ds)) ∙ ap (λ (k : ℕ). 10 ^ k) nine in
     omega (arith, grown, whole)
 
-value_few : (ds : List ℕ) → AllPass is_digit ds → length ds ≤ 9 → value_from 0 ds < 1000000000
-value_few ds passes few =
-    let some : 0 < 10 ^ (9 - length ds) = one-le-pow (9 - length ds) 10 (omega arith) in
-    omega (arith, fraction_below ds passes few, le-mul_of_pos_right (value_from 0 ds) some)
-
 -- a fraction by the number of its digits and by how many they are
 pub fraction_is : (ds : List ℕ) (value power count : ℕ) → AllPass is_digit ds → count ≡ length ds → count ≤ 9 → value ≡ min (value_from 0 ds) (2 ^ 128 - 1) → power ≡ 10 ^ (9 - count)
     → value * power ≡ fraction_of ds
 fraction_is ds value power count passes c few v p =
     let within : length ds ≤ 9 = omega (arith, c, few) in
-    let same : value ≡ value_from 0 ds = omega (arith, v, value_few ds passes within) in
+    let same : value ≡ value_from 0 ds = omega (arith, v, few_below 9 ds passes within) in
     let scale : power ≡ 10 ^ (9 - length ds) = p ∙ ap (λ (k : ℕ). 10 ^ (9 - k)) c in
     rw (same, scale) refl
 

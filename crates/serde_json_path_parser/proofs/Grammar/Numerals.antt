@@ -1,14 +1,16 @@
 -- Numerals of any length, and number literals by either rule: what is read is one, each is read, and how one begins.
-use Rattle.serde_json_path_parser.proofs.Words.{Amount, IsAmount, IsDecimal, IsFraction, IsLiteral, IsNumber, IsNumberLiteral, IsNumeralOf, NumberOutOfRange, AllPass, Numbers, whole_numbers, all_numbers, as_literal, begins_int, billionths, held_as, literal_of, number, read_held, read_number, scan, sign_text, value_from, ints, append-nil, drop, length, Option, None, Some, ℤ, pos, if◌then◌else◌, ◌+◌, ◌-◌, ◌*◌, ◌^◌, ◌≤◌, eqb-true, ◌<◌, Err, encode_utf8, encode_ascii, ◌==◌, ◌≡◌, ℕ, Bool, true, false, List, [], ◌∷◌, ◌++◌, Ok, refl, sym, ap, ◌∙◌, inl, inr, arith, append_assoc, begins, is_digit, is_exponent, is_sign, is_at, byte_count, front, Parsed, with_front, after_first, AreDigits, AreSignedDigits, IsExponent, IsNumeral, IsPlaces, read_some_digits, read_places, read_signed_digits, read_exponent, read_numeral, ExponentOrEmptyFraction, LongHand}
-use Rattle.serde_json_path_parser.proofs.Reading.{whole, front_all, past_run, begins_where, differs, after_one, Plain, OutcomeIn, Outcome, Read, gives, choose, guarded, refused, onward, past_in, made, after_in, weaker}
-use Rattle.serde_json_path_parser.proofs.Grammar.Numbers.{billionths_outcome, billionths_again, billionths_first, digit_begins, AsText, goes_on, no_part, front_are_digits, digits_begin, whole_text_outcome, whole_text_again, decimal_first}
+use Rattle.serde_json_path_parser.proofs.Words.{Ghosts, Reader, Failure, Refused, IsAsRead, left, option_map, refusal, Amount, IsAmount, IsDecimal, IsFraction, IsLiteral, IsNumber, IsNumberLiteral, IsNumeralOf, NumberOutOfRange, Numbers, whole_numbers, all_numbers, as_literal, begins_int, billionths, held_as, held_or, literal_of, number, read_signed, read_number, scan, sign_text, ints, nat_le, cases_Bool, none-some, subst, Literal, append-nil, drop, length, Option, None, Some, ℤ, pos, if◌then◌else◌, ◌+◌, ◌-◌, ◌*◌, ◌^◌, ◌≤◌, eqb-true, ◌<◌, Err, encode_utf8, encode_ascii, ◌==◌, ◌≡◌, ℕ, Bool, true, false, List, [], ◌∷◌, ◌++◌, Ok, refl, sym, ap, ◌∙◌, inl, inr, arith, append_assoc, begins, is_digit, is_exponent, is_sign, is_at, byte_count, front, Parsed, with_front, after_first, AreDigits, AreSignedDigits, IsExponent, IsNumeral, IsPlaces, read_some_digits, read_places, read_signed_digits, read_exponent, read_numeral, ExponentOrEmptyFraction, LongHand}
+use Rattle.serde_json_path_parser.proofs.Reading.{whole, front_all, past_run, begins_where, differs, after_one, Plain, OutcomeIn, Outcome, gives, choose, guarded, refused, onward, past_in, made, after_in, weaker}
+use Rattle.serde_json_path_parser.proofs.Grammar.Numbers.{amount_outcome, amount_again, digits_are, digit_begins, AsText, goes_on, no_part, front_are_digits, digits_begin, whole_text_outcome, whole_text_again, decimal_first}
 use Rattle.serde_json_path_numbers.proofs.ReadBack.{plain_held}
 use Rattle.serde_json_path_numbers.specs.Numerals.{most_billionths}
 use Rattle.serde_json_path_numbers.specs.Numerals as amount
 use Rattle.std.specs.Prelude.{neg_ℤ}
-use Rattle.std.specs.Char.{digit_value}
-use Rattle.std.specs.Str.Parse.{AllDigits, digits_value, digits_value_after}
-use Rattle.std.proofs.lemmas.Str.{digit_value_digit}
+use Rattle.std.specs.Str.Parse.{digits_value}
+use Rattle.std.proofs.Common.{leb-true}
+use Rattle.std.specs.Option.{ok_or}
+use Rattle.serde_json_path_parser.specs.Inside.Words.{literal_view}
+use Rattle.serde_json_path_syntax.specs.declared.literal.Literal as declared
 
 -- ---- what a reading gives, of a numeral that begins at start
 
@@ -103,91 +105,106 @@ pub numeral_first : (p : ℕ → Bool) (b : Bool) (t rest : List ℕ) → ((c : 
 numeral_first p b t rest h (a, q, c, n, is_whole, are_places, is_exp, same) =
     rw (parted a q c rest same) (decimal_first p b a n (q ++ (c ++ rest)) h is_whole)
 
--- ---- number literals, by either rule
-
-literal_is : (rule : Numbers) (t : List ℕ) (a : Amount) → IsNumberLiteral rule t a → IsLiteral rule (literal_of a) t
-literal_is rule t (billionths b) h = h
-literal_is rule t (amount.decimal d) h = h
-
--- the literal of a numeral that begins at start, or its sign does
-held_outcome : (negative : Bool) (start cs : List ℕ) → OutcomeIn (λ t l. IsLiteral all_numbers l (sign_text negative ++ t)) Plain start cs (read_held negative start cs)
-held_outcome negative start cs = onward (numeral_outcome start cs) (λ t e r. held t r (held_as negative (scan t.0)) refl)
-  where
-    held : (t : List ℕ × List ℕ) → Read (AsText IsNumeral) cs t → (a : Option Amount) → held_as negative (scan t.0) ≡ a → OutcomeIn (λ t l. IsLiteral all_numbers l (sign_text negative ++ t)) Plain start cs (as_literal start a t.1)
-    held t r None e = refused NumberOutOfRange LongHand refl
-    held t r (Some a) e = gives (literal_of a, t.1) (record {
-      text = r.text;
-      is_so = literal_is all_numbers _ a (negative, r.text, r.is_so.1, refl, ap (λ (l : List ℕ). held_as negative (scan l)) (sym r.is_so.0) ∙ e);
-      split = r.split;
-    })
-
-pub number_outcome : (rule : Numbers) (cs : List ℕ) → Outcome (λ t l. IsLiteral rule l t) Plain cs (read_number rule cs)
-number_outcome whole_numbers cs = made (λ b. number b) (λ t b is. is) (billionths_outcome cs)
-number_outcome all_numbers cs = choose (λ e. past_in (45 ∷ []) (after_one 45 cs e) (held_outcome true cs (drop 1 cs))) (λ _. held_outcome false cs cs)
-
-pub number_again : (rule : Numbers) (t : List ℕ) (a : Amount) (rest : List ℕ) → IsNumberLiteral rule t a → begins goes_on rest ≡ false → read_number rule (t ++ rest) ≡ Ok (literal_of a, rest)
-number_again whole_numbers t (billionths b) rest is e = rw (billionths_again t b rest is e) refl
-number_again whole_numbers t (amount.decimal d) rest is e = absurd is
-number_again all_numbers t a rest (true, numeral, is, same, held) e = rw (same, numeral_again (45 ∷ (numeral ++ rest)) numeral rest is e, held) refl
-number_again all_numbers t a rest (false, numeral, is, same, held) e =
-    let no_sign = numeral_first (λ c. c == 45) false numeral rest (λ c d. differs is_digit 45 c refl d) is in
-    rw (same, no_sign, numeral_again (numeral ++ rest) numeral rest is e, held) refl
-
--- each character that may begin a number answers so, and a number with it
-pub number_first : (rule : Numbers) (p : ℕ → Bool) (b : Bool) (t : List ℕ) (a : Amount) (rest : List ℕ) → ((c : ℕ) → begins_int c ≡ true → p c ≡ b) → IsNumberLiteral rule t a → begins p (t ++ rest) ≡ b
-number_first whole_numbers p b t (billionths n) rest h is = billionths_first p b t n rest h is
-number_first whole_numbers p b t (amount.decimal d) rest h is = absurd is
-number_first all_numbers p b t a rest h (true, numeral, is, same, held) = rw same (h 45 refl)
-number_first all_numbers p b t a rest h (false, numeral, is, same, held) = rw same (numeral_first p b numeral rest (λ c d. h c (digit_begins c d)) is)
-
 -- ---- what is read by whole numbers is read by all numbers
-
--- the digits, as they are scanned, and what they write
-digits_are : (n : ℕ) (ds : List ℕ) → AllPass is_digit ds → AllDigits 10 ds × (digits_value_after 10 n ds ≡ value_from n ds)
-digits_are n [] passes = (tt, refl)
-digits_are n (c ∷ ds) passes =
-    let digit = passes.0 in
-    let least : 48 ≤ c = grind (arith, digit) in
-    let most : c ≤ 57 = grind (arith, digit) in
-    let is : digit_value c ≡ c - 48 = omega (arith, digit_value_digit c (least, most)) in
-    let rest = digits_are (n * 10 + (c - 48)) ds passes.1 in
-    rw is ((omega (arith, most), rest.0), rest.1)
 
 -- n, or -n
 abbrev signed : Bool → ℕ → ℤ
 signed negative n = if negative then neg_ℤ (pos n) else pos n
 
-fraction_places : (t : List ℕ) (n : ℕ) → IsFraction t n → IsPlaces t
-fraction_places t n is = elim is [ inl none ↦ inl none.0 | inr some ↦ inr (some.0, (some.2, some.3), some.1) ]
+-- a number by its sign and what comes after it
+number_parts : (t : List ℕ) (b : ℤ) → IsNumber t b → (negative : Bool) × (digits : List ℕ) × (n : ℕ) × IsAmount digits n × (t ≡ sign_text negative ++ digits) × (n ≤ most_billionths negative) × (b ≡ signed negative n)
+number_parts t b ((n, inl (is, same)), range) = (false, t, n, is, refl, let most = range.1 in omega (arith, ints, most, same), same)
+number_parts t b ((n, inr (digits, is, whole, same)), range) = (true, digits, n, is, whole, let least = range.0 in omega (arith, ints, least, same), omega (arith, ints, same))
 
 fraction_held : (negative : Bool) (a b : List ℕ) (w f : ℕ) → IsDecimal a w → IsFraction b f → w * 1000000000 + f ≤ most_billionths negative
-    → held_as negative (scan (a ++ b)) ≡ Some (billionths (signed negative (w * 1000000000 + f)))
+    → IsPlaces b × (held_as negative (scan (a ++ b)) ≡ Some (billionths (signed negative (w * 1000000000 + f))))
 fraction_held negative a b w f d is few =
     let whole = digits_are 0 a d.passes in
     let worth : digits_value 10 a ≡ w = whole.1 ∙ sym d.value_of in
     elim is [
       | inl none ↦
           let value : digits_value 10 a * 1000000000 + digits_value 10 [] * 10 ^ 9 ≡ w * 1000000000 + f = omega (arith, worth, none.1) in
-          ap (λ (l : List ℕ). held_as negative (scan (a ++ l))) none.0 ∙ plain_held negative false a [] whole.0 tt (λ e. refl) (omega arith) (omega (arith, value, few)) ∙ ap (λ (n : ℕ). Some (billionths (signed negative n))) value
+          (inl none.0, rw none.0 (plain_held negative false a [] whole.0 tt (λ e. refl) (omega arith) (omega (arith, value, few)) ∙ ap (λ (n : ℕ). Some (billionths (signed negative n))) value))
       | inr some ↦
           let digits = digits_are 0 some.0 some.2 in
           let value : digits_value 10 a * 1000000000 + digits_value 10 some.0 * 10 ^ (9 - length some.0) ≡ w * 1000000000 + f = rw (worth, digits.1, some.5) refl in
-          ap (λ (l : List ℕ). held_as negative (scan (a ++ l))) some.1 ∙ plain_held negative true a some.0 whole.0 digits.0 (λ e. cc) some.4 (rw value few) ∙ ap (λ (n : ℕ). Some (billionths (signed negative n))) value
+          (inr (some.0, (some.2, some.3), some.1), rw some.1 (plain_held negative true a some.0 whole.0 digits.0 (λ e. cc) some.4 (rw value few) ∙ ap (λ (n : ℕ). Some (billionths (signed negative n))) value))
     ]
 
 amount_held : (negative : Bool) (t : List ℕ) (n : ℕ) → IsAmount t n → n ≤ most_billionths negative → IsNumeral t × (held_as negative (scan t) ≡ Some (billionths (signed negative n)))
-amount_held negative t n (a, b, w, f, is_whole, is, same, sum) few = (
-  (a, b, [], w, is_whole, fraction_places b f is, inl refl, same ∙ ap (λ (l : List ℕ). a ++ l) (sym (append-nil b))),
-  rw (same, sum) (fraction_held negative a b w f is_whole is (rw (← sum) few)),
-)
+amount_held negative t n (a, b, w, f, is_whole, is, same, sum) few =
+    let held = fraction_held negative a b w f is_whole is (rw (← sum) few) in
+    ((a, b, [], w, is_whole, held.0, inl refl, same ∙ ap (λ (l : List ℕ). a ++ l) (sym (append-nil b))), rw (same, sum) held.1)
 
-pub plain_read : (t : List ℕ) (b : ℤ) → IsNumber t b → IsNumeralOf t (billionths b)
-plain_read t b ((n, inl (is, same)), range) =
-    let h = amount_held false t n is (let most = range.1 in omega (arith, ints, most, same)) in
-    (false, t, h.0, refl, h.1 ∙ ap (λ (i : ℤ). Some (billionths i)) (sym same))
-plain_read t b ((n, inr (digits, is, whole, same)), range) =
-    let h = amount_held true digits n is (let least = range.0 in omega (arith, ints, least, same)) in
-    (true, digits, h.0, whole, h.1 ∙ ap (λ (i : ℤ). Some (billionths i)) (omega (arith, ints, same)))
+pub as_numeral : (rule : Numbers) (t : List ℕ) (a : Amount) → IsNumberLiteral rule t a → IsNumeralOf t a
+as_numeral whole_numbers t (billionths b) h =
+    let (negative, digits, n, is, whole, few, worth) = number_parts t b h in
+    let held = amount_held negative digits n is few in
+    (negative, digits, held.0, whole, held.1 ∙ ap (λ (i : ℤ). Some (billionths i)) (sym worth))
+as_numeral whole_numbers t (amount.decimal d) h = absurd h
+as_numeral all_numbers t a h = h
+
+-- ---- number literals, by either rule: what a reading gives
+
+-- so many billionths with that sign, as a number
+number_is : (negative : Bool) (t : List ℕ) (n : ℕ) → IsAmount t n → n ≤ most_billionths negative → IsNumber (sign_text negative ++ t) (signed negative n)
+number_is true t n is few = ((n, inr (t, is, refl, omega (arith, ints))), (omega (arith, ints, few), omega (arith, ints, few)))
+number_is false t n is few = ((n, inl (is, refl)), (omega (arith, ints, few), omega (arith, ints, few)))
+
+held_number : (negative : Bool) (t : List ℕ) (n : ℕ) (a : Amount) → IsAmount t n → held_or negative (Some n) None ≡ Some a → IsNumberLiteral whole_numbers (sign_text negative ++ t) a
+held_number negative t n a is e = elim (cases_Bool (nat_le n (most_billionths negative))) [
+  | inl few ↦
+      let same : billionths (signed negative n) ≡ a = let at = rw few at e in cc in
+      subst (IsNumberLiteral whole_numbers (sign_text negative ++ t)) same (number_is negative t n is (leb-true n (most_billionths negative) few))
+  | inr many ↦ absurd (none-some _ (rw many at e))
+]
+
+literal_is : (rule : Numbers) (t : List ℕ) (a : Amount) → IsNumberLiteral rule t a → IsLiteral rule (literal_of a) t
+literal_is rule t (billionths b) h = h
+literal_is rule t (amount.decimal d) h = h
+
+module _ (rule : Numbers) (negative : Bool) (start cs : List ℕ) where
+  -- a literal after its sign
+  abbrev IsAfterSign : List ℕ → Literal → Type 0
+  IsAfterSign t l = IsLiteral rule l (sign_text negative ++ t)
+
+  literal_outcome : (t rest : List ℕ) (o : Option Amount) → cs ≡ t ++ rest → ((a : Amount) → o ≡ Some a → IsNumberLiteral rule (sign_text negative ++ t) a) → OutcomeIn IsAfterSign Plain start cs (as_literal start o rest)
+  literal_outcome t rest None split is = refused NumberOutOfRange LongHand refl
+  literal_outcome t rest (Some a) split is = gives (literal_of a, rest) (record { text = t; is_so = literal_is rule (sign_text negative ++ t) a (is a refl); split = split })
+
+after_sign_outcome : (rule : Numbers) (negative : Bool) (start cs : List ℕ) → OutcomeIn (IsAfterSign rule negative start cs) Plain start cs (read_signed rule negative start cs)
+after_sign_outcome whole_numbers negative start cs = onward (amount_outcome start cs) (λ n e r.
+    literal_outcome whole_numbers negative start cs r.text n.1 (held_or negative (Some n.0) None) r.split (λ a is. held_number negative r.text n.0 a r.is_so is))
+after_sign_outcome all_numbers negative start cs = onward (numeral_outcome start cs) (λ t e r.
+    literal_outcome all_numbers negative start cs r.text t.1 (held_as negative (scan t.0)) r.split (λ a is. (negative, r.text, r.is_so.1, refl, rw r.is_so.0 at is)))
+
+pub number_outcome : (rule : Numbers) (cs : List ℕ) → Outcome (λ t l. IsLiteral rule l t) Plain cs (read_number rule cs)
+number_outcome rule cs = choose (λ e. past_in (45 ∷ []) (after_one 45 cs e) (after_sign_outcome rule true cs (drop 1 cs))) (λ _. after_sign_outcome rule false cs cs)
+
+-- ---- each is read
+
+at_sign : (rule : Numbers) (negative : Bool) (t rest : List ℕ) → IsNumeral t → read_number rule ((sign_text negative ++ t) ++ rest) ≡ read_signed rule negative ((sign_text negative ++ t) ++ rest) (t ++ rest)
+at_sign rule true t rest is = refl
+at_sign rule false t rest is = rw (numeral_first (λ c. c == 45) false t rest (λ c d. differs is_digit 45 c refl d) is) refl
+
+pub number_again : (rule : Numbers) (t : List ℕ) (a : Amount) (rest : List ℕ) → IsNumberLiteral rule t a → begins goes_on rest ≡ false → read_number rule (t ++ rest) ≡ Ok (literal_of a, rest)
+number_again whole_numbers t (billionths b) rest h e =
+    let (negative, digits, n, is, whole, few, worth) = number_parts t b h in
+    let judged : nat_le n (most_billionths negative) ≡ true = grind (arith, few) in
+    rw whole (at_sign whole_numbers negative digits rest (amount_held negative digits n is few).0 ∙ rw (amount_again _ digits n rest is e, judged) (ap (λ (i : ℤ). Ok (number i, rest)) (sym worth)))
+number_again whole_numbers t (amount.decimal d) rest h e = absurd h
+number_again all_numbers t a rest (negative, numeral, is, same, held) e =
+    rw same (at_sign all_numbers negative numeral rest is ∙ rw (numeral_again _ numeral rest is e, held) refl)
+
+-- ---- how a number begins
+
+numeral_begins : (p : ℕ → Bool) (b : Bool) (t : List ℕ) (a : Amount) (rest : List ℕ) → ((c : ℕ) → begins_int c ≡ true → p c ≡ b) → IsNumeralOf t a → begins p (t ++ rest) ≡ b
+numeral_begins p b t a rest h (true, numeral, is, same, held) = rw same (h 45 refl)
+numeral_begins p b t a rest h (false, numeral, is, same, held) = rw same (numeral_first p b numeral rest (λ c d. h c (digit_begins c d)) is)
+
+-- each character that may begin a number answers so, and a number with it
+pub number_first : (rule : Numbers) (p : ℕ → Bool) (b : Bool) (t : List ℕ) (a : Amount) (rest : List ℕ) → ((c : ℕ) → begins_int c ≡ true → p c ≡ b) → IsNumberLiteral rule t a → begins p (t ++ rest) ≡ b
+number_first rule p b t a rest h is = numeral_begins p b t a rest h (as_numeral rule t a is)
 
 -- ---- as the code reads it
 
@@ -201,3 +218,11 @@ pub first_taken : {cs ds after : List ℕ} {c : ℕ} (p : ℕ → Bool) (read : 
 first_taken {c = c} p read before ascii e begun pushed =
     let passes : p c ≡ true = sym (ap (begins p) e) ∙ begun in
     rw (e, pushed, encode_ascii c (ascii c passes)) (with_both before (c ∷ []) (read _))
+
+-- the literal of an amount is given, or the refusal
+pub literal_given : {S : Type 0} {g : Ghosts S} (start : List ℕ) (reader : Reader S g) (o : Option Amount) (l : Option declared.Literal) (stop : Failure) → option_map literal_view l ≡ option_map literal_of o → stop ≡ Refused (refusal NumberOutOfRange LongHand start)
+    → IsAsRead literal_view (ok_or l stop) reader (as_literal start o (left reader))
+literal_given start reader None None stop e is = rw is refl
+literal_given start reader (Some a) (Some l) stop e is = let same : literal_view l ≡ literal_of a = cc in rw same refl
+literal_given start reader None (Some l) stop e is = absurd cc
+literal_given start reader (Some a) None stop e is = absurd cc

@@ -1,24 +1,19 @@
 -- What reads by whole numbers reads by all numbers, part by part.
-use Rattle.serde_json_path_parser.proofs.Words.{Query, query, Segments, no_segments, segment, SegmentKind, Segment, dot_name, dot_wildcard, long_hand, Selectors, no_selectors, selector, Selector, name, wildcard, index, slice, filter, LogicalOr, no_or, or, LogicalAnd, no_and, and, Basic, paren, relation, test, Operand, literal, queried, called, Call, call, Arguments, no_arguments, argument, Argument, operand, logical_argument, Literal, text, number, truth, null, whole_numbers, all_numbers, MayBeArgument, Reads, ReadSegments, ReadsSegment, ReadSelectors, ReadMoreSelectors, ReadsSelector, ReadsOr, ReadMoreOrs, ReadsAnd, ReadMoreAnds, ReadsBasic, ReadsOperand, ReadsCall, ReadArguments, ReadMoreArguments, ReadsArgument, Negated, IsLiteral, ℕ, List, Bool, true, false}
-use Rattle.serde_json_path_parser.proofs.Grammar.Numerals.{plain_read}
+use Rattle.serde_json_path_parser.proofs.Words.{billionths, Query, query, Segments, no_segments, segment, SegmentKind, Segment, long_hand, Selectors, no_selectors, selector, Selector, filter, LogicalOr, no_or, or, LogicalAnd, no_and, and, Basic, paren, relation, test, Operand, literal, queried, called, Call, call, Arguments, no_arguments, argument, Argument, operand, logical_argument, Literal, number, truth, whole_numbers, all_numbers, MayBeArgument, Reads, ReadSegments, ReadsSegment, ReadSelectors, ReadMoreSelectors, ReadsSelector, ReadsOr, ReadMoreOrs, ReadsAnd, ReadMoreAnds, ReadsBasic, ReadsOperand, ReadsCall, ReadArguments, ReadMoreArguments, ReadsArgument, Negated, IsLiteral, ℕ, List, Bool, true, false}
+use Rattle.serde_json_path_parser.proofs.Grammar.Numerals.{as_numeral}
 use Rattle.serde_json_path_parser.specs.Laws.{AllNumbersReadMore}
 use Rattle.serde_json_path_syntax.specs.Tree as tree
 
 literal_more : (l : Literal) (t : List ℕ) → IsLiteral whole_numbers l t → IsLiteral all_numbers l t
-literal_more (number b) t h = plain_read t b h
+literal_more (number b) t h = as_numeral whole_numbers t (billionths b) h
 literal_more (tree.decimal d) t h = absurd h
-literal_more (text bytes) t h = h
 literal_more (truth true) t h = h
-literal_more (truth false) t h = h
-literal_more null t h = h
+literal_more _ t h = h
 
 -- by all numbers each operand may be an argument
 any_argument : (o : Operand) → MayBeArgument all_numbers o
 any_argument (literal (number b)) = tt
-any_argument (literal (tree.decimal d)) = tt
-any_argument (literal (text bytes)) = tt
-any_argument (literal (truth b)) = tt
-any_argument (literal null) = tt
+any_argument (literal _) = tt
 any_argument _ = tt
 
 negated_more : {Is More : List ℕ → Type 0} (negated : Bool) (t : List ℕ) → ((a : List ℕ) → Is a → More a) → Negated negated Is t → Negated negated More t
@@ -35,8 +30,7 @@ mutual
 
   segment_more : (seg : Segment) (kind : SegmentKind) (t : List ℕ) → ReadsSegment whole_numbers seg kind t → ReadsSegment all_numbers seg kind t
   segment_more (long_hand sels) kind t (j, a, k, before, are, after, e) = (j, a, k, before, selectors_more sels a are, after, e)
-  segment_more (dot_name bytes) kind t h = h
-  segment_more dot_wildcard kind t h = h
+  segment_more _ kind t h = h
 
   selectors_more : (sels : Selectors) (t : List ℕ) → ReadSelectors whole_numbers sels t → ReadSelectors all_numbers sels t
   selectors_more no_selectors t h = h
@@ -48,10 +42,7 @@ mutual
 
   selector_more : (sel : Selector) (t : List ℕ) → ReadsSelector whole_numbers sel t → ReadsSelector all_numbers sel t
   selector_more (filter x) t (k, a, blank, is, e) = (k, a, blank, or_more x a is, e)
-  selector_more (name bytes) t h = h
-  selector_more wildcard t h = h
-  selector_more (index i) t h = h
-  selector_more (slice s) t h = h
+  selector_more _ t h = h
 
   or_more : (x : LogicalOr) (t : List ℕ) → ReadsOr whole_numbers x t → ReadsOr all_numbers x t
   or_more no_or t h = h

@@ -5,7 +5,7 @@ use Rattle.std.proofs.lemmas.Fmt.{decimal_digit, decimal-digits_of}
 use Rattle.std.proofs.lemmas.Int.Digits.{all_below_base_digits_of, first_digits_of, number_digits_of}
 use Rattle.serde_json_path_parser.proofs.Grammar.Numbers.{zero_is}
 use Rattle.serde_json_path_parser.proofs.Printing.QuotedTexts.{Spells, Spelt, spell_nothing, spell_both, spell_ascii, spell_sign, spelt_nothing, spelt_as, spelt_after, string_spelt}
-use Rattle.serde_json_path_parser.proofs.Grammar.Numerals.{plain_read}
+use Rattle.serde_json_path_parser.proofs.Grammar.Numerals.{as_numeral}
 use Rattle.serde_json_path_parser.proofs.Reading.{some_begun}
 use Rattle.serde_json_path_numbers.proofs.ReadBack.{held_in_range, read_back}
 use Rattle.serde_json_path_numbers.specs.Decimals.{Decimal, decimal_text, has_point, place_digits, size_text}
@@ -197,7 +197,7 @@ number_spelt (negsuc n) range =
 
 billionths_spelt : (rule : Numbers) (t : List ℕ) (b : ℤ) → IsNumberLiteral rule t (billionths b) → Spelt (λ t. IsNumberLiteral rule t (billionths b)) (number_text b)
 billionths_spelt whole_numbers t b is = number_spelt b is.1
-billionths_spelt all_numbers t b (negative, numeral, is, same, held) = spelt_as (λ t is. plain_read t b is) (number_spelt b (held_in_range negative (scan numeral) b held))
+billionths_spelt all_numbers t b (negative, numeral, is, same, held) = spelt_as (λ t is. as_numeral whole_numbers t (billionths b) is) (number_spelt b (held_in_range negative (scan numeral) b held))
 
 -- ---- decimals
 

@@ -1,9 +1,9 @@
 //! Number literals.
 
-ghost use Rattle.std.specs.Prelude.{◌≡◌, ◌≤◌, ◌<◌, ℕ, List, length, IfOk};
+ghost use Rattle.std.specs.Prelude.{◌≡◌, ◌≤◌, ◌<◌, ℕ, List, length, IfOk, Some, None};
 ghost use Rattle.std.specs.Option.{option_map};
 ghost use Rattle.serde_json_path_functions.specs.Terms.{numbers_view};
-ghost use Rattle.serde_json_path_parser.specs.Inside.Words.{all_numbers, held_as, scan, literal_of, literal_view, number_amount, IsAsRead, MovesTo, left, read_whole, read_fraction, read_amount, read_billionths, read_number, capped};
+ghost use Rattle.serde_json_path_parser.specs.Inside.Words.{held_as, held_or, scan, literal_of, literal_view, IsAsRead, MovesTo, left, read_whole, read_fraction, read_amount, read_number, capped};
 
 use crate::error::{Failure, ParseErrorKind as Kind};
 use crate::parser::primitive::decimal::parse_decimal;
@@ -80,62 +80,35 @@ fn parse_amount<S: PathSource>(reader: &mut Reader<'_, S>, place: usize) -> Resu
     Ok(whole.saturating_mul(ONE).saturating_add(fraction))
 }
 
-/// Parses a number literal from -2^63 to 2^64 - 1, from its first digit or its `-` on. It has no exponent, and at most nine
-/// digits after its point. Its digits are read whole before they are checked.
-fn parse_billionths<S: PathSource>(reader: &mut Reader<'_, S>) -> Result<NumberLiteral, Failure>
-    ensures moves { MovesTo result reader.old reader.new }
-    ensures gives { IsAsRead number_amount result reader.new (read_billionths (left reader.old)) }
+/// The literal of so many billionths with that sign, unless there are too many.
+fn short_literal(is_negative: bool, billionths: u128) -> Option<Literal>
+    ensures { option_map literal_view result
+        ≡ option_map literal_of (held_or is_negative (Some billionths) None) }
 {
-    let place = reader.bytes_left();
-    let is_negative = reader.sees(b'-');
-    if is_negative {
-        reader.take_char();
-    }
-    let amount = parse_amount(reader, place)?.min(TOO_MANY) as i128;
-    let signed = if is_negative { -amount } else { amount };
-    match NumberLiteral::from_billionths(signed) {
-        Some(literal) => Ok(literal),
-        None => Err(Failure::in_long_hand(Kind::NumberOutOfRange, place)),
-    }
+    let size = billionths.min(TOO_MANY) as i128;
+    let signed = if is_negative { -size } else { size };
+    let number = NumberLiteral::from_billionths(signed)?;
+    Some(Literal::Number(number))
 }
 
 /// The literal that a numeral with that sign is held as, unless it is beyond the greatest double.
 #[tactic(auto, using(serde_json_path_numbers::proofs::ReadBack::held_in_range))]
-fn literal_of(is_negative: bool, numeral: &str) -> Option<Literal>
+fn long_literal(is_negative: bool, numeral: &str) -> Option<Literal>
     ensures { option_map literal_view result
         ≡ option_map literal_of (held_as is_negative (scan numeral.now)) }
 {
     match numeral_amount(is_negative, numeral.as_bytes())? {
-        Amount::Billionths(amount) => {
-            let number = NumberLiteral::from_billionths(amount)?;
+        Amount::Billionths(billionths) => {
+            let number = NumberLiteral::from_billionths(billionths)?;
             Some(Literal::Number(number))
         }
         Amount::Decimal(decimal) => Some(Literal::Decimal(decimal)),
     }
 }
 
-/// Parses a number literal of any length, perhaps with an exponent, from its first digit or its `-` on.
-fn parse_held<S: PathSource>(
-    alloc: Global,
-    reader: &mut Reader<'_, S>,
-) -> Result<Literal, Failure>
-    ensures moves { MovesTo result reader.old reader.new }
-    ensures gives { IsAsRead literal_view result reader.new
-        (read_number all_numbers (left reader.old)) }
-{
-    let place = reader.bytes_left();
-    let is_negative = reader.sees(b'-');
-    if is_negative {
-        reader.take_char();
-    }
-    let numeral = parse_numeral(alloc, reader, place)?;
-    match literal_of(is_negative, numeral.as_str()) {
-        Some(literal) => Ok(literal),
-        None => Err(Failure::in_long_hand(Kind::NumberOutOfRange, place)),
-    }
-}
-
-/// Parses a number literal (RFC 9535, section 2.3.5.1). By whole numbers it takes no memory.
+/// Parses a number literal (RFC 9535, section 2.3.5.1), from its first digit or its `-` on. By whole numbers it is from
+/// -2^63 to 2^64 - 1, has no exponent and at most nine digits after its point, and takes no memory. Its digits are read
+/// whole before they are checked.
 pub(crate) fn parse_number<S: PathSource>(
     alloc: Global,
     reader: &mut Reader<'_, S>,
@@ -145,8 +118,20 @@ pub(crate) fn parse_number<S: PathSource>(
     ensures gives { IsAsRead literal_view result reader.new
         (read_number (numbers_view numbers) (left reader.old)) }
 {
+    let place = reader.bytes_left();
+    let is_negative = reader.sees(b'-');
+    if is_negative {
+        reader.take_char();
+    }
+    let out_of_range = Failure::in_long_hand(Kind::NumberOutOfRange, place);
     match numbers {
-        Numbers::Whole => Ok(Literal::Number(parse_billionths(reader)?)),
-        Numbers::All => parse_held(alloc, reader),
+        Numbers::Whole => {
+            let billionths = parse_amount(reader, place)?;
+            short_literal(is_negative, billionths).ok_or(out_of_range)
+        }
+        Numbers::All => {
+            let numeral = parse_numeral(alloc, reader, place)?;
+            long_literal(is_negative, numeral.as_str()).ok_or(out_of_range)
+        }
     }
 }
