@@ -3,7 +3,8 @@ use Rattle.serde_json_path_parser.proofs.Words.{Ghosts, Reader, Failure, Refused
 use Rattle.serde_json_path_parser.proofs.Reading.{whole, front_all, past_run, begins_where, differs, after_one, Plain, OutcomeIn, Outcome, gives, choose, guarded, refused, onward, past_in, made, after_in, weaker}
 use Rattle.serde_json_path_parser.proofs.Grammar.Numbers.{amount_outcome, amount_again, digits_are, digit_begins, AsText, goes_on, no_part, front_are_digits, digits_begin, whole_text_outcome, whole_text_again, decimal_first}
 use Rattle.serde_json_path_numbers.proofs.ReadBack.{plain_held}
-use Rattle.serde_json_path_numbers.specs.Numerals.{most_billionths}
+use Rattle.serde_json_path_numbers.specs.Decimals.{most_billionths}
+use Rattle.serde_json_path_numbers.specs.Numerals.{}
 use Rattle.serde_json_path_numbers.specs.Numerals as amount
 use Rattle.std.specs.Prelude.{neg_ℤ}
 use Rattle.std.specs.Str.Parse.{digits_value}
