@@ -1,5 +1,5 @@
 -- Steps of the code: rows of items that a loop reads, how the builder grows by them, arguments, and what stands in filters.
-use Rattle.serde_json_path_parser.proofs.Words.{or_parts, ◌||◌, begins_test, read_number, read_operand, with_front, Numbers, ◌↔◌, append-nil, map-append, name_of, names_of, calls_in_segments, calls_from, calls_in_arguments, KeepsParts, KeepsTrees, calls_in, AreDeclared, MayFinish, deepest, names_in, IsTyped, depth, Part, query, root, Segments, Call, call, Arguments, SyntaxBuilder, Signature, Grows, Parsed, Failure, Reader, Ghosts, SegmentKind, Segment, ArePartsOf, segment_list, length-append, Branch, IsPart, ArePartsFor, parts_for_kept, Fails, GrowsFrom, ◌>>=◌, many, Selector, LogicalOr, LogicalAnd, Basic, Deeper, a_selector, an_and, a_basic, segment_branch, segment_branches, selector_branches, or_branches, and_branches, calls_in_selectors, calls_in_or, calls_in_and, selector_list, or_list, and_list, past_blanks, is_at, are_at, begins, opens, opens_next, level, read_segment, read_selector, read_and, read_basic, no_arguments, argument, Argument, Kind, ExpectedClosingParenthesis, calls_in_argument, IsAsRead, MakesArguments, refusal, ends_argument, read_argument, read_some_arguments, nat_tests, Literal, ExpectedExpression, Operand, literal, word, past_word, read_literal_word, literal_word, of_value, kind_view, is_result, ◌==◌, filter, byte_count, read_or, read_call, IsTrue, is_singular, Query, IsSingular, result_kind, WrongReturnType, called, cond, ◌≡◌, ◌≤◌, ℕ, List, [], ◌∷◌, ◌++◌, inl, inr, Some, Option, Result, Ok, Err, refl, sym, ap, subst, ◌∙◌, append_assoc, ◌<◌, Bool, true, false, length, arith, drop, None, zero, suc, ◌-◌, Memory, Refused, Context, read_filter, LongHand, MakesSo, calls_in_branch, same_from_decides, IsComparable, argument_branch, read_comparable, queried, refusal_at, NonSingularQuery, read_negated_test, read_test}
+use Rattle.serde_json_path_parser.proofs.Words.{◌||◌, begins_test, read_number, read_operand, with_front, Numbers, ◌↔◌, append-nil, map-append, name_of, names_of, calls_in_segments, calls_from, calls_in_arguments, KeepsParts, KeepsTrees, calls_in, AreDeclared, MayFinish, deepest, names_in, IsTyped, depth, Part, query, root, Segments, Call, call, Arguments, SyntaxBuilder, Signature, Grows, Parsed, Failure, Reader, Ghosts, SegmentKind, Segment, ArePartsOf, segment_list, length-append, Branch, IsPart, ArePartsFor, parts_for_kept, Fails, GrowsFrom, ◌>>=◌, many, Selector, LogicalOr, LogicalAnd, Basic, Deeper, a_selector, an_and, a_basic, segment_branch, segment_branches, selector_branches, or_branches, and_branches, calls_in_selectors, calls_in_or, calls_in_and, selector_list, or_list, and_list, past_blanks, is_at, are_at, begins, opens, opens_next, level, read_segment, read_selector, read_and, read_basic, no_arguments, argument, Argument, Kind, ExpectedClosingParenthesis, calls_in_argument, IsAsRead, MakesArguments, refusal, ends_argument, read_argument, read_some_arguments, nat_tests, Literal, ExpectedExpression, Operand, literal, word, past_word, read_literal_word, literal_word, of_value, kind_view, is_result, ◌==◌, filter, byte_count, read_or, read_call, IsTrue, is_singular, Query, IsSingular, result_kind, WrongReturnType, called, cond, ◌≡◌, ◌≤◌, ℕ, List, [], ◌∷◌, ◌++◌, inl, inr, Some, Option, Result, Ok, Err, refl, sym, ap, subst, ◌∙◌, append_assoc, ◌<◌, Bool, true, false, length, arith, drop, None, zero, suc, ◌-◌, Memory, Refused, Context, read_filter, LongHand, MakesSo, calls_in_branch, same_from_decides, IsComparable, argument_branch, read_comparable, queried, refusal_at, NonSingularQuery, read_negated_test, read_test}
 use Rattle.serde_json_path_syntax.proofs.Names.Finishing.{may_finish}
 use Rattle.serde_json_path_syntax.proofs.Lists.{in_append}
 use Rattle.serde_json_path_parser.proofs.Grammar.Calls.{level_laws}
@@ -345,19 +345,11 @@ read_literal None cs = Err (refusal ExpectedExpression LongHand cs)
 pub literal_word_reads : (cs : List ℕ) → read_literal_word cs ≡ read_literal (literal_word (word cs)) cs
 literal_word_reads cs = grind (arith, nat_tests)
 
--- what begins an operand that is no number
-abbrev pub begins_otherwise : ℕ → Bool
-begins_otherwise c = c == 39 || c == 34 || begins_test c
-
-pub number_reads : (rule : Numbers) (signature : List ℕ → Option Signature) (deeper : Deeper) (cs : List ℕ) (l : Literal) (rest : List ℕ) → begins begins_otherwise cs ≡ false → read_number rule cs ≡ Ok (l, rest)
-    → read_operand rule signature deeper cs ≡ Ok (literal l, past_blanks rest)
+-- where no other operand begins, a number is read
+pub number_reads : (rule : Numbers) (signature : List ℕ → Option Signature) (deeper : Deeper) (cs : List ℕ) (l : Literal) (rest : List ℕ) → begins (λ c. c == 39 || c == 34 || begins_test c) cs ≡ false
+    → read_number rule cs ≡ Ok (l, rest) → read_operand rule signature deeper cs ≡ Ok (literal l, past_blanks rest)
 number_reads rule signature deeper [] l rest other read = rw read refl
-number_reads rule signature deeper (c ∷ cs) l rest other read =
-    let parts = or_parts (c == 39 || c == 34) _ other in
-    let quotes = or_parts (c == 39) _ parts.0 in
-    let test = or_parts (c == 64 || c == 36) _ parts.1 in
-    let query = or_parts (c == 64) _ test.0 in
-    rw (quotes.0, quotes.1, query.0, query.1, test.1, read) refl
+number_reads rule signature deeper (c ∷ cs) l rest other read = grind (arith, other, read)
 
 -- ---- the steps of the code within a filter
 

@@ -1,5 +1,5 @@
 -- Numerals of any length, and number literals by either rule: what is read is one, each is read, and how one begins.
-use Rattle.serde_json_path_parser.proofs.Words.{Ghosts, Reader, Failure, Refused, IsAsRead, left, option_map, refusal, Amount, IsAmount, IsDecimal, IsFraction, IsLiteral, IsNumber, IsNumberLiteral, IsNumeralOf, NumberOutOfRange, Numbers, whole_numbers, all_numbers, as_literal, begins_int, billionths, held_as, held_or, literal_of, number, read_signed, read_number, scan, sign_text, ints, nat_le, cases_Bool, none-some, subst, Literal, append-nil, drop, length, Option, None, Some, ℤ, pos, if◌then◌else◌, ◌+◌, ◌-◌, ◌*◌, ◌^◌, ◌≤◌, eqb-true, ◌<◌, Err, encode_utf8, encode_ascii, ◌==◌, ◌≡◌, ℕ, Bool, true, false, List, [], ◌∷◌, ◌++◌, Ok, refl, sym, ap, ◌∙◌, inl, inr, arith, append_assoc, begins, is_digit, is_exponent, is_sign, is_at, byte_count, front, Parsed, with_front, after_first, AreDigits, AreSignedDigits, IsExponent, IsNumeral, IsPlaces, read_some_digits, read_places, read_signed_digits, read_exponent, read_numeral, ExponentOrEmptyFraction, LongHand}
+use Rattle.serde_json_path_parser.proofs.Words.{AllPass, fraction_of, Ghosts, Reader, Failure, Refused, IsAsRead, left, option_map, refusal, Amount, IsAmount, IsDecimal, IsFraction, IsLiteral, IsNumber, IsNumberLiteral, IsNumeralOf, NumberOutOfRange, Numbers, whole_numbers, all_numbers, as_literal, begins_int, billionths, held_as, held_or, literal_of, number, read_signed, read_number, scan, sign_text, ints, nat_le, cases_Bool, none-some, subst, Literal, append-nil, drop, length, Option, None, Some, ℤ, pos, if◌then◌else◌, ◌+◌, ◌-◌, ◌*◌, ◌^◌, ◌≤◌, eqb-true, ◌<◌, Err, encode_utf8, encode_ascii, ◌==◌, ◌≡◌, ℕ, Bool, true, false, List, [], ◌∷◌, ◌++◌, Ok, refl, sym, ap, ◌∙◌, inl, inr, arith, append_assoc, begins, is_digit, is_exponent, is_sign, is_at, byte_count, front, Parsed, with_front, after_first, AreDigits, AreSignedDigits, IsExponent, IsNumeral, IsPlaces, read_some_digits, read_places, read_signed_digits, read_exponent, read_numeral, ExponentOrEmptyFraction, LongHand}
 use Rattle.serde_json_path_parser.proofs.Reading.{whole, front_all, past_run, begins_where, differs, after_one, Plain, OutcomeIn, Outcome, gives, choose, guarded, refused, onward, past_in, made, after_in, weaker}
 use Rattle.serde_json_path_parser.proofs.Grammar.Numbers.{amount_outcome, amount_again, digits_are, digit_begins, AsText, goes_on, no_part, front_are_digits, digits_begin, whole_text_outcome, whole_text_again, decimal_first}
 use Rattle.serde_json_path_numbers.proofs.ReadBack.{plain_held}
@@ -117,25 +117,19 @@ number_parts : (t : List ℕ) (b : ℤ) → IsNumber t b → (negative : Bool) �
 number_parts t b ((n, inl (is, same)), range) = (false, t, n, is, refl, let most = range.1 in omega (arith, ints, most, same), same)
 number_parts t b ((n, inr (digits, is, whole, same)), range) = (true, digits, n, is, whole, let least = range.0 in omega (arith, ints, least, same), omega (arith, ints, same))
 
-fraction_held : (negative : Bool) (a b : List ℕ) (w f : ℕ) → IsDecimal a w → IsFraction b f → w * 1000000000 + f ≤ most_billionths negative
-    → IsPlaces b × (held_as negative (scan (a ++ b)) ≡ Some (billionths (signed negative (w * 1000000000 + f))))
-fraction_held negative a b w f d is few =
-    let whole = digits_are 0 a d.passes in
-    let worth : digits_value 10 a ≡ w = whole.1 ∙ sym d.value_of in
-    elim is [
-      | inl none ↦
-          let value : digits_value 10 a * 1000000000 + digits_value 10 [] * 10 ^ 9 ≡ w * 1000000000 + f = omega (arith, worth, none.1) in
-          (inl none.0, rw none.0 (plain_held negative false a [] whole.0 tt (λ e. refl) (omega arith) (omega (arith, value, few)) ∙ ap (λ (n : ℕ). Some (billionths (signed negative n))) value))
-      | inr some ↦
-          let digits = digits_are 0 some.0 some.2 in
-          let value : digits_value 10 a * 1000000000 + digits_value 10 some.0 * 10 ^ (9 - length some.0) ≡ w * 1000000000 + f = rw (worth, digits.1, some.5) refl in
-          (inr (some.0, (some.2, some.3), some.1), rw some.1 (plain_held negative true a some.0 whole.0 digits.0 (λ e. cc) some.4 (rw value few) ∙ ap (λ (n : ℕ). Some (billionths (signed negative n))) value))
-    ]
+-- a fraction by whether there is a point, and its digits
+fraction_parts : (t : List ℕ) (n : ℕ) → IsFraction t n → IsPlaces t × (point : Bool) × (ds : List ℕ) × (t ≡ (if point then 46 ∷ ds else [])) × AllPass is_digit ds × (point ≡ false → ds ≡ []) × (length ds ≤ 9) × (n ≡ fraction_of ds)
+fraction_parts t n (inl (none, zero)) = (inl none, false, [], none, tt, λ e. refl, omega arith, zero)
+fraction_parts t n (inr (ds, same, passes, some, few, worth)) = (inr (ds, (passes, some), same), true, ds, same, passes, λ e. cc, few, worth)
 
 amount_held : (negative : Bool) (t : List ℕ) (n : ℕ) → IsAmount t n → n ≤ most_billionths negative → IsNumeral t × (held_as negative (scan t) ≡ Some (billionths (signed negative n)))
-amount_held negative t n (a, b, w, f, is_whole, is, same, sum) few =
-    let held = fraction_held negative a b w f is_whole is (rw (← sum) few) in
-    ((a, b, [], w, is_whole, held.0, inl refl, same ∙ ap (λ (l : List ℕ). a ++ l) (sym (append-nil b))), rw (same, sum) held.1)
+amount_held negative t n (a, b, w, f, d, is, same, sum) few =
+    let (places, point, ds, split, passes, none, nine, worth) = fraction_parts b f is in
+    let whole = digits_are 0 a d.passes in
+    let fraction = digits_are 0 ds passes in
+    let value : digits_value 10 a * 1000000000 + digits_value 10 ds * 10 ^ (9 - length ds) ≡ n = rw (whole.1, ← d.value_of, fraction.1, ← worth) (sym sum) in
+    let held = plain_held negative point a ds whole.0 fraction.0 none nine (rw value few) in
+    ((a, b, [], w, d, places, inl refl, same ∙ ap (λ (l : List ℕ). a ++ l) (sym (append-nil b))), ap (λ (l : List ℕ). held_as negative (scan l)) (same ∙ ap (λ (l : List ℕ). a ++ l) split) ∙ held ∙ ap (λ (m : ℕ). Some (billionths (signed negative m))) value)
 
 pub as_numeral : (rule : Numbers) (t : List ℕ) (a : Amount) → IsNumberLiteral rule t a → IsNumeralOf t a
 as_numeral whole_numbers t (billionths b) h =

@@ -4,7 +4,7 @@ use Rattle.std.specs.Int.Digits.{digits_of, number_from_digits_after, AllBelowBa
 use Rattle.std.proofs.lemmas.Fmt.{decimal_digit, decimal-digits_of}
 use Rattle.std.proofs.lemmas.Int.Digits.{all_below_base_digits_of, first_digits_of, number_digits_of}
 use Rattle.serde_json_path_parser.proofs.Grammar.Numbers.{zero_is}
-use Rattle.serde_json_path_parser.proofs.Printing.QuotedTexts.{Spells, Spelt, spell_nothing, spell_both, spell_ascii, spell_sign, spelt_nothing, spelt_as, spelt_after, string_spelt}
+use Rattle.serde_json_path_parser.proofs.Printing.QuotedTexts.{Spells, Spelt, spell_nothing, spell_both, spell_ascii, spell_passing, spell_sign, spelt_nothing, spelt_as, spelt_after, string_spelt}
 use Rattle.serde_json_path_parser.proofs.Grammar.Numerals.{as_numeral}
 use Rattle.serde_json_path_parser.proofs.Reading.{some_begun}
 use Rattle.serde_json_path_numbers.proofs.ReadBack.{held_in_range, read_back}
@@ -24,9 +24,12 @@ begins_digit : (digits : List ℕ) → AllBelowBase 10 digits → 0 < get_or dig
 begins_digit [] h some = absurd (omega (arith, some))
 begins_digit (d ∷ ds) h some = (digit_is d h.0, grind (arith, nat_tests, some))
 
-each_digit : (digits : List ℕ) → AllBelowBase 10 digits → AllPass is_digit (map (λ digit. 48 + digit) digits) × AllByRecursion (λ c. c < 128) (map (λ digit. 48 + digit) digits)
-each_digit [] h = (tt, tt)
-each_digit (d ∷ ds) h = let rest = each_digit ds h.1 in ((digit_is d h.0, rest.0), (omega (arith, h.0), rest.1))
+each_digit : (digits : List ℕ) → AllBelowBase 10 digits → AllPass is_digit (map (λ digit. 48 + digit) digits)
+each_digit [] h = tt
+each_digit (d ∷ ds) h = (digit_is d h.0, each_digit ds h.1)
+
+digits_spell : (t : List ℕ) → AllPass is_digit t → Spells t t
+digits_spell t passes = spell_passing is_digit (λ c d. grind (arith, d)) t passes
 
 -- the digits write their number
 digits_value : (n : ℕ) (digits : List ℕ) → value_from n (map (λ digit. 48 + digit) digits) ≡ number_from_digits_after 10 n digits
@@ -37,47 +40,39 @@ digits_value n (d ∷ ds) =
 
 -- ---- natural numbers and integers
 
--- the text is a decimal number of ASCII
-abbrev IsPrinted : ℕ → List ℕ → Type 0
-IsPrinted n t = IsDecimal t n × Spells t t
-
-zero_numeral : IsPrinted 0 (48 ∷ [])
-zero_numeral = (zero_is, spell_ascii (48 ∷ []) (omega arith, tt))
-
-digits_numeral : (n : ℕ) → 0 < n → IsPrinted n (map (λ digit. 48 + digit) (digits_of 10 n))
-digits_numeral n some =
+digits_decimal : (n : ℕ) → 0 < n → IsDecimal (map (λ digit. 48 + digit) (digits_of 10 n)) n
+digits_decimal n some =
     let digits = digits_of 10 n in
     let below = all_below_base_digits_of 10 n (omega arith) in
     let first = begins_digit digits below (first_digits_of 10 n (omega arith) some) in
-    let passes = each_digit digits below in
-    (record { first = first.0; passes = passes.0; plain = inr first.1; value_of = sym (digits_value 0 digits ∙ number_digits_of 10 n (omega arith)) }, spell_ascii _ passes.1)
+    record { first = first.0; passes = each_digit digits below; plain = inr first.1; value_of = sym (digits_value 0 digits ∙ number_digits_of 10 n (omega arith)) }
 
 -- a position as it is printed in a location
-in_decimal_is : (n : ℕ) → IsPrinted n (in_decimal n)
+in_decimal_is : (n : ℕ) → IsDecimal (in_decimal n) n
 unfolding in_decimal
-in_decimal_is zero = zero_numeral
-in_decimal_is (suc n) = digits_numeral (suc n) (omega arith)
+in_decimal_is zero = zero_is
+in_decimal_is (suc n) = digits_decimal (suc n) (omega arith)
 
 pub position_spelt : (n : ℕ) → n ≤ largest → Spelt (λ t. IsInt t (pos n)) (in_decimal n)
 position_spelt n most =
     let d = in_decimal_is n in
-    record { characters = in_decimal n; spells = d.1; is_so = (d.0, (omega (arith, ints, most), omega (arith, ints, most))) }
+    record { characters = in_decimal n; spells = digits_spell (in_decimal n) d.passes; is_so = (d, (omega (arith, ints, most), omega (arith, ints, most))) }
 
 -- a number as std prints it
-decimal_is : (n : ℕ) → n < 2 ^ 64 → IsPrinted n (decimal n)
-decimal_is zero fits = subst (IsPrinted 0) (sym (decimal_digit 0 (omega arith))) zero_numeral
-decimal_is (suc n) fits = subst (IsPrinted (suc n)) (sym (decimal-digits_of (suc n) (omega arith) fits)) (digits_numeral (suc n) (omega arith))
+decimal_is : (n : ℕ) → n < 2 ^ 64 → IsDecimal (decimal n) n
+decimal_is zero fits = subst (λ t. IsDecimal t 0) (sym (decimal_digit 0 (omega arith))) zero_is
+decimal_is (suc n) fits = subst (λ t. IsDecimal t (suc n)) (sym (decimal-digits_of (suc n) (omega arith) fits)) (digits_decimal (suc n) (omega arith))
 
 -- an integer is printed as it reads
 pub int_spelt : (t : List ℕ) (i : ℤ) → IsInt t i → Spelt (λ t. IsInt t i) (signed_decimal i)
 int_spelt t (pos n) is =
     let fits : n < 2 ^ 64 = let most = is.1.1 in omega (arith, ints, most) in
     let d = decimal_is n fits in
-    record { characters = decimal n; spells = d.1; is_so = (d.0, is.1) }
+    record { characters = decimal n; spells = digits_spell (decimal n) d.passes; is_so = (d, is.1) }
 int_spelt t (negsuc n) is =
     let fits : suc n < 2 ^ 64 = let least = is.1.0 in omega (arith, ints, least) in
     let d = decimal_is (suc n) fits in
-    spelt_after (spell_sign 45 (omega arith)) (record { characters = decimal (suc n); spells = d.1; is_so = d.0 }) (λ a decimal. ((a, decimal, refl), is.1))
+    spelt_after (spell_sign 45 (omega arith)) (record { characters = decimal (suc n); spells = digits_spell (decimal (suc n)) d.passes; is_so = d }) (λ a decimal. ((a, decimal, refl), is.1))
 
 -- ---- fractions
 
@@ -116,11 +111,10 @@ one_less places rest few h =
 record Writes (n places rest : ℕ) (digits : List ℕ) : Type 0 where
   few : length digits ≤ places
   passes : AllPass is_digit digits
-  low : AllByRecursion (λ c. c < 128) digits
   value : value_from n digits * 10 ^ (9 - length digits) ≡ n * 1000000000 + rest
 
 nothing_written : (n places rest : ℕ) → rest ≡ 0 → Writes n places rest []
-nothing_written n places rest none = record { few = omega arith; passes = tt; low = tt; value = omega (arith, none) }
+nothing_written n places rest none = record { few = omega arith; passes = tt; value = omega (arith, none) }
 
 shifted : (value power ten n rest : ℕ) → ten ≡ 10 * power → value * ten ≡ (n * 10 + rest / 100000000) * 1000000000 + (rest % 100000000) * 10
     → value * power ≡ n * 1000000000 + rest
@@ -138,7 +132,6 @@ one_written n places rest digits few small h =
     record {
       few = omega (arith, h.few);
       passes = (digit_is first small, h.passes);
-      low = (omega (arith, small), h.low);
       value = rw same (shifted (value_from (n * 10 + first) digits) (10 ^ (9 - suc (length digits))) (10 ^ (9 - length digits)) n rest ten h.value);
     }
 
@@ -169,7 +162,7 @@ fraction_is rest range = elim (eqb_tells rest 0) [
       let first : rest / 100000000 < 10 = omega (arith, range) in
       let value : rest ≡ fraction_of digits = omega (arith, w.value) in
       subst (λ t. IsFraction t rest × Spells t t) (sym (unless (rest == 0) [] (46 ∷ digits) some.0))
-      (inr (digits, refl, w.passes, some_digit rest some.0 first, w.few, value), spell_ascii (46 ∷ digits) (omega arith, w.low))
+      (inr (digits, refl, w.passes, some_digit rest some.0 first, w.few, value), spell_both (spell_sign 46 (omega arith)) (digits_spell digits w.passes))
 ]
 
 -- ---- number literals
@@ -179,8 +172,8 @@ amount_is n small =
     let whole = decimal_is (n / 1000000000) (omega (arith, small)) in
     let rest = n % 1000000000 in
     let fraction = fraction_is rest (omega arith) in (
-      (decimal (n / 1000000000), fraction_text rest, n / 1000000000, rest, whole.0, fraction.0, refl, omega arith),
-      spell_both whole.1 fraction.1,
+      (decimal (n / 1000000000), fraction_text rest, n / 1000000000, rest, whole, fraction.0, refl, omega arith),
+      spell_both (digits_spell _ whole.passes) fraction.1,
     )
 
 -- a number in the range is printed as it reads
@@ -207,7 +200,7 @@ IsSize t = IsNumeral t × Spells t t
 
 -- a number's digits
 digits_are : (n : ℕ) → n < 2 ^ 64 → AreDigits (decimal n) × Spells (decimal n) (decimal n)
-digits_are n fits = let d = decimal_is n fits in ((d.0.passes, some_begun is_digit (decimal n) d.0.first), d.1)
+digits_are n fits = let d = decimal_is n fits in ((d.passes, some_begun is_digit (decimal n) d.first), digits_spell (decimal n) d.passes)
 
 exponent_is : (e : ℤ) → unsigned_abs e ≤ 1000 → AreSignedDigits (signed_decimal e) × Spells (signed_decimal e) (signed_decimal e)
 exponent_is (pos n) low = let d = digits_are n (omega (arith, low)) in (inl d.0, d.1)
@@ -217,24 +210,22 @@ with_exponent : (n : ℕ) (e : ℤ) → n < 2 ^ 64 → unsigned_abs e ≤ 1000 �
 with_exponent n e fits low =
     let d = decimal_is n fits in
     let x = exponent_is e low in
-    ((decimal n, [], 101 ∷ signed_decimal e, n, d.0, inl refl, inr (101, signed_decimal e, refl, x.0, refl), refl), spell_both d.1 (spell_both (spell_sign 101 (omega arith)) x.1))
+    ((decimal n, [], 101 ∷ signed_decimal e, n, d, inl refl, inr (101, signed_decimal e, refl, x.0, refl), refl), spell_both (digits_spell _ d.passes) (spell_both (spell_sign 101 (omega arith)) x.1))
 
-places_are : (k n : ℕ) → n < 10 ^ k → AllPass is_digit (place_digits k n) × (length (place_digits k n) ≡ k) × Spells (place_digits k n) (place_digits k n)
-places_are zero n small = (tt, refl, spell_nothing)
+places_are : (k n : ℕ) → n < 10 ^ k → AllPass is_digit (place_digits k n) × (length (place_digits k n) ≡ k)
+places_are zero n small = (tt, refl)
 places_are (suc k) n small =
-    let first = n / 10 ^ k in
-    let digit : first < 10 = (div-lt_iff_lt-mul (one-le-pow k 10 (omega arith))).1 (omega (arith, small, pow-succ' 10 k)) in
+    let digit : n / 10 ^ k < 10 = (div-lt_iff_lt-mul (one-le-pow k 10 (omega arith))).1 (omega (arith, small, pow-succ' 10 k)) in
     let rest = places_are k (n % 10 ^ k) (mod-lt n (one-le-pow k 10 (omega arith))) in
-    rw (decimal_digit first digit) ((digit_is first digit, rest.0), ap suc rest.1, spell_both (spell_sign (48 + first) (omega (arith, digit))) rest.2)
+    rw (decimal_digit (n / 10 ^ k) digit) ((digit_is (n / 10 ^ k) digit, rest.0), ap suc rest.1)
 
 with_point : (n k : ℕ) → n < 2 ^ 64 → IsSize (decimal (n / 10 ^ suc k) ++ (46 ∷ place_digits (suc k) (n % 10 ^ suc k)))
 with_point n k fits =
     let front = n / 10 ^ suc k in
     let d = decimal_is front (omega (arith, fits, div-le_self n (10 ^ suc k))) in
-    let rest = n % 10 ^ suc k in
-    let p = places_are (suc k) rest (mod-lt n (one-le-pow (suc k) 10 (omega arith))) in
-    let places = place_digits (suc k) rest in
-    ((decimal front, 46 ∷ places, [], front, d.0, inr (places, (p.0, omega (arith, p.1)), refl), inl refl, ap (λ (l : List ℕ). decimal front ++ l) (sym (append-nil (46 ∷ places)))), spell_both d.1 (spell_both (spell_sign 46 (omega arith)) p.2))
+    let places = place_digits (suc k) (n % 10 ^ suc k) in
+    let p = places_are (suc k) (n % 10 ^ suc k) (mod-lt n (one-le-pow (suc k) 10 (omega arith))) in
+    ((decimal front, 46 ∷ places, [], front, d, inr (places, (p.0, omega (arith, p.1)), refl), inl refl, ap (λ (l : List ℕ). decimal front ++ l) (sym (append-nil (46 ∷ places)))), spell_both (digits_spell _ d.passes) (spell_both (spell_sign 46 (omega arith)) (digits_spell places p.0)))
 
 size_is : (n : ℕ) (e : ℤ) → n < 2 ^ 64 → unsigned_abs e ≤ 1000 → IsSize (size_text n e)
 size_is n (pos k) fits low = with_exponent n (pos k) fits low

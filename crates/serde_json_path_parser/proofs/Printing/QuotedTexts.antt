@@ -1,5 +1,5 @@
 -- A text between single quotes, as it is printed, reads as a string of it.
-use Rattle.serde_json_path_parser.proofs.Words.{AllByRecursion, IsScalar, encode_utf8_all, all_scalars, and_parts, encodes-append, encode_ascii, flat_map, digit_char, chars, IsUtf8, cases_lt, le-ltb, nat_tests, encodes-chars, scalars-chars, hexadecimal_escape, escape_of, in_quotes, quoted, hexadecimal_of, IsHex4, pair_of, escaped_by, is_plain, IsPiece, plain, quote_escape, letter_escape, hex_escape, pair_escape, ArePieces, IsQuote, IsString, ◌≡◌, ◌<◌, ℕ, true, List, [], ◌∷◌, ◌++◌, refl, ap, sym, ◌∙◌, arith, lt-ltb, ◌/◌, ◌%◌, ◌==◌, inl, inr, nat_lt, nat_le, Bool, false, if◌then◌else◌, Option, Some, None, unwrap_or, encode_utf8, subst, append-nil, eqb-true, ltb-true, ltb-false}
+use Rattle.serde_json_path_parser.proofs.Words.{AllByRecursion, AllPass, IsScalar, encode_utf8_all, all_scalars, and_parts, encodes-append, encode_ascii, flat_map, digit_char, chars, IsUtf8, cases_lt, le-ltb, nat_tests, encodes-chars, scalars-chars, hexadecimal_escape, escape_of, in_quotes, quoted, hexadecimal_of, IsHex4, pair_of, escaped_by, is_plain, IsPiece, plain, quote_escape, letter_escape, hex_escape, pair_escape, ArePieces, IsQuote, IsString, ◌≡◌, ◌<◌, ℕ, true, List, [], ◌∷◌, ◌++◌, refl, ap, sym, ◌∙◌, arith, lt-ltb, ◌/◌, ◌%◌, ◌==◌, inl, inr, nat_lt, nat_le, Bool, false, if◌then◌else◌, Option, Some, None, unwrap_or, encode_utf8, subst, append-nil, eqb-true, ltb-true, ltb-false}
 use Rattle.std.proofs.str.Laws.{scalars-append}
 use Rattle.serde_json_path_parser.proofs.Grammar.Strings.{of_quote}
 
@@ -49,6 +49,11 @@ spell_ascii (c ∷ t) h =
 -- a sign of one ASCII character
 pub spell_sign : (c : ℕ) → c < 128 → Spells (c ∷ []) (c ∷ [])
 spell_sign c low = spell_ascii (c ∷ []) (low, tt)
+
+-- a text whose characters pass a test that is for ASCII alone
+pub spell_passing : (p : ℕ → Bool) → ((c : ℕ) → p c ≡ true → c < 128) → (t : List ℕ) → AllPass p t → Spells t t
+spell_passing p low [] h = spell_nothing
+spell_passing p low (c ∷ t) h = spell_both (spell_sign c (low c h.0)) (spell_passing p low t h.1)
 
 pub spelt_nothing : {Is : List ℕ → Type 0} → Is [] → Spelt Is []
 spelt_nothing h = record { characters = []; spells = spell_nothing; is_so = h }

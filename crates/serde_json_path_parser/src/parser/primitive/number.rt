@@ -109,6 +109,7 @@ fn long_literal(is_negative: bool, numeral: &str) -> Option<Literal>
 /// Parses a number literal (RFC 9535, section 2.3.5.1), from its first digit or its `-` on. By whole numbers it is from
 /// -2^63 to 2^64 - 1, has no exponent and at most nine digits after its point, and takes no memory. Its digits are read
 /// whole before they are checked.
+#[tactic(auto, using(crate::proofs::Grammar::Numerals::literal_given))]
 pub(crate) fn parse_number<S: PathSource>(
     alloc: Global,
     reader: &mut Reader<'_, S>,
