@@ -1,6 +1,7 @@
 //! Comparisons that take all numbers, beside those that take whole numbers alone.
 
 use crate::tests::rows::{parsed, read_with, told};
+use serde_json::Value;
 use serde_json_path::functions::{Builtin, Functions};
 use serde_json_path::{JsonPath, Numbers};
 use std::alloc::Global;
@@ -107,6 +108,52 @@ const ARGUMENTS: &[&str] = &[
 fn takes_any_literal_as_an_argument_by_all_numbers(rt: HostRuntime) -> Result<(), Fail> {
     hold_rows(&rt, ARGUMENTS, |alloc, text| {
         let all = told(alloc, JsonPath::parse_by(alloc, text, Numbers::All))?;
+        Ok(format!(in alloc; "{all} ~ {}", parsed(alloc, text)?)?)
+    })
+}
+
+/// A path with a number literal, a document, and by all numbers the printed path, which is read back, and what it selects;
+/// then how whole numbers refuse it.
+const LITERALS: &[&str] = &[
+    "$[?@ > 1e6] ~ [1000000,1000001,1e7] -> $[?@ > 1000000] ~ $[1] $[2] ~ ExponentOrEmptyFraction 9",
+    "$[?@ == 0.0000000001] ~ [1e-10,0,0.0000000002] -> $[?@ == 1e-10] ~ $[0] ~ FractionTooLong 9",
+    "$[?@ == -1.5e+10] ~ [-15000000000,-1.5e10,1.5e10] -> $[?@ == -15000000000] ~ $[0] $[1] ~ ExponentOrEmptyFraction 9",
+    "$[?@ < 1E-2] ~ [0.01,0.009999999999999999,0] -> $[?@ < 0.01] ~ $[1] $[2] ~ ExponentOrEmptyFraction 9",
+    "$[?@ == 3.141592653589793] ~ [3.141592653589793,3.1415926535897927] -> $[?@ == 3.141592653589793] ~ $[0] ~ FractionTooLong 9",
+    "$[?@ == 18446744073709551616] ~ [18446744073709551615,18446744073709551616] -> $[?@ == 18446744073709552e3] ~ $[1] ~ NumberOutOfRange 9",
+    "$[?@ == 9007199254740993e0] ~ [9007199254740992,9007199254740993,9007199254740994] -> $[?@ == 9007199254740993] ~ $[1] ~ ExponentOrEmptyFraction 9",
+    "$[?@ > 0.1000000000000000055511151231257827] ~ [0.1,0.10000000000000002] -> $[?@ > 0.1] ~ $[1] ~ FractionTooLong 9",
+    "$[?@ == 1e-400] ~ [0,5e-324] -> $[?@ == 0] ~ $[0] ~ ExponentOrEmptyFraction 9",
+    "$[?1e400 == @] ~ [0] -> NumberOutOfRange 4 ~ ExponentOrEmptyFraction 4",
+    "$[?@ == 1.e5] ~ [0] -> ExponentOrEmptyFraction 9 ~ ExponentOrEmptyFraction 9",
+    "$[?@ == 1e+] ~ [0] -> ExponentOrEmptyFraction 9 ~ ExponentOrEmptyFraction 9",
+    "$[?length(1e-10) == 1] ~ [0] -> $[?length(1e-10) == 1] ~  ~ ExponentOrEmptyFraction 11",
+    "$[?1e-10 < 2e-10 && -1e30 < @] ~ [0,-1e31] -> $[?1e-10 < 2e-10 && -1e30 < @] ~ $[0] ~ ExponentOrEmptyFraction 4",
+];
+
+/// A path by all numbers: its text, which is read back, and what it selects; or its refusal.
+fn printed_and_located(alloc: Global, (text, document): (&str, &str)) -> Came {
+    let path = match JsonPath::parse_by(alloc, text, Numbers::All) {
+        Ok(path) => path,
+        Err(e) => return Ok(format!(in alloc; "{:?} {}", e.kind(), e.position())?),
+    };
+    let printed = path.to_text(alloc)?;
+    let again = JsonPath::parse_by(alloc, printed.as_str(), Numbers::All)?;
+    holds(
+        again == path && path.try_clone(alloc)? == path,
+        "another path",
+    )?;
+    let document = Value::from_str(alloc, document)?;
+    let nodes = path.query_located(alloc, &document)?;
+    Ok(format!(in alloc; "{printed} ~ {}", locations(alloc, &nodes)?)?)
+}
+
+#[test]
+fn reads_any_literal_by_all_numbers(rt: HostRuntime) -> Result<(), Fail> {
+    serde_json_path::law_all_numbers_read_more();
+    hold_rows(&rt, LITERALS, |alloc, row| {
+        let (text, document) = fields(row)?;
+        let all = printed_and_located(alloc, (text, document))?;
         Ok(format!(in alloc; "{all} ~ {}", parsed(alloc, text)?)?)
     })
 }

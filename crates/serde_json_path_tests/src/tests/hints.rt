@@ -267,7 +267,9 @@ const BY_ALL_NUMBERS: &[&str] = &[
 
 /// How a text is refused by a rule for numbers, and what was probably meant, or `nothing`.
 fn hinted_by(alloc: Global, text: &str, numbers: Numbers) -> Came {
-    let e = JsonPath::parse_by(alloc, text, numbers).err().ok_or("accepted")?;
+    let e = JsonPath::parse_by(alloc, text, numbers)
+        .err()
+        .ok_or("accepted")?;
     let hint = hint(text, &e, numbers).unwrap_or("nothing");
     Ok(format!(in alloc; "{:?} {} ~ {hint}", e.kind(), e.position())?)
 }
