@@ -57,8 +57,9 @@ extern "C" {
 #define JSONPATH_CONTROL_CHARACTER 6             /* A control character stands in a string. */
 #define JSONPATH_EXPECTED_SELECTOR 7             /* No selector begins where one should. */
 #define JSONPATH_INTEGER_OUT_OF_RANGE 8          /* An index, or a part of a slice, is out of range. */
-#define JSONPATH_EXPONENT_OR_EMPTY_FRACTION 9    /* A number literal has an exponent or a fraction without digits. */
-#define JSONPATH_NUMBER_OUT_OF_RANGE 10          /* A number literal is out of range. */
+#define JSONPATH_EXPONENT_OR_EMPTY_FRACTION 9    /* A number literal has an exponent, by whole numbers, or no
+                                                  * digit after a point or in an exponent. */
+#define JSONPATH_NUMBER_OUT_OF_RANGE 10          /* A number literal is beyond 64 bits, or by all numbers doubles. */
 #define JSONPATH_EXPECTED_EXPRESSION 11          /* No expression begins where one should. */
 #define JSONPATH_EXPECTED_CLOSING_PARENTHESIS 12 /* No `)` stands where one should. */
 #define JSONPATH_EXPECTED_COMPARISON_OPERATOR 13 /* A literal has no comparison operator after it. */
@@ -69,7 +70,7 @@ extern "C" {
 #define JSONPATH_WRONG_RETURN_TYPE 18            /* A call's result may not stand where the call does. */
 #define JSONPATH_NESTED_TOO_DEEP 19              /* Filters, parentheses and calls are nested more than 128 deep. */
 #define JSONPATH_TEXT_AFTER_PATH 20              /* There is text after the path. */
-#define JSONPATH_FRACTION_TOO_LONG 21            /* A number literal has more than nine digits of a fraction. */
+#define JSONPATH_FRACTION_TOO_LONG 21            /* A number literal has over nine digits of a fraction. */
 
 /* Why a path is refused, and where. */
 struct jsonpath_refusal {
@@ -80,8 +81,8 @@ struct jsonpath_refusal {
 /* How a path takes numbers. Where a call takes `numbers`, any but 0 is all numbers. */
 #define JSONPATH_WHOLE_NUMBERS 0 /* Comparisons take those that are held as 64-bit integers; any other equals nothing. A
                                   * number that is an argument has no fraction. */
-#define JSONPATH_ALL_NUMBERS 1   /* Comparisons take all, by their exact value, as RFC 9535 compares them. Any literal may be
-                                  * an argument. */
+#define JSONPATH_ALL_NUMBERS 1   /* Comparisons take all, by their exact value, as RFC 9535 compares them. Literals have any
+                                  * number of digits and exponents, and any may be an argument. */
 
 /* Whether a text is a path under the built-in functions, by that rule: DONE, PATH_REFUSED, NO_MEMORY or NOT_UTF8. `*refusal` is
  * written with PATH_REFUSED alone. */

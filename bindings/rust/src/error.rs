@@ -32,7 +32,7 @@ pub enum ParseErrorKind {
     ExpectedSelector,
     /// An index, or a part of a slice, is out of range.
     IntegerOutOfRange,
-    /// A number literal has an exponent or a fraction without digits.
+    /// A number literal has an exponent, by whole numbers, or no digit after a point or in an exponent.
     ExponentOrEmptyFraction,
     /// A number literal is out of range.
     NumberOutOfRange,

@@ -115,14 +115,14 @@ fn takes_any_literal_as_an_argument_by_all_numbers(rt: HostRuntime) -> Result<()
 /// A path with a number literal, a document, and by all numbers the printed path, which is read back, and what it selects;
 /// then how whole numbers refuse it.
 const LITERALS: &[&str] = &[
-    "$[?@ > 1e6] ~ [1000000,1000001,1e7] -> $[?@ > 1000000] ~ $[1] $[2] ~ ExponentOrEmptyFraction 9",
+    "$[?@ > 1e6] ~ [1000000,1000001,1e7] -> $[?@ > 1000000] ~ $[1] $[2] ~ ExponentOrEmptyFraction 8",
     "$[?@ == 0.0000000001] ~ [1e-10,0,0.0000000002] -> $[?@ == 1e-10] ~ $[0] ~ FractionTooLong 9",
     "$[?@ == -1.5e+10] ~ [-15000000000,-1.5e10,1.5e10] -> $[?@ == -15000000000] ~ $[0] $[1] ~ ExponentOrEmptyFraction 9",
-    "$[?@ < 1E-2] ~ [0.01,0.009999999999999999,0] -> $[?@ < 0.01] ~ $[1] $[2] ~ ExponentOrEmptyFraction 9",
+    "$[?@ < 1E-2] ~ [0.01,0.009999999999999999,0] -> $[?@ < 0.01] ~ $[1] $[2] ~ ExponentOrEmptyFraction 8",
     "$[?@ == 3.141592653589793] ~ [3.141592653589793,3.1415926535897927] -> $[?@ == 3.141592653589793] ~ $[0] ~ FractionTooLong 9",
     "$[?@ == 18446744073709551616] ~ [18446744073709551615,18446744073709551616] -> $[?@ == 18446744073709552e3] ~ $[1] ~ NumberOutOfRange 9",
     "$[?@ == 9007199254740993e0] ~ [9007199254740992,9007199254740993,9007199254740994] -> $[?@ == 9007199254740993] ~ $[1] ~ ExponentOrEmptyFraction 9",
-    "$[?@ > 0.1000000000000000055511151231257827] ~ [0.1,0.10000000000000002] -> $[?@ > 0.1] ~ $[1] ~ FractionTooLong 9",
+    "$[?@ > 0.1000000000000000055511151231257827] ~ [0.1,0.10000000000000002] -> $[?@ > 0.1] ~ $[1] ~ FractionTooLong 8",
     "$[?@ == 1e-400] ~ [0,5e-324] -> $[?@ == 0] ~ $[0] ~ ExponentOrEmptyFraction 9",
     "$[?1e400 == @] ~ [0] -> NumberOutOfRange 4 ~ ExponentOrEmptyFraction 4",
     "$[?@ == 1.e5] ~ [0] -> ExponentOrEmptyFraction 9 ~ ExponentOrEmptyFraction 9",
