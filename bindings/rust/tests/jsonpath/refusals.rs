@@ -1,7 +1,7 @@
 //! Refusals of paths.
 
 use jsonpath::ParseErrorKind::*;
-use jsonpath::{JsonPath, ParseErrorKind};
+use jsonpath::{JsonPath, Numbers, ParseErrorKind};
 use std::error::Error;
 
 /// A path, and the kind, the position and the message of its refusal.
@@ -63,13 +63,13 @@ const REFUSALS: &[(&str, ParseErrorKind, usize, &str)] = &[
         "in long-hand segment, integer out of range",
     ),
     (
-        "$[?@ == 1.5e3]",
+        "$[?@ == 1.5e]",
         ExponentOrEmptyFraction,
         9,
         "in long-hand segment, exponent or empty fraction not supported",
     ),
     (
-        "$[?@ == 18446744073709551616]",
+        "$[?@ == 1e400]",
         NumberOutOfRange,
         9,
         "in long-hand segment, number out of range",
@@ -124,11 +124,24 @@ const REFUSALS: &[(&str, ParseErrorKind, usize, &str)] = &[
     ),
     ("$.a ", TextAfterPath, 4, "text after the path"),
     ("$.a['b']tail", TextAfterPath, 9, "text after the path"),
+];
+
+/// A number literal, how whole numbers refuse it, and what was probably meant; all numbers read it.
+const LITERALS: &[(&str, ParseErrorKind, &str)] = &[
     (
-        "$[?@ == 0.0000000001]",
+        "1.5e3",
+        ExponentOrEmptyFraction,
+        "`1000` for `1e3`, `1` for `1.`",
+    ),
+    (
+        "0.0000000001",
         FractionTooLong,
-        9,
-        "in long-hand segment, fraction of more than 9 digits",
+        "at most nine digits after the point",
+    ),
+    (
+        "18446744073709551616",
+        NumberOutOfRange,
+        "a number from -2^63 to 2^64 - 1",
     ),
 ];
 
@@ -168,6 +181,13 @@ pub fn all() {
     }
     for (path, kind, position, message) in REFUSALS {
         refuses(path, *kind, *position, message);
+    }
+    for (literal, kind, hint) in LITERALS {
+        let path = format!("$[?@ == {literal}]");
+        let error = JsonPath::parse_with(&path, Numbers::Whole).unwrap_err();
+        assert_eq!((error.kind(), error.hint()), (*kind, Some(*hint)), "{path}");
+        let read = JsonPath::parse(&path).unwrap();
+        assert_eq!(JsonPath::parse(&read.to_string()).unwrap(), read, "{path}");
     }
     let deep = format!("$[?{}@{}]", "(".repeat(128), ")".repeat(128));
     let message = "in long-hand segment, nested more than 128 deep";
