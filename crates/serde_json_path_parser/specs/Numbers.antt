@@ -2,7 +2,7 @@
 -- characters: as amounts, and as texts of any length. That an amount has no exponent and one to
 -- nine digits of a fraction, and its range, are this project's own rules. Each refusal is reported
 -- where the literal begins: `start` bytes are left there.
-use Rattle.std.specs.Prelude.{ℕ, ◌+◌, ◌-◌, ◌*◌, ◌^◌, min, nat_le, ℤ, pos, ◌-ℤ◌, Bool, true, false, List, [], length, codes, take, drop, Option, Some, None, Ok, Err, if◌then◌else◌}
+use Rattle.std.specs.Prelude.{ℕ, ◌+◌, ◌-◌, ◌*◌, ◌^◌, min, nat_le, Bool, true, false, List, [], length, codes, take, drop, Option, Some, None, Ok, Err, if◌then◌else◌}
 use Rattle.serde_json_path_numbers.specs.Numerals as amount
 use Rattle.serde_json_path_parser.specs.Imports.{Numbers, whole_numbers, all_numbers, Literal, number, decimal, Amount, billionths, held_as, held_or, scan}
 use Rattle.serde_json_path_parser.specs.declared.error.ParseErrorKind.TheVariants.{ExpectedExpression, ExponentOrEmptyFraction, FractionTooLong, NumberOutOfRange}
