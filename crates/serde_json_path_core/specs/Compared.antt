@@ -3,7 +3,7 @@
 -- ordered; by all numbers each stands for its exact value. An object's members are taken as a document has them: each name
 -- once, in the order of the names' bytes.
 use Rattle.std.specs.Prelude.{◌≡◌, ℤ, pos, ◌*ℤ◌, ◌<ℤ◌, ◌⊎◌, Option, Some, None, option_map}
-use Rattle.serde_json_path_core.specs.Imports.{Float, nat_cmp, Less, slice_cmp, chars, Num, Data, null, boolean, number, string, array, object, Items, Members, no_items, item, no_members, member, as_integer, document_number, literal_number, AreEqualNumbers, IsLessNumber, Numbers, whole_numbers, all_numbers, Literal, Operator, equal, not_equal, less, less_or_equal, greater, greater_or_equal}
+use Rattle.serde_json_path_core.specs.Imports.{Float, nat_cmp, Less, slice_cmp, chars, Num, Data, null, boolean, number, float, string, array, object, Items, Members, no_items, item, no_members, member, as_integer, decimal_number, document_number, literal_number, AreEqualNumbers, IsLessNumber, Numbers, whole_numbers, all_numbers, Literal, Operator, equal, not_equal, less, less_or_equal, greater, greater_or_equal}
 use Rattle.serde_json_path_syntax.specs.Tree as tree
 
 -- what a comparable stands for: Nothing, a value, or the billionths of a number literal
@@ -115,6 +115,7 @@ module _ (numbers : Numbers) where
 abbrev pub literal_compared : Literal → Compared
 literal_compared (tree.text t) = value (string t)
 literal_compared (tree.number amount) = billionths amount
+literal_compared (tree.decimal d) = value (number (float (decimal_number d)))
 literal_compared (tree.truth b) = value (boolean b)
 literal_compared tree.null = value null
 

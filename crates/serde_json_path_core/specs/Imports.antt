@@ -11,6 +11,7 @@ pub use Rattle.serde_json_path_functions.specs.declared.error.QueryError.{QueryE
 pub use Rattle.serde_json_path_functions.specs.declared.error.QueryError.TheVariants.{Memory, Pattern}
 pub use Rattle.serde_json_path_nodes.specs.Location.{DescentBefore, Located, Step, StepBefore, at, by_name, by_position, child_at}
 pub use Rattle.serde_json_path_nodes.specs.Views.{located, node_value, step_view}
+pub use Rattle.serde_json_path_numbers.specs.Decimals.{decimal_number}
 pub use Rattle.serde_json_path_numbers.specs.Numbers.{AreEqualNumbers, IsInLiteralRange, IsLessNumber, document_number, literal_held, literal_number}
 pub use Rattle.serde_json_path_numbers.specs.Views.{exact_view}
 pub use Rattle.serde_json_path_syntax.specs.Calls.{OfEach, calls_from, calls_in_and, calls_in_argument, calls_in_basic, calls_in_operand, calls_in_or, calls_in_segment, calls_in_segments, calls_in_selector, calls_of}

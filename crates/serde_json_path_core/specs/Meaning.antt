@@ -1,7 +1,7 @@
 -- What a query selects (RFC 9535, sections 2.1 to 2.5), under a function set and at the root of a document.
 use Rattle.std.specs.Prelude.{◌≡◌, ◌≢◌, ℕ, zero, suc, ℤ, pos, ◌+ℤ◌, ◌<ℤ◌, List, [], ◌∷◌, map, ◌⊎◌, ◌↔◌, Bool, true, false, Option, Some, None, IsTrue}
-use Rattle.serde_json_path_core.specs.Imports.{AllZip, Data, Items, null_data, boolean, literal_held, number_data, string, as_array, items_len, Step, by_name, by_position, child_at, at, Located, Query, query, Segments, no_segments, segment, SegmentKind, child, descendant, Segment, dot_name, dot_wildcard, long_hand, Selectors, no_selectors, selector, Selector, name, wildcard, index, slice, filter, LogicalOr, no_or, or, LogicalAnd, no_and, and, Basic, paren, relation, test, Operand, literal, queried, called, Call, call, Arguments, no_arguments, argument, Argument, operand, logical_argument, Literal, text, truth, Kind, of_value, of_nodes, of_logical, Signature, Term, value, nodes, FunctionSet, IsIn, IsInOrder, logical}
-use Rattle.serde_json_path_syntax.specs.Tree.{number, null}
+use Rattle.serde_json_path_core.specs.Imports.{AllZip, Data, Items, null_data, boolean, decimal_number, float, literal_held, number_data, string, as_array, items_len, Step, by_name, by_position, child_at, at, Located, Query, query, Segments, no_segments, segment, SegmentKind, child, descendant, Segment, dot_name, dot_wildcard, long_hand, Selectors, no_selectors, selector, Selector, name, wildcard, index, slice, filter, LogicalOr, no_or, or, LogicalAnd, no_and, and, Basic, paren, relation, test, Operand, literal, queried, called, Call, call, Arguments, no_arguments, argument, Argument, operand, logical_argument, Literal, text, truth, Kind, of_value, of_nodes, of_logical, Signature, Term, value, nodes, FunctionSet, IsIn, IsInOrder, logical}
+use Rattle.serde_json_path_syntax.specs.Tree.{number, decimal, null}
 use Rattle.serde_json_path_core.specs.Slices.{SelectsPosition}
 use Rattle.serde_json_path_core.specs.Compared.{Compared, Compares, literal_compared, value_compared}
 use Rattle.serde_json_path_core.specs.Derivation.{Triple, start_of, BelongsTo, Before}
@@ -38,6 +38,7 @@ IsTruthOf P t = (b : Bool) × (t ≡ logical b) × (IsTrue b ↔ P)
 abbrev pub literal_value : Literal → Data
 literal_value (text t) = string t
 literal_value (number amount) = number_data (literal_held amount)
+literal_value (decimal d) = number_data (float (decimal_number d))
 literal_value (truth b) = boolean b
 literal_value null = null_data
 

@@ -36,7 +36,7 @@ pub use serde_json_path_nodes::{
     NodeList, Nodes, NormalizedPath, PathElement, PathElements, law_texts_tell_locations,
 };
 pub use serde_json_path_numbers::{
-    law_equality_of_numbers, law_integers_keep_their_order, law_numbers_are_finite,
+    Decimal, law_equality_of_numbers, law_integers_keep_their_order, law_numbers_are_finite,
     law_order_of_numbers,
 };
 pub use serde_json_path_syntax::{

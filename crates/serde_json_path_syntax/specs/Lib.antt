@@ -14,7 +14,7 @@ pub mod Used
 pub mod Text
 -- whether two trees are the same, as a computed test
 pub mod SameTree
--- the range of the numbers in a tree
+-- the range of the numbers in a tree, and the double of a decimal
 pub mod WellFormed
 -- what is in a list, and lists in an order
 pub mod Lists

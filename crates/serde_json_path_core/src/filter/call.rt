@@ -83,6 +83,10 @@ fn argument_as<'x, 'q: 'x, 'b: 'x, F: Functions>(
             Operand::Literal(LiteralValue::Number(number)) => {
                 Ok(FunctionValue::Value(ValueType::Value(number.value())))
             }
+            Operand::Literal(LiteralValue::Decimal(held)) => {
+                let literal: &'x Value = held.value();
+                Ok(FunctionValue::Value(ValueType::Node(literal)))
+            }
             Operand::Query(query) => result_as(scope, *query, kind, current),
             Operand::Call(call) => {
                 let answer: FunctionValue<'x> = answer(scope, *call, current)?;

@@ -19,9 +19,9 @@ const ONE: i128 = 1_000_000_000;
 pub(crate) enum Side<'s> {
     /// No value.
     Nothing,
-    /// A value of the document, of a function, or of a literal that is no number.
+    /// A value of the document, of a function, or of a literal that is no number of billionths.
     Value(&'s Value),
-    /// A number of the query.
+    /// A number of billionths in the query.
     Number(&'s NumberLiteral),
 }
 
@@ -45,6 +45,7 @@ pub(crate) fn side_of_literal(literal: &LiteralValue) -> Side<'_>
     match literal {
         LiteralValue::Value(value) => Side::Value(value),
         LiteralValue::Number(number) => Side::Number(number),
+        LiteralValue::Decimal(held) => Side::Value(held.value()),
     }
 }
 
