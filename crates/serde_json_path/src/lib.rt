@@ -30,9 +30,9 @@
 //!
 //! # Limits
 //!
-//! Filters, parentheses and calls may be nested 128 deep. Indexes go up to 2^53 - 1. Number literals have at most nine digits
-//! of a fraction and no exponent. Unless the path takes all numbers ([`JsonPath::parse_by`]), one with a fraction is no argument
-//! of a function, and a number of a document that is not held as an integer equals nothing and is not ordered.
+//! Filters, parentheses and calls may be nested 128 deep. Indexes go up to 2^53 - 1. Unless the path takes all numbers
+//! ([`JsonPath::parse_by`]), number literals have at most nine digits of a fraction and no exponent, one with a fraction is no
+//! argument of a function, and a number of a document that is not held as an integer equals nothing and is not ordered.
 //!
 //! # Untrusted input
 //!

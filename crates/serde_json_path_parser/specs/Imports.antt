@@ -6,7 +6,7 @@ pub use Rattle.serde_json_path_syntax.specs.Calls.{calls_from, calls_in_and, cal
 pub use Rattle.serde_json_path_syntax.specs.Depth.{depth}
 pub use Rattle.serde_json_path_syntax.specs.Flat.{query_kind_view, parts_in, segment_kind_view}
 pub use Rattle.serde_json_path_syntax.specs.Kinds.{is_singular}
-pub use Rattle.serde_json_path_syntax.specs.Literals.{literal_view, number_amount, operator_view}
+pub use Rattle.serde_json_path_syntax.specs.Literals.{literal_view, operator_view}
 pub use Rattle.serde_json_path_syntax.specs.Parts.{AreAndPartsOf, AreArgumentsOf, AreOrPartsOf, ArePartsFor, ArePartsOf, AreSelectorsOf, IsPart, KeepsParts, KeepsTrees, and_branches, argument_branch, calls_in, or_branches, result_of_call, result_of_operand, rule_of, segment_branches, selector_branches, signatures_of, tree_of}
 pub use Rattle.serde_json_path_syntax.specs.Branch.{Branch, a_basic, an_operand, a_query, a_segment, a_selector, an_and, an_or, calls_in_branch}
 pub use Rattle.serde_json_path_syntax.specs.SliceView.{slice_view}

@@ -31,9 +31,10 @@ use std::alloc::Global;
 
 /// Parses the path that a source holds, from left to right, looking at the text only through `byte`.
 ///
-/// Filters may call only functions of this set, and the query fits it. By `Numbers::Whole` an argument that is a number
-/// has no fraction; by `Numbers::All` any literal may be an argument (RFC 9535, section 2.4.3). The query's comparisons
-/// take numbers by the same rule. A text of n bytes is looked at no more than
+/// Filters may call only functions of this set, and the query fits it. By `Numbers::Whole` a number literal has no exponent
+/// and at most nine digits of a fraction, and an argument that is a number has no fraction. By `Numbers::All` any number
+/// literal is read, up to the greatest double, and any may be an argument (RFC 9535, sections 2.3.5.1 and 2.4.3). The query's
+/// comparisons take numbers by the same rule. A text of n bytes is looked at no more than
 /// 32(n + 1) times. Where a root, a name, a selector or a closing bracket is missing, the parser looks at most one byte
 /// past the one that does not fit.
 ///

@@ -1,5 +1,5 @@
 -- The words of contracts of private functions, and of proofs, from one place.
-pub use Rattle.serde_json_path_parser.specs.Imports.{Amount, Numbers, all_numbers, billionths, held_as, held_or, scan, sign_text, AreAndPartsOf, AreOrPartsOf, ArePartsFor, ArePartsOf, AreSelectorsOf, AreSingular, Argument, Arguments, Basic, Call, Operand, Fits, ForSome, IsAscii, IsCharBoundary, IsInteger, IsOptionalInteger, IsPart, IsScalar, IsSingular, IsSingularSegment, IsUtf8, KeepsParts, KeepsTrees, Kind, Literal, LogicalAnd, LogicalOr, Operator, Branch, Query, QueryKind, Segment, SegmentKind, Segments, Selector, Selectors, Signature, Slice, StartsWithChar, SyntaxBuilder, a_basic, an_operand, a_query, a_selector, all_scalars, an_and, an_or, and, and_branches, argument, call, called, calls_from, calls_in, calls_in_and, calls_in_argument, calls_in_arguments, calls_in_basic, calls_in_operand, calls_in_or, calls_in_branch, calls_in_segments, calls_in_selectors, chars, child, current, descendant, digit_char, dot_name, dot_wildcard, encode_utf8_all, equal, filter, greater, greater_or_equal, index, is_utf8, largest, less, less_or_equal, literal, literal_view, logical_argument, long_hand, name, name_of, names_of, no_and, no_arguments, no_or, no_segments, no_selectors, not_equal, null, number, number_amount, of_logical, of_nodes, of_value, operator_view, or, or_branches, paren, parts_in, query, operand, query_kind_view, relation, root, rule_of, segment, segment_kind_view, segment_branches, selector, selector_branches, signatures_of, queried, slice, slice_view, test, text, tree_of, truth, whole_numbers, wildcard}
+pub use Rattle.serde_json_path_parser.specs.Imports.{Amount, Numbers, all_numbers, billionths, held_as, held_or, scan, sign_text, AreAndPartsOf, AreOrPartsOf, ArePartsFor, ArePartsOf, AreSelectorsOf, AreSingular, Argument, Arguments, Basic, Call, Operand, Fits, ForSome, IsAscii, IsCharBoundary, IsInteger, IsOptionalInteger, IsPart, IsScalar, IsSingular, IsSingularSegment, IsUtf8, KeepsParts, KeepsTrees, Kind, Literal, LogicalAnd, LogicalOr, Operator, Branch, Query, QueryKind, Segment, SegmentKind, Segments, Selector, Selectors, Signature, Slice, StartsWithChar, SyntaxBuilder, a_basic, an_operand, a_query, a_selector, all_scalars, an_and, an_or, and, and_branches, argument, call, called, calls_from, calls_in, calls_in_and, calls_in_argument, calls_in_arguments, calls_in_basic, calls_in_operand, calls_in_or, calls_in_branch, calls_in_segments, calls_in_selectors, chars, child, current, descendant, digit_char, dot_name, dot_wildcard, encode_utf8_all, equal, filter, greater, greater_or_equal, index, is_utf8, largest, less, less_or_equal, literal, literal_view, logical_argument, long_hand, name, name_of, names_of, no_and, no_arguments, no_or, no_segments, no_selectors, not_equal, null, number, of_logical, of_nodes, of_value, operator_view, or, or_branches, paren, parts_in, query, operand, query_kind_view, relation, root, rule_of, segment, segment_kind_view, segment_branches, selector, selector_branches, signatures_of, queried, slice, slice_view, test, text, tree_of, truth, whole_numbers, wildcard}
 pub use Rattle.serde_json_path_parser.specs.Filters.{Deeper, and_list, begins_call, begins_test, ends_argument, or_list, past_word, read_and, read_and_from, read_argument, read_arguments, read_basic, read_basic_from, read_call, read_comparable, read_end, read_literal_word, read_logical_from, read_named, read_negated, read_negated_test, read_next_and, read_next_basic, read_operand, read_operator, read_or, read_or_from, read_paren, read_path, read_query, read_relation, read_right_side, read_some_arguments, read_test, read_text, word}
 pub use Rattle.serde_json_path_parser.specs.Inside.Giving.{Fails, Grows, GrowsFrom, IsArgumentOf, IsAsRead, IsNear, IsQueryAsRead, IsRefused, IsWithin, Makes, MakesArgument, MakesArguments, MakesCall, MakesFrom, MakesOperand, MakesSegments, MakesSelectors, MakesSo, Moves, MovesTo, StopsNear, at_level, deeper, error_of, left, literal_word, read_filter, seen, segment_branch, signatures, observed}
 pub use Rattle.serde_json_path_parser.specs.Inside.Looking.{Gathered, IsAhead, LooksOn, Stretched, begins_operator, is_ascii, is_ascii_name_char, is_ascii_plain, limit_of, up_to}
