@@ -3,7 +3,7 @@
 use Rattle.std.specs.Prelude.{ℕ, ◌-◌, ◌&&◌, Bool, List, [], ◌++◌, Option, length, take, drop, find, option_map}
 use Rattle.std.specs.List.{prefix_len, suffix_len}
 use Rattle.std.specs.Char.{is_ascii_whitespace}
-use Rattle.serde_json_path_functions.specs.Terms.{Numbers, whole_numbers, all_numbers}
+use Rattle.serde_json_path_functions.specs.Functions.{Numbers, whole_numbers, all_numbers}
 use Rattle.serde_json_path_parser.specs.declared.error.ParseErrorKind.{ParseErrorKind}
 use Rattle.serde_json_path_parser.specs.declared.error.ParseErrorKind.TheVariants.{ExpectedRoot, BadMemberName, TextAfterPath, ExpectedSelector, ExpectedClosingBracket, IntegerOutOfRange, ExpectedClosingParenthesis, ExpectedComparisonOperator, ExpectedExpression, NonSingularQuery, NestedTooDeep, UndefinedFunction, WrongNumberOfArguments, WrongArgumentType, WrongReturnType, ExpectedEndingQuote, BadEscape, ControlCharacter, ExponentOrEmptyFraction, FractionTooLong, NumberOutOfRange, NoMemory}
 use Rattle.serde_json_path_hints.specs.declared.condition.Condition.{Condition}

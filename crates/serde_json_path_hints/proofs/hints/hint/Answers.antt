@@ -2,6 +2,7 @@
 use Rattle.std.proofs.Common.{◌≡◌, ℕ, List, ◌++◌, map, Option, Some, None, option_map, find, refl, sym, ap, ◌∙◌}
 use Rattle.std.specs.Option.{option_or}
 use Rattle.std.proofs.lemmas.List.Folds.{find-append}
+use Rattle.serde_json_path_functions.specs.Functions.{Numbers}
 use Rattle.serde_json_path_parser.specs.declared.error.ParseErrorKind.{ParseErrorKind}
 use Rattle.serde_json_path_hints.specs.Hints.{Slip, is_there, first_hint, slips_of, hint_of, before_place, ahead_of_place}
 use Rattle.serde_json_path_hints.specs.Inside.Lent.{slip_of}
@@ -21,19 +22,19 @@ first_of_both before ahead own shared =
     ∙ mapped (find (is_there before ahead) own) (find (is_there before ahead) shared)
 
 -- what is read of the error and of the text is the error's and the text
-hint_is : (kind read_kind : ParseErrorKind) (position read_position : ℕ) (text bytes : List ℕ) (own shared : List Slip)
+hint_is : (rule : Numbers) (kind read_kind : ParseErrorKind) (position read_position : ℕ) (text bytes : List ℕ) (own shared : List Slip)
     → (before ahead : List ℕ) → read_kind ≡ kind → read_position ≡ position → bytes ≡ text
     → before ≡ before_place read_position bytes → ahead ≡ ahead_of_place read_position bytes
-    → own ++ shared ≡ slips_of read_kind
-    → option_or (first_hint before ahead own) (first_hint before ahead shared) ≡ hint_of kind position text
-hint_is kind read_kind position read_position text bytes own shared before ahead k p t is_before is_ahead are_slips =
+    → own ++ shared ≡ slips_of rule read_kind
+    → option_or (first_hint before ahead own) (first_hint before ahead shared) ≡ hint_of rule kind position text
+hint_is rule kind read_kind position read_position text bytes own shared before ahead k p t is_before is_ahead are_slips =
     sym (first_of_both before ahead own shared)
     ∙ ap (first_hint before ahead) are_slips
-    ∙ ap (λ s. first_hint s ahead (slips_of read_kind)) is_before
-    ∙ ap (λ s. first_hint (before_place read_position bytes) s (slips_of read_kind)) is_ahead
-    ∙ ap (λ kind. hint_of kind read_position bytes) k
-    ∙ ap (λ position. hint_of kind position bytes) p
-    ∙ ap (hint_of kind position) t
+    ∙ ap (λ s. first_hint s ahead (slips_of rule read_kind)) is_before
+    ∙ ap (λ s. first_hint (before_place read_position bytes) s (slips_of rule read_kind)) is_ahead
+    ∙ ap (λ kind. hint_of rule kind read_position bytes) k
+    ∙ ap (λ position. hint_of rule kind position bytes) p
+    ∙ ap (hint_of rule kind position) t
 
 pub returns-in-Some : goal.returns-in-Some
 returns-in-Some c =
@@ -44,7 +45,7 @@ returns-in-Some c =
     let found : first_hint before ahead own ≡ Some c.in-Some.hint.now =
     sym c.first_there.ensures ∙ ap (option_map (λ s. s.now)) c.in-Some.is in
     sym (ap (λ o. option_or o (first_hint before ahead shared)) found)
-    ∙ hint_is _ _ _ _ _ _ own shared before ahead c.kind.ensures c.position.ensures c.as_bytes.ensures.value
+    ∙ hint_is _ _ _ _ _ _ _ own shared before ahead c.kind.ensures c.position.ensures c.as_bytes.ensures.value
     c.sides.ensures.before c.sides.ensures.ahead c.slips_of.ensures
 
 pub returns-in-None : goal.returns-in-None
@@ -57,5 +58,5 @@ returns-in-None c =
     sym c.first_there.ensures ∙ ap (option_map (λ s. s.now)) c.in-None.is in
     c.first_there-in-None.ensures
     ∙ sym (ap (λ o. option_or o (first_hint before ahead shared)) none)
-    ∙ hint_is _ _ _ _ _ _ own shared before ahead c.kind.ensures c.position.ensures c.as_bytes.ensures.value
+    ∙ hint_is _ _ _ _ _ _ _ own shared before ahead c.kind.ensures c.position.ensures c.as_bytes.ensures.value
     c.sides.ensures.before c.sides.ensures.ahead c.slips_of.ensures
