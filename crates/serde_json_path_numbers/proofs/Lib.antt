@@ -5,7 +5,7 @@
 -- Forms: numbers by what holds them; integers keep their order.
 -- Digits: digits written from the last to the first.
 -- Finite: numbers of literals are in range, and finite.
--- Found: what the search for the fewest digits has found is found again.
+-- Fewest: the fewest digits, one less after the other.
 -- Numerals: digits, and the fewest that are read as a double.
 -- ReadBack: the text of a decimal is read as that decimal.
 -- Whole: a literal of whole billions of billionths is that integer.
@@ -15,7 +15,7 @@ mod Digits
 pub mod Finite
 pub mod Floats
 pub mod Forms
-pub mod Found
+pub mod Fewest
 pub mod Numerals
 pub mod ReadBack
 mod Orders

@@ -1,26 +1,7 @@
--- Digits of numerals, and the fewest that are read as a double.
-use Rattle.serde_json_path_numbers.proofs.Words.{◌≡◌, ℕ, suc, ◌+◌, ◌-◌, ◌*◌, ◌/◌, ◌^◌, ◌<◌, ◌≤◌, min, Bool, true, false, List, [], ◌∷◌, ◌++◌, length, drop, T, refl, sym, ap, ◌∙◌, arith, nat_tests, Some, None, ℤ, pos, negsuc}
-use Rattle.serde_json_path_numbers.specs.Inside.{AreHeldAlike}
-use Rattle.std.proofs.Common.{Option}
-use Rattle.std.proofs.Common.{take, get_or, slice_index, lit<, length-drop}
-use Rattle.std.proofs.Math.Nat.{mul-le-mul_right, pow-le-pow_right, lt_of_le_of_lt}
-use Rattle.std.proofs.lemmas.List.{take-append-drop, take_more}
-use Rattle.std.proofs.lemmas.Nat.{div-mul-add}
-use Rattle.std.specs.Float.Ieee.{Float, fits, of_bits, binary64}
-use Rattle.std.specs.Float.{float_is_finite}
-use Rattle.fast_float.specs.Rounding.{nearest_to_decimal}
+-- Digits of numerals, and decimals that are read as a double.
+use Rattle.serde_json_path_numbers.proofs.Words.{◌≡◌, ℕ, suc, ◌+◌, ◌-◌, ◌*◌, ◌/◌, ◌^◌, ◌<◌, ◌≤◌, min, Bool, true, false, List, [], ◌∷◌, ◌++◌, length, drop, T, refl, sym, ap, ◌∙◌, arith, nat_tests, Some, ℤ, pos, negsuc, ◌+ℤ◌, take, take_all, get_or, slice_index, length-drop, mul-le-mul_right, pow-le-pow_right, take-append-drop, take_more, div-mul-add, Float, fits, of_bits, to_bits, binary64, float_is_finite, nearest_to_decimal, T_from_true, of_bits-to_bits, round-fits, digit_value, digits_value, digits_value-append, digit_at, digit_value_digit, digits_value_short, numerals_by_value, tells_digits, AllDigits, AllDigits-append, AllDigits-drop, first_digits, most_billionths, reads_as, AreHeldAlike}
+use Rattle.serde_json_path_numbers.proofs.Fewest.{all_first, first_at}
 use Rattle.serde_json_path_numbers.proofs.Finite.{same_finite}
-use Rattle.std.proofs.lemmas.Float.{T_from_true}
-use lib.Ieee.Bits.{of_bits-to_bits}
-use lib.Ieee.Fits.{round-fits}
-use Rattle.std.specs.Char.{digit_value}
-use Rattle.serde_json_path_numbers.specs.Decimals.{fewest, found_at, most_billionths, reads_as}
-use Rattle.core.proofs.dec2flt.DigitsLemmas.{digits_value-append}
-use Rattle.core.proofs.dec2flt.Rows.{AllDigits-append, AllDigits-drop}
-use Rattle.std.specs.Option.{option_or}
-use Rattle.std.specs.Prelude.{to_bits, nat_le, ◌+ℤ◌, if◌then◌else◌}
-use Rattle.std.proofs.lemmas.Str.Parse.{numerals_by_value, tells_digits, digits_value_short}
-use Rattle.std.specs.Str.Parse.{digits_value, AllDigits}
 
 -- nine digits write less than a billion
 pub few_digits : (ds : List ℕ) → AllDigits 10 ds → length ds ≤ 9 → digits_value 10 ds < 1000000000
@@ -64,7 +45,7 @@ finite_decimal negative x d e held finite read = signed_finite negative d e ∙ 
 -- ---- the first digits of some
 
 pub small_power : (k : ℕ) → k ≤ 28 → 10 ^ k < 2 ^ 128
-small_power k few = lt_of_le_of_lt (pow-le-pow_right (lit< tt) few) (lit< tt)
+small_power k few = omega (arith, pow-le-pow_right {n = 10} (omega arith) few)
 
 -- what they write is the number without the others
 prefix : (ds : List ℕ) (at : ℕ) → AllDigits 10 ds → at ≤ length ds → digits_value 10 ds / 10 ^ (length ds - at) ≡ digits_value 10 (take at ds)
@@ -80,23 +61,15 @@ module _ (ds : List ℕ) (h : AllDigits 10 ds) (at cut digit : ℕ) (within : at
   pub one_taken : cut * 10 + digit ≡ digits_value 10 (take (at + 1) ds)
   one_taken = rw (is_cut, is_digit) (sym (ap (digits_value 10) (take_more ds at 0 within) ∙ digits_value-append (take at ds) (get_or ds at 0 ∷ []) ∙ omega arith))
 
-  pub level : (negative : Bool) (x : Float) (e u : ℤ) → u ≡ (e +ℤ pos (length ds - 1 - at)) → fewest negative x (digits_value 10 ds) e (length ds - at)
-      ≡ (if nat_le (10 ^ 18) (cut * 10 + digit) then None else option_or (found_at negative x (cut * 10 + digit) u) (fewest negative x (digits_value 10 ds) e (length ds - (at + 1))))
-  level negative x e u is_unit =
-      let k = length ds - (at + 1) in
-      let one_less : length ds - at ≡ suc k = omega arith in
-      let rest : length ds - 1 - at ≡ k = omega arith in
-      let left : digits_value 10 ds / 10 ^ k ≡ cut * 10 + digit = prefix ds (at + 1) h (omega arith) ∙ sym one_taken in
-      rw (one_less, is_unit, rest, left) refl
+  pub one_below : digit < 10
+  one_below = let here = digit_at ds at h within in rw is_digit (let is = digit_value_digit (get_or ds at 0) here in omega (arith, is, here))
 
-pub too_many : (cut : ℕ) {A : Type 0} (a : Option A) → 10 ^ 18 ≤ cut → (if nat_le (10 ^ 18) cut then None else a) ≡ None
-too_many cut a many = grind (arith, nat_tests)
+-- the first digits are taken, in a loop
+module _ (ds : List ℕ) (h : AllDigits 10 ds) (e : ℤ) where
+  pub all_taken : (at cut : ℕ) → at ≡ length ds → cut ≡ digits_value 10 (take at ds) → cut < 10 ^ 19 → first_digits (length ds) (digits_value 10 ds, e) ≡ (cut, e)
+  all_taken at cut end is few = let same : cut ≡ digits_value 10 ds = rw (is, end, take_all (length ds) ds (omega arith)) refl in let first = all_first (length ds) cut e few in rw (← same) first
 
-pub few_enough : (cut : ℕ) {A : Type 0} (a : Option A) → cut < 10 ^ 18 → (if nat_le (10 ^ 18) cut then None else a) ≡ a
-few_enough cut a few = grind (arith, nat_tests)
-
-pub here : (cut : ℕ) {A : Type 0} {o : Option A} {r : A} (a : Option A) → cut < 10 ^ 18 → o ≡ Some r → (if nat_le (10 ^ 18) cut then None else option_or o a) ≡ Some r
-here cut a few is = grind (arith, nat_tests)
-
-pub further : (cut : ℕ) {A : Type 0} {o : Option A} (a : Option A) → cut < 10 ^ 18 → o ≡ None → (if nat_le (10 ^ 18) cut then None else option_or o a) ≡ a
-further cut a few is = grind (arith, nat_tests)
+  pub some_taken : (at cut : ℕ) → at ≤ length ds → cut ≡ digits_value 10 (take at ds) → 10 ^ 18 ≤ cut → cut < 10 ^ 19 → first_digits (length ds) (digits_value 10 ds, e) ≡ (cut, e +ℤ pos (length ds - at))
+  some_taken at cut within is many few =
+      let count : (length ds - at) + at ≡ length ds = omega (arith, within) in
+      rw count at (first_at (length ds - at) at (digits_value 10 ds) cut e (prefix ds at h within ∙ sym is) many few)

@@ -1,6 +1,6 @@
 -- Doubles as decimals of few digits, and their texts.
-use Rattle.std.specs.Prelude.{ℕ, zero, suc, ◌-◌, nat_lt, true, false, ◌+◌, ◌*◌, ◌/◌, ◌%◌, ◌^◌, ◌==◌, ◌&&◌, nat_le, ℤ, pos, negsuc, ◌+ℤ◌, unsigned_abs, Bool, false, List, [], ◌++◌, codes, Option, Some, None, if◌then◌else◌, to_bits}
-use Rattle.std.specs.Option.{option_or}
+use Rattle.std.specs.Prelude.{ℕ, zero, suc, ◌-◌, nat_lt, true, ◌+◌, ◌*◌, ◌/◌, ◌%◌, ◌^◌, ◌==◌, ◌&&◌, nat_le, ℤ, pos, negsuc, ◌+ℤ◌, unsigned_abs, Bool, false, List, [], ◌++◌, codes, Option, Some, None, if◌then◌else◌, to_bits}
+use Rattle.std.specs.Option.{option_map, unwrap_or}
 use Rattle.std.specs.Float.Ieee.{Float, binary64}
 use Rattle.std.specs.Fmt.{decimal, signed_decimal, sign_text}
 use Rattle.fast_float.specs.Rounding.{nearest_to_decimal}
@@ -32,36 +32,44 @@ abbrev pub is_beyond : Bool → ℕ → ℤ → Bool
 is_beyond negative digits (pos k) = nat_lt (most_billionths negative) (digits * 10 ^ (k + 9))
 is_beyond negative digits (negsuc k) = true
 
--- The double nearest to digits * 10 ^ exponent is x, the digits end in no 0, and it is no integer that a literal may be. No
--- double that differs from 0 is beyond 10 ^ 1000 and its inverse.
+-- The double nearest to digits * 10 ^ exponent is x, and it is no integer that a literal may be. No double that differs from 0
+-- is beyond 10 ^ 1000 and its inverse.
 abbrev pub reads_as : Bool → Float → ℕ → ℤ → Bool
 reads_as negative x digits exponent =
-    nat_lt 0 (digits % 10) && is_beyond negative digits exponent
+    nat_lt 0 digits && is_beyond negative digits exponent
     && nat_le (unsigned_abs exponent) 1000
     && to_bits binary64 (nearest_to_decimal binary64 false digits exponent) == to_bits binary64 x
 
--- one more of the last digit; 10 is a 1 before it
-abbrev pub raised : ℕ → ℤ → ℕ × ℤ
-raised digits exponent =
-    if digits == 9 then (1, exponent +ℤ pos 1) else (digits + 1, exponent)
-
--- some digits, or else these digits raised, if they are read as x
-abbrev pub found_at : Bool → Float → ℕ → ℤ → Option (ℕ × ℤ)
-found_at negative x digits exponent =
-    if digits == 0 then None
-    else if reads_as negative x digits exponent then Some (digits, exponent)
-    else if reads_as negative x (raised digits exponent).0 (raised digits exponent).1 then
-    Some (raised digits exponent)
+-- all digits but the last, cut there or else raised, if they are read as x
+abbrev pub one_less : Bool → Float → ℕ × ℤ → Option (ℕ × ℤ)
+one_less negative x (digits, exponent) =
+    let next = exponent +ℤ pos 1 in
+    if nat_lt digits 10 then None
+    else if reads_as negative x (digits / 10) next then Some (digits / 10, next)
+    else if reads_as negative x (digits / 10 + 1) next then Some (digits / 10 + 1, next)
     else None
 
--- The first digits of n * 10 ^ exponent, as few as are read as x, cut there or else raised; the last k are not tried yet.
--- Eighteen are enough for any double, which is well known, and not shown here.
-abbrev pub fewest : Bool → Float → ℕ → ℤ → ℕ → Option (ℕ × ℤ)
-fewest negative x n exponent zero = None
-fewest negative x n exponent (suc k) =
-    let cut = n / 10 ^ k in
-    if nat_le (10 ^ 18) cut then None
-    else option_or (found_at negative x cut (exponent +ℤ pos k)) (fewest negative x n exponent k)
+-- one less, and again one less, as long as there is one; each time there is less to cut from
+abbrev pub fewest : Bool → Float → ℕ → ℕ × ℤ → ℕ × ℤ
+fewest negative x zero d = d
+fewest negative x (suc k) d = unwrap_or (option_map (fewest negative x k) (one_less negative x d)) d
+
+-- the first nineteen digits, of k at most
+abbrev pub first_digits : ℕ → ℕ × ℤ → ℕ × ℤ
+first_digits zero d = d
+first_digits (suc k) (digits, exponent) =
+    if nat_lt digits (10 ^ 19) then (digits, exponent)
+    else first_digits k (digits / 10, exponent +ℤ pos 1)
+
+-- some digits, if they are read as x
+abbrev pub if_read : Bool → Float → ℕ × ℤ → Option (ℕ × ℤ)
+if_read negative x d = if reads_as negative x d.0 d.1 then Some d else None
+
+-- The fewest digits that are read as x: cut or raised, one after the other, from the first nineteen of a number of k digits on.
+-- Nineteen are enough for any double, which is well known, and not shown here.
+abbrev pub shortest : Bool → Float → ℕ → ℕ × ℤ → Option (ℕ × ℤ)
+shortest negative x k d =
+    let first = first_digits k d in if_read negative x (fewest negative x first.0 first)
 
 -- ---- texts (RFC 9535, section 2.3.5.1)
 

@@ -6,7 +6,7 @@ use Rattle.std.specs.Float.Ieee.{Float, eq, binary64, to_unsigned}
 use Rattle.std.specs.Str.Parse.{digits_value}
 use Rattle.fast_float.specs.Text.{Parts, digits_of, nearest, with_sign, point_at, whole_of}
 use Rattle.serde_json_path_numbers.specs.Numbers.{integer}
-use Rattle.serde_json_path_numbers.specs.Decimals.{Decimal, decimal_of, fewest, most_billionths}
+use Rattle.serde_json_path_numbers.specs.Decimals.{Decimal, decimal_of, shortest, most_billionths}
 
 -- what a literal is held as
 pub data Amount : Type 0 where
@@ -48,10 +48,10 @@ exponent_of p =
     Some (with_sign p.exponent_negative (digits_value 10 p.exponent) -ℤ pos (length p.fraction))
     else None
 
--- the fewest digits that are read as the double
-abbrev pub shortest : Bool → Float → Parts → Option ℤ → Option (ℕ × ℤ)
-shortest negative x p None = None
-shortest negative x p (Some e) = fewest negative x (digits_of p) e (length (p.whole ++ p.fraction))
+-- the fewest of its digits that are read as the double
+abbrev pub shortest_of : Bool → Float → Parts → Option ℤ → Option (ℕ × ℤ)
+shortest_of negative x p None = None
+shortest_of negative x p (Some e) = shortest negative x (length (p.whole ++ p.fraction)) (digits_of p, e)
 
 abbrev pub held_short : Bool → Option (ℕ × ℤ) → Option Amount
 held_short negative None = None
@@ -63,7 +63,7 @@ held_short negative (Some d) =
 abbrev pub held_double : Bool → Parts → Float → Option Amount
 held_double negative p x =
     if float_is_finite x then
-    held_or negative (double_billionths x) (held_short negative (shortest negative x p (exponent_of p)))
+    held_or negative (double_billionths x) (held_short negative (shortest_of negative x p (exponent_of p)))
     else None
 
 -- What a numeral with that sign is held as. There is nothing where it is beyond the greatest double.

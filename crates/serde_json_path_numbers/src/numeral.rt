@@ -1,13 +1,13 @@
 //! What a number literal of any length is held as (RFC 9535, section 2.3.5.1).
 
-ghost use Rattle.std.specs.Prelude.{◌≡◌, ◌+ℤ◌, pos, ◌<◌, ◌^◌, ◌++◌, true, false, length, Option, Some, SomeIff, IfSome, unsigned_abs};
+ghost use Rattle.std.specs.Prelude.{◌≡◌, ◌<◌, ◌≤◌, ◌^◌, ◌++◌, true, false, length, Option, Some, SomeIff, IfSome, unsigned_abs};
 ghost use Rattle.std.specs.Option.{option_map, option_or};
 ghost use Rattle.std.specs.Float.{float_is_finite, binary64};
 ghost use Rattle.std.specs.Str.Parse.{digits_value, AllDigits};
 ghost use Rattle.fast_float.specs.Text.{nearest, scan};
-ghost use Rattle.serde_json_path_numbers.specs.Decimals.{fewest, found_at, is_beyond, most_billionths, raised, reads_as};
+ghost use Rattle.serde_json_path_numbers.specs.Decimals.{fewest, first_digits, if_read, is_beyond, most_billionths, one_less, reads_as};
 ghost use Rattle.serde_json_path_numbers.specs.Inside.{AreHeldAlike};
-ghost use Rattle.serde_json_path_numbers.specs.Numerals.{decimal_billionths, double_billionths, exponent_of, held_as, held_double, held_or, held_short, plain_billionths, shortest, whole_billionths};
+ghost use Rattle.serde_json_path_numbers.specs.Numerals.{decimal_billionths, double_billionths, exponent_of, held_as, held_double, held_or, held_short, plain_billionths, shortest_of, whole_billionths};
 ghost use Rattle.serde_json_path_numbers.specs.Numerals as numerals;
 ghost use Rattle.serde_json_path_numbers.specs.Views.{amount_view};
 
@@ -160,20 +160,15 @@ fn short_billionths(digits: u64, exponent: i64) -> Option<u128>
     Some((digits as u128).saturating_mul(power))
 }
 
-/// The fewest digits of a number that are read as the double nearest to it.
+/// The fewest digits of a number that are read as the double nearest to it; `None` if nineteen are too few.
 #[tactic(auto, using(crate::proofs::Numerals::both_digits))]
 fn shortest(negative: bool, size: f64, numeral: &Numeral<'_>) -> Option<(u64, i64)>
-    requires { float_is_finite size ≡ true }
-    ensures value { result ≡ shortest negative size numeral.now (exponent_of numeral.now) }
+    ensures value { result ≡ shortest_of negative size numeral.now (exponent_of numeral.now) }
     ensures reads { IfSome result (λ found. reads_as negative size found.0 found.1 ≡ true) }
 {
-    fewest(
-        negative,
-        size,
-        numeral.whole(),
-        numeral.fraction(),
-        exponent_of(numeral)?,
-    )
+    let exponent = exponent_of(numeral)?;
+    let (digits, exponent) = first_digits(numeral.whole(), numeral.fraction(), exponent);
+    fewest(negative, size, digits, exponent)
 }
 
 /// The power of ten by which the digits are taken, if the exponent has 64 bits.
@@ -190,57 +185,35 @@ fn exponent_of(numeral: &Numeral<'_>) -> Option<i128>
     }
 }
 
-/// The first digits, as few as are read as the double, cut there or else raised; `None` if eighteen are too few. The exponent
-/// is that of the last digit.
-fn fewest(
-    negative: bool,
-    size: f64,
-    whole: &[u8],
-    fraction: &[u8],
-    exponent: i128,
-) -> Option<(u64, i64)>
+/// The first nineteen digits of a number, or all of fewer, and the exponent of the last of these.
+fn first_digits(whole: &[u8], fraction: &[u8], exponent: i128) -> (u64, i128)
     requires digits { AllDigits 10 (whole.now ++ fraction.now) }
     requires exponent { unsigned_abs exponent < 2 ^ 65 }
-    ensures value { result ≡ fewest negative size (digits_value 10 (whole.now ++ fraction.now)) exponent
-        (length (whole.now ++ fraction.now)) }
-    ensures reads { IfSome result (λ found. reads_as negative size found.0 found.1 ≡ true) }
+    ensures value { result ≡ first_digits (length (whole.now ++ fraction.now))
+        (digits_value 10 (whole.now ++ fraction.now), exponent) }
+    ensures range { unsigned_abs result.1 < 2 ^ 66 }
 {
     let count = whole.len() + fraction.len();
-    let mut cut = 0;
+    let mut first = 0;
     for at in 0..count {
-        cut = cut * 10 + digit_at(whole, fraction, at);
-        if cut >= MANY {
-            return None;
+        if first >= MANY {
+            return (first, exponent + (count - at) as i128);
         }
-        if let Some(found) = found_at(negative, size, cut, unit(exponent, count - 1 - at)) {
-            return Some(found);
-        }
+        first = first * 10 + digit_at(whole, fraction, at);
     }
-    None
+    (first, exponent)
 }
 
-/// The exponent of the digit before so many others.
-fn unit(exponent: i128, left: usize) -> i128
-    requires { unsigned_abs exponent < 2 ^ 65 }
-    ensures { result ≡ (exponent +ℤ pos left) }
-{
-    exponent + left as i128
-}
-
-/// Some digits, or else these digits raised, if they are read as the double.
-fn found_at(negative: bool, size: f64, digits: u64, exponent: i128) -> Option<(u64, i64)>
-    requires digits { digits < 10 ^ 18 }
-    requires exponent { unsigned_abs exponent < 2 ^ 66 }
-    ensures value { result ≡ found_at negative size digits exponent }
+/// One digit less, and again one less, as long as what is left is read as the double.
+#[tactic(auto, using(crate::proofs::Fewest::of_fewest))]
+fn fewest(negative: bool, size: f64, digits: u64, exponent: i128) -> Option<(u64, i64)>
+    requires { unsigned_abs exponent < 2 ^ 66 }
+    ensures value { result ≡ if_read negative size (fewest negative size digits (digits, exponent)) }
     ensures reads { IfSome result (λ found. reads_as negative size found.0 found.1 ≡ true) }
 {
-    if digits == 0 {
-        return None;
+    if let Some((digits, exponent)) = one_less(negative, size, digits, exponent) {
+        return fewest(negative, size, digits, exponent);
     }
-    if reads_as(negative, size, digits, exponent) {
-        return Some((digits, exponent as i64));
-    }
-    let (digits, exponent) = raised(digits, exponent);
     if reads_as(negative, size, digits, exponent) {
         Some((digits, exponent as i64))
     } else {
@@ -248,25 +221,35 @@ fn found_at(negative: bool, size: f64, digits: u64, exponent: i128) -> Option<(u
     }
 }
 
-/// One more of the last digit; 10 is a 1 before it.
-fn raised(digits: u64, exponent: i128) -> (u64, i128)
-    requires digits { digits < 10 ^ 18 }
-    requires exponent { unsigned_abs exponent < 2 ^ 66 }
-    ensures { result ≡ raised digits exponent }
+/// All digits but the last, cut there or else raised, if they are read as the double.
+fn one_less(negative: bool, size: f64, digits: u64, exponent: i128) -> Option<(u64, i128)>
+    requires { unsigned_abs exponent < 2 ^ 66 }
+    ensures value { result ≡ one_less negative size (digits, exponent) }
+    ensures fewer { IfSome result (λ less. less.0 < digits) }
+    ensures range { IfSome result (λ less. unsigned_abs less.1 ≤ 1000) }
 {
-    if digits == 9 {
-        (1, exponent + 1)
+    if digits < 10 {
+        return None;
+    }
+    let cut = digits / 10;
+    let exponent = exponent + 1;
+    if reads_as(negative, size, cut, exponent) {
+        return Some((cut, exponent));
+    }
+    let raised = cut + 1;
+    if reads_as(negative, size, raised, exponent) {
+        Some((raised, exponent))
     } else {
-        (digits + 1, exponent)
+        None
     }
 }
 
-/// Whether the double nearest to a decimal is this one, of which the digits end in no 0, and which is no integer that a
-/// literal may be.
+/// Whether the double nearest to a decimal is this one, and the decimal no integer that a literal may be.
 fn reads_as(negative: bool, size: f64, digits: u64, exponent: i128) -> bool
-    ensures { result ≡ reads_as negative size digits exponent }
+    ensures value { result ≡ reads_as negative size digits exponent }
+    ensures range { result ≡ true → unsigned_abs exponent ≤ 1000 }
 {
-    if digits % 10 == 0 || exponent.unsigned_abs() > FARTHEST {
+    if digits == 0 || exponent.unsigned_abs() > FARTHEST {
         return false;
     }
     if !is_beyond(negative, digits, exponent as i64) {
