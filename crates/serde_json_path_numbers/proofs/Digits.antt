@@ -1,9 +1,5 @@
 -- Digits written from the last to the first.
-use Rattle.serde_json_path_numbers.proofs.Words.{◌≡◌, ℕ, suc, ◌+◌, ◌*◌, ◌/◌, ◌%◌, ◌^◌, ◌<◌, ◌≤◌, List, [], ◌∷◌, ◌++◌, length, drop, refl, sym, ap, ◌∙◌, arith, drop-cons, get_or-set_same, drop-set-lt, length-set, le-ltb, lt-ltb, length-append, div-add-mod', mod-lt, pow-suc, div-lt_iff_lt-mul, mul-one, append-nil, Bool, true, false, slice_set, Format, round}
-use Rattle.std.specs.Char.{digit_value}
-use Rattle.std.specs.Str.Parse.{digits_value, digits_value_after, AllDigits}
-use Rattle.std.proofs.lemmas.Float.Parse.{scan_numeral-text_of}
-use Rattle.fast_float.specs.Text.{Parts, scan, nearest}
+use Rattle.serde_json_path_numbers.proofs.Words.{◌≡◌, ℕ, suc, ◌+◌, ◌*◌, ◌/◌, ◌%◌, ◌^◌, ◌<◌, ◌≤◌, List, [], ◌∷◌, ◌++◌, length, drop, refl, sym, ap, ◌∙◌, arith, drop-cons, get_or-set_same, drop-set-lt, length-set, le-ltb, lt-ltb, length-append, div-add-mod', mod-lt, pow-suc, div-lt_iff_lt-mul, mul-one, append-nil, Bool, true, false, slice_set, Format, round, digit_value, digits_value, digits_value_after, AllDigits, scan_numeral-text_of, Parts, scan, nearest}
 
 pub digit_is : (d : ℕ) → d < 10 → digit_value (48 + d) ≡ d
 digit_is d h = rw (le-ltb (48 + d) 48 (omega arith), lt-ltb (48 + d) 58 (omega arith)) (omega arith)

@@ -1,5 +1,5 @@
 -- The fewest digits: one less is fewer, and in the end there is none less.
-use Rattle.serde_json_path_numbers.proofs.Words.{◌≡◌, ℕ, zero, suc, ◌+◌, ◌*◌, ◌/◌, ◌%◌, ◌^◌, ◌<◌, ◌≤◌, Bool, true, refl, sym, ap, subst, ◌∙◌, false, if◌then◌else◌, arith, nat_tests, ints, Some, None, ℤ, pos, negsuc, Float, Option, ◌+ℤ◌, binary64, option_map, unwrap_or, one_less, fewest, first_digits, reads_as, shortest, cases_lt, cases_Bool, none-some, nearest_to_decimal, pow-succ', div-div-eq-div-mul, div-lt_iff_lt-mul, le-div_iff_mul-le, ten_to_pos, inl, inr, mul_assoc, mul_comm, mul-le-mul_left, pow-suc, round_same, eq-zero-or-pos}
+use Rattle.serde_json_path_numbers.proofs.Words.{◌≡◌, ℕ, zero, suc, ◌+◌, ◌*◌, ◌/◌, ◌%◌, ◌^◌, ◌<◌, ◌≤◌, Bool, true, refl, sym, ap, subst, ◌∙◌, false, arith, nat_tests, ints, Some, None, ℤ, pos, negsuc, Float, Option, ◌+ℤ◌, binary64, option_map, unwrap_or, one_less, fewest, first_digits, reads_as, shortest, cases_lt, cases_Bool, none-some, nearest_to_decimal, pow-succ', div-div-eq-div-mul, le-div_iff_mul-le, ten_to_pos, inl, inr, mul_assoc, mul_comm, mul-le-mul_left, pow-suc, round_same, eq-zero-or-pos}
 
 module _ (negative : Bool) (x : Float) where
   -- the end from n digits on
@@ -113,7 +113,7 @@ ends_in negative x d k h = elim (eq-zero-or-pos (d % 10)) [
       let cut : d ≡ d / 10 * 10 = omega (arith, none) in
       let cross : d * 10 ^ suc k ≡ d / 10 * 10 ^ suc (suc k) = ap (λ m. m * 10 ^ suc k) cut ∙ mul_assoc (d / 10) 10 (10 ^ suc k) ∙ ap (λ m. d / 10 * m) (mul_comm 10 (10 ^ suc k) ∙ sym ten) in
       let same : nearest_to_decimal binary64 false d (negsuc (suc k)) ≡ nearest_to_decimal binary64 false (d / 10) (negsuc k) =
-          round_same binary64 false d (10 ^ suc (suc k)) (d / 10) (10 ^ suc k) (ten_to_pos (suc (suc k))) (ten_to_pos (suc k)) cross in
+      round_same binary64 false d (10 ^ suc (suc k)) (d / 10) (10 ^ suc k) (ten_to_pos (suc (suc k))) (ten_to_pos (suc k)) cross in
       let reads = h.reads in
       let stop = h.none in
       absurd (grind (arith, nat_tests, same, reads, stop, none))

@@ -1,10 +1,5 @@
 -- Numbers of literals are in range, and finite.
-use Rattle.serde_json_path_numbers.proofs.Words.{nat_tests, ◌≡◌, ℕ, ◌*◌, ◌^◌, ◌<◌, Bool, true, false, T, refl, ◌∙◌, arith, lit<, to_z, of_z, ℤ, pos, int_div, unsigned_abs, Some, w128, float_is_finite, Float, binary64, round, le, units, odd, literal_double, IsInLiteralRange, NumbersAreFinite, is_exact, Integer, Double}
-use Rattle.std.proofs.lemmas.Int.{ints}
-use Rattle.std.proofs.Common.{option_map, unwrap_or}
-use Rattle.serde_json.specs.Data.{null, number}
-use Rattle.serde_json.specs.Find.{of_float}
-use Rattle.serde_json_path_numbers.specs.Numbers.{literal_held}
+use Rattle.serde_json_path_numbers.proofs.Words.{nat_tests, ◌≡◌, ℕ, ◌*◌, ◌^◌, ◌<◌, Bool, true, false, T, refl, ◌∙◌, arith, lit<, to_z, of_z, ℤ, pos, int_div, unsigned_abs, Some, w128, float_is_finite, Float, binary64, round, le, units, odd, literal_double, IsInLiteralRange, NumbersAreFinite, is_exact, Integer, Double, ints, option_map, unwrap_or, null, number, of_float, literal_held}
 use Rattle.serde_json_path_numbers.proofs.Forms.{finite_integer}
 use lib.Ieee.Exact.{HasValue, round_exact}
 use lib.Ieee.Back.{round_whole}

@@ -1,6 +1,5 @@
 -- Comparisons of floats as facts, and the laws.
-use Rattle.serde_json_path_numbers.proofs.Words.{nat_tests, ◌≡◌, arith, Ordering, is_eq, is_lt, is_gt, Bool, true, false, T, sym, ◌∙◌, NotNan, float_is_finite, Float, is_nan, lt, eq, neg, ℤ, pos, int_lt, unsigned_abs, IsOrder, integer, AreEqualNumbers, IsLessNumber, IsFinite, IsExactlyOne, EqualityIsEquivalence, LessIsStrictOrder, T_from_true, le_of_not-lt, le_of_eq, lt_of_le_of_lt, lt_of_lt_of_le, eq_trans, lt-or-eq, eq_flip, eq-not_lt, lt_trans, lt_irrefl}
-use Rattle.std.specs.Ordering.{ordering_reverse}
+use Rattle.serde_json_path_numbers.proofs.Words.{nat_tests, ◌≡◌, arith, Ordering, is_eq, is_lt, is_gt, Bool, true, false, T, sym, ◌∙◌, NotNan, float_is_finite, Float, is_nan, lt, eq, neg, ℤ, pos, int_lt, unsigned_abs, IsOrder, integer, AreEqualNumbers, IsLessNumber, IsFinite, IsExactlyOne, EqualityIsEquivalence, LessIsStrictOrder, T_from_true, le_of_not-lt, le_of_eq, lt_of_le_of_lt, lt_of_lt_of_le, eq_trans, lt-or-eq, eq_flip, eq-not_lt, lt_trans, lt_irrefl, ordering_reverse}
 
 pub sure : (b : Bool) → T b → b ≡ true
 sure b t = grind (arith, nat_tests)

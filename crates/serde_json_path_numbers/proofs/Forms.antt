@@ -1,6 +1,5 @@
 -- Numbers by what holds them; integers keep their order.
-use Rattle.serde_json_path_numbers.proofs.Words.{◌≡◌, true, T, arith, sym, ap, ◌∙◌, subst, to_z-of_z, to_z, of_z, Ordering, nat_tests, ℤ, nat_eq, int_eq, int_lt, FitsSigned, w128, float_is_finite, Float, lt, eq, integer, IsOrder, held_number, is_exact, Integer, Double, IntegersKeepTheirOrder}
-use Rattle.serde_json_path_numbers.specs.declared.exact_number.Form.{Form}
+use Rattle.serde_json_path_numbers.proofs.Words.{◌≡◌, true, T, arith, sym, ap, ◌∙◌, subst, to_z-of_z, to_z, of_z, Ordering, nat_tests, ℤ, nat_eq, int_eq, int_lt, FitsSigned, w128, float_is_finite, Float, lt, eq, integer, IsOrder, held_number, is_exact, Integer, Double, IntegersKeepTheirOrder, Form}
 use Rattle.serde_json_path_numbers.proofs.Floats.{sure, equality, IsTold, told}
 use lib.Signed.{lt_z_yes}
 

@@ -1,8 +1,5 @@
 -- The places after the point of a decimal.
-use Rattle.serde_json_path_numbers.proofs.Words.{◌≡◌, ℕ, zero, suc, ◌++◌, ◌-◌, ◌/◌, ◌%◌, ◌^◌, ◌<◌, ◌≤◌, ℤ, pos, negsuc, unsigned_abs, true, refl, arith, nat_tests}
-use Rattle.std.specs.Fmt.{decimal}
-use Rattle.std.proofs.Math.Nat.{pow-le-pow_right}
-use Rattle.serde_json_path_numbers.specs.Decimals.{has_point, place_digits}
+use Rattle.serde_json_path_numbers.proofs.Words.{◌≡◌, ℕ, zero, suc, ◌++◌, ◌-◌, ◌/◌, ◌%◌, ◌^◌, ◌<◌, ◌≤◌, ℤ, pos, negsuc, unsigned_abs, true, refl, arith, nat_tests, decimal, pow-le-pow_right, has_point, place_digits}
 
 power_rises : (a b : ℕ) → a ≤ b → 10 ^ a ≤ 10 ^ b
 power_rises a b h = pow-le-pow_right {n = 10} (omega arith) {i = a} {j = b} h

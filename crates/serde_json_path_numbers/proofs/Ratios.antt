@@ -1,6 +1,5 @@
 -- A double that is not below zero, as a ratio beside integers.
-use Rattle.serde_json_path_numbers.proofs.Words.{nat_tests, ◌≡◌, ℕ, suc, ◌+◌, ◌-◌, ◌*◌, ◌/◌, ◌^◌, ◌<◌, min, Bool, true, false, T, refl, sym, ◌∙◌, true≢false, arith, add_comm, mul_assoc, mul-one, div-one, div-le_self, shl_lt, pow-add, zero-le, ltb-false, le-ltb, ℤ, pos, negsuc, nat_lt, trunc, round_with, float_is_finite, Float, Format, nan, inf, fin, binary64, up, down, fits, prec, emax, low, round, lt, to_unsigned, lt_at, integer}
-use Rattle.std.proofs.Math.Nat.{zero-div}
+use Rattle.serde_json_path_numbers.proofs.Words.{nat_tests, ◌≡◌, ℕ, suc, ◌+◌, ◌-◌, ◌*◌, ◌/◌, ◌^◌, ◌<◌, min, Bool, true, false, T, refl, sym, ◌∙◌, true≢false, arith, add_comm, mul_assoc, mul-one, div-one, div-le_self, shl_lt, pow-add, zero-le, ltb-false, le-ltb, ℤ, pos, negsuc, nat_lt, trunc, round_with, float_is_finite, Float, Format, nan, inf, fin, binary64, up, down, fits, prec, emax, low, round, lt, to_unsigned, lt_at, integer, zero-div}
 use lib.Ieee.Exact.{HasValue, round_exact}
 use lib.Ieee.Fits.{down_pos}
 use lib.Ieee.Back.{round_whole}

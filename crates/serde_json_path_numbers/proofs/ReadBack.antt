@@ -1,8 +1,5 @@
 -- The text of a decimal that a literal is held as is held as that decimal too; and which literals are held as billionths.
-use Rattle.serde_json_path_numbers.proofs.Words.{◌≡◌, ℕ, zero, suc, ◌+◌, ◌-◌, ◌-ℤ◌, ◌*◌, ◌/◌, ◌%◌, ◌^◌, ◌<◌, ◌≤◌, ◌==◌, Bool, true, false, if◌then◌else◌, List, [], ◌∷◌, ◌++◌, length, drop, take, codes, T, refl, sym, ap, subst, ◌∙◌, arith, nat_tests, ints, Option, Some, None, ℤ, pos, negsuc, inl, inr, ◌⊎◌, leb-true, mul-le-mul_left, pow-le-pow_right, mul-one, mul_assoc, mod-lt, div-le_self, div-add-mod', div-lt_iff_lt-mul, append-nil, length-append, length-drop, drop_of_length-le, take_all, take-append-drop, pow-add, pow-suc, pow-succ', ten_to_pos, nat_le, none-some, and_parts, cases_Bool, cases_lt, decimal, decimal_digit, decimal_is_IsNumeral, sign_text, signed_decimal, digit_value, digits_value, digits_value-append, digits_value_short, numerals_by_value, tells_digits, AllDigits, AllDigits-append, scan_numeral-text_of, scan_numeral-AllDigits, float_is_finite, Float, binary64, fits, round, round-fits, unsigned_abs, IsInLiteralRange, nearest_to_decimal, one_less, reads_as, most_billionths, shortest}
-use Rattle.fast_float.specs.Text.{Parts, scan, text_of, exponent_text, digits_of, nearest, point_at, with_sign, IsWellFormed}
-use Rattle.serde_json_path_numbers.specs.Decimals.{Decimal, decimal_of, has_point, is_beyond, place_digits, size_text}
-use Rattle.serde_json_path_numbers.specs.Numerals.{Amount, billionths, decimal_billionths, double_billionths, exponent_of, held_as, held_double, held_or, held_short, plain_billionths, shortest_of, whole_billionths}
+use Rattle.serde_json_path_numbers.proofs.Words.{◌≡◌, ℕ, zero, suc, ◌+◌, ◌-◌, ◌-ℤ◌, ◌*◌, ◌/◌, ◌%◌, ◌^◌, ◌<◌, ◌≤◌, ◌==◌, Bool, true, false, if◌then◌else◌, List, [], ◌∷◌, ◌++◌, length, drop, take, codes, refl, sym, ap, subst, ◌∙◌, arith, nat_tests, ints, Option, Some, None, ℤ, pos, negsuc, inl, inr, ◌⊎◌, leb-true, mul-le-mul_left, pow-le-pow_right, mul-one, mul_assoc, mod-lt, div-le_self, div-add-mod', div-lt_iff_lt-mul, append-nil, length-append, length-drop, drop_of_length-le, take_all, take-append-drop, pow-add, pow-suc, pow-succ', ten_to_pos, nat_le, none-some, cases_Bool, cases_lt, decimal, decimal_digit, decimal_is_IsNumeral, sign_text, digit_value, digits_value, digits_value-append, digits_value_short, numerals_by_value, tells_digits, AllDigits, AllDigits-append, scan_numeral-text_of, scan_numeral-AllDigits, float_is_finite, Float, binary64, round, round-fits, unsigned_abs, IsInLiteralRange, nearest_to_decimal, most_billionths, Parts, scan, text_of, exponent_text, digits_of, nearest, point_at, with_sign, IsWellFormed, Decimal, decimal_of, has_point, is_beyond, place_digits, size_text, Amount, billionths, decimal_billionths, double_billionths, exponent_of, held_as, held_double, held_or, held_short, plain_billionths, shortest_of, whole_billionths}
 use Rattle.serde_json_path_numbers.specs.Numerals as numerals
 use Rattle.serde_json_path_numbers.proofs.Digits.{digit_is, digits_value-cons}
 use Rattle.serde_json_path_numbers.proofs.Fewest.{IsShortest, again, ends_in, is_shortest}
@@ -228,12 +225,12 @@ read_back negative text d is =
     let reads = f.reads in
     let low : unsigned_abs d.exponent ≤ 1000 = grind (arith, nat_tests, reads) in
     let last : (k : ℕ) → d.exponent ≡ negsuc k → (9 ≤ k) × (1 ≤ d.digits % 10) =
-        λ k same. last_is negative x d.digits k (subst (λ e. IsShortest negative x (d.digits, e)) same f) (subst (λ e. Passes negative (decimal_billionths (d.digits, e))) same h.decimal) in
+    λ k same. last_is negative x d.digits k (subst (λ e. IsShortest negative x (d.digits, e)) same f) (subst (λ e. Passes negative (decimal_billionths (d.digits, e))) same h.decimal) in
     let (p, q) = printed negative d.digits d.exponent f.few low (grind (arith, nat_tests, reads)) last in
     let near : nearest binary64 false p ≡ x = q.near ∙ read_is negative x d.digits d.exponent (round-fits binary64 false _ _) reads in
     let found : shortest_of negative x p (exponent_of p) ≡ Some (d.digits, d.exponent) = rw (q.power, q.digits) (again negative x (length (p.whole ++ p.fraction)) (d.digits, d.exponent) f) in
     let held : held_as negative p ≡ Some (numerals.decimal d) =
-        rw (q.plain) (q.whole _ ∙ rw (near, h.finite) (h.double _ ∙ rw found (h.decimal _ ∙ ap (λ s. Some (numerals.decimal (decimal_of s d.digits d.exponent))) (sym h.sign)))) in
+    rw (q.plain) (q.whole _ ∙ rw (near, h.finite) (h.double _ ∙ rw found (h.decimal _ ∙ ap (λ s. Some (numerals.decimal (decimal_of s d.digits d.exponent))) (sym h.sign)))) in
     (h.sign, f.few, low, ap (λ t. held_as negative (scan t)) (sym q.text) ∙ ap (held_as negative) (scan_numeral-text_of p q.well_formed) ∙ held)
 
 -- ---- numerals that are held as billionths

@@ -1,4 +1,4 @@
-use Rattle.serde_json_path_numbers.proofs.Words.{◌≡◌, ◌∙◌, refl, sym, ap, true, arith, nat_tests, FitsSigned, w64, w128, to_z-of_z, if_read}
+use Rattle.serde_json_path_numbers.proofs.Words.{◌∙◌, refl, sym, ap, arith, nat_tests, FitsSigned, w64, w128, to_z-of_z, if_read}
 use Rattle.serde_json_path_numbers.proofs.Fewest.{goes_on, stays}
 use Rattle.serde_json_path_numbers.proofs.numeral.+fewest.Goals as goal
 

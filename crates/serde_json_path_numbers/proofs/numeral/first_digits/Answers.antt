@@ -1,4 +1,4 @@
-use Rattle.serde_json_path_numbers.proofs.Words.{◌≡◌, ◌<◌, ◌++◌, length, sym, ◌∙◌, arith, nat_tests, length-append, to_z-of_z}
+use Rattle.serde_json_path_numbers.proofs.Words.{◌<◌, ◌++◌, length, arith, nat_tests, length-append}
 use Rattle.serde_json_path_numbers.proofs.Numerals.{one_below, one_taken, some_taken}
 use Rattle.serde_json_path_numbers.proofs.numeral.first_digits.Goals as goal
 

@@ -1,8 +1,6 @@
-use Rattle.serde_json_path_numbers.proofs.Words.{ap, sym, ◌∙◌, to_z-of_z, Some}
-use Rattle.std.specs.Option.{option_map, option_or}
-use Rattle.serde_json_path_numbers.specs.Decimals.{decimal_of}
+use Rattle.serde_json_path_numbers.proofs.Words.{ap, sym, ◌∙◌, to_z-of_z, Some, option_or, decimal_of, amount_view}
+use Rattle.std.specs.Option.{option_map}
 use Rattle.serde_json_path_numbers.specs.Numerals.{decimal}
-use Rattle.serde_json_path_numbers.specs.Views.{amount_view}
 use Rattle.serde_json_path_numbers.proofs.Numerals.{finite_decimal}
 use Rattle.serde_json_path_numbers.proofs.numeral.held_short.Goals as goal
 

@@ -1,5 +1,4 @@
-use Rattle.serde_json_path_numbers.proofs.Words.{◌≡◌, ℕ, ◌∙◌, sym, ap, Some, arith, nat_tests, ℤ, FitsSigned, w128, to_z-of_z, fewest, if_read}
-use Rattle.serde_json_path_numbers.specs.Numerals.{exponent_of}
+use Rattle.serde_json_path_numbers.proofs.Words.{◌≡◌, ℕ, ◌∙◌, sym, ap, Some, arith, nat_tests, ℤ, FitsSigned, w128, to_z-of_z, fewest, if_read, exponent_of}
 use Rattle.serde_json_path_numbers.proofs.numeral.shortest.Goals as goal
 
 pub returns-clause-value : goal.returns-clause-value
