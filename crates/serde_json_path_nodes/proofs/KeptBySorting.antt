@@ -1,10 +1,6 @@
 -- Numbered elements are sorted by an order and then by number, those that tie with their neighbour are removed, and the
 -- others are sorted back by number: what is left are the elements that no earlier one ties with, in their order.
-use Rattle.serde_json_path_nodes.proofs.Words.{◌≡◌, ℕ, ◌+◌, ◌<◌, ◌≤◌, Bool, true, false, cond, not, ◌&&◌, ltb, nat_eq, List, [], ◌∷◌, length, get_or, refl, ap, sym, ◌∙◌, arith, IsTotalOrder, All, AllByRecursion, IsDistinct, dedup, dedup_from, filter, list_any, sum_by, IsNonDecreasingBy, IsPermutation, IsSortedBy, eq_by_cmp, is_eq, is_lt, nat_cmp, on, then_cmp, Ordering, Less, ne_eqb, nat_tests, nat_cmp_total, nat_eq_equiv, on_total, then_total, tied_back, get_or_default, All-filter, All-same, All-tail, filter_agree, All-permutation, IsNonDecreasingBy-drop, list_any-IsPermutation, sum_by-IsPermutation}
-use Rattle.std.specs.List.Sorted.{IsStrictlySortedBy}
-use Rattle.std.proofs.lemmas.List.Kept.{IsNonDecreasingBy-filter}
-use Rattle.std.proofs.lemmas.List.Sums.{sum_by-cons, sum_by-le}
-use Rattle.std.proofs.lemmas.Map.Keys.{sorted_from_all_adjacent, apart_from_distinct, IsDistinct-from_apart, IsDistinct-IsPermutation}
+use Rattle.serde_json_path_nodes.proofs.Words.{◌≡◌, ℕ, ◌+◌, ◌<◌, ◌≤◌, Bool, true, false, cond, not, ◌&&◌, ltb, nat_eq, List, [], ◌∷◌, length, get_or, refl, ap, sym, ◌∙◌, arith, IsTotalOrder, All, AllByRecursion, IsDistinct, dedup, dedup_from, filter, list_any, sum_by, IsNonDecreasingBy, IsPermutation, IsSortedBy, eq_by_cmp, is_eq, is_lt, nat_cmp, on, then_cmp, Ordering, Less, ne_eqb, nat_tests, nat_cmp_total, nat_eq_equiv, on_total, then_total, tied_back, get_or_default, All-filter, All-same, All-tail, filter_agree, All-permutation, IsNonDecreasingBy-drop, list_any-IsPermutation, sum_by-IsPermutation, IsStrictlySortedBy, IsNonDecreasingBy-filter, sum_by-cons, sum_by-le, sorted_from_all_adjacent, apart_from_distinct, IsDistinct-from_apart, IsDistinct-IsPermutation}
 
 -- ---- filters and sums
 

@@ -1,5 +1,4 @@
-use Rattle.serde_json_path_nodes.proofs.Words.{arith, ◌∙◌, common_steps, get_or-set_other, located}
-use Rattle.std.proofs.Math.Seq.{map-set_same}
+use Rattle.serde_json_path_nodes.proofs.Words.{arith, ◌∙◌, common_steps, get_or-set_other, located, map-set_same}
 use Rattle.serde_json_path_nodes.proofs.located_node_list.number_nodes.Goals as goal
 
 pub loop-number-preserved : goal.loop-number-preserved
