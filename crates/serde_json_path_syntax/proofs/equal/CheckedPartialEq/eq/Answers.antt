@@ -1,5 +1,4 @@
-use Rattle.serde_json_path_syntax.proofs.Words.{◌≡◌, ◌∙◌, sym, rules, branches_named, nodes_in, tree_of, same_query, branches}
-use Rattle.serde_json_path_syntax.specs.Inside.SameLaws.{Decides-same_query}
+use Rattle.serde_json_path_syntax.proofs.Words.{◌≡◌, ◌∙◌, sym, rules, branches_named, nodes_in, tree_of, same_query, branches, Decides-same_query}
 use Rattle.serde_json_path_syntax.proofs.Equality.{segments_same}
 use Rattle.serde_json_path_syntax.proofs.equal.CheckedPartialEq.eq.Goals as goal
 
