@@ -1,13 +1,5 @@
 -- Whole numbers, compared by their billionths, are compared as exact numbers.
-use Rattle.serde_json_path_core.proofs.Words.{◌≡◌, ℤ, true, Option, Some, None, refl, sym, ap, ◌∙◌, arith, ints, int_lt, int_eq, Num, number, float, as_integer, document_number, Numbers, whole_numbers, all_numbers, Compared, amount_of, nothing, billionths, exact_of, of_both, rising_sides, same_number, same_sides, whole_of}
-use Rattle.std.proofs.lemmas.Bool.Decides.{nat_tests}
-use Rattle.std.specs.Float.Ieee.{eq, lt}
-use Rattle.std.specs.Prelude.{pos, int_div, is_some, ◌*ℤ◌}
-use Rattle.serde_json.specs.Data.{unsigned, negative}
-use Rattle.serde_json.specs.Find.{as_i64}
-use Rattle.serde_json_path_numbers.specs.Numbers.{integer, literal_double}
-use Rattle.serde_json_path_numbers.proofs.Forms.{integers_less, integers_same}
-use Rattle.serde_json_path_numbers.proofs.Whole.{whole_amount, whole_number}
+use Rattle.serde_json_path_core.proofs.Words.{◌≡◌, ℤ, true, Option, Some, None, refl, sym, ap, ◌∙◌, arith, ints, int_lt, int_eq, Num, number, float, as_integer, document_number, Numbers, whole_numbers, all_numbers, Compared, amount_of, nothing, billionths, exact_of, of_both, rising_sides, same_number, same_sides, whole_of, nat_tests, eq, lt, pos, int_div, is_some, ◌*ℤ◌, unsigned, negative, as_i64, integer, literal_double, integers_less, integers_same, whole_amount, whole_number}
 use Rattle.serde_json_path_core.specs.Compared.{value}
 
 -- an integer, of so many billionths

@@ -10,16 +10,8 @@ pub(crate) mod slice_positions;
 pub(crate) mod stack;
 pub(crate) mod walks;
 
-ghost use Rattle.std.specs.Prelude.{◌≡◌, IfOk, IfErr};
-ghost use Rattle.serde_json.specs.View.{view};
-ghost use Rattle.serde_json_path_nodes.specs.Views.{located_nodes, node_values};
-ghost use Rattle.serde_json_path_functions.specs.Functions.{Fits, with_rule};
-ghost use Rattle.serde_json_path_core.specs.Derivation.{start_of};
-ghost use Rattle.serde_json_path_syntax.specs.Flat.{query_kind_view};
-ghost use Rattle.serde_json_path_core.specs.Selects.{OnlyMemoryOrPattern, Selects, SelectsValues};
-ghost use Rattle.serde_json_path_core.specs.Walks.{rest, query_of, set_of, document_of};
-ghost use Rattle.serde_json_path_syntax.specs.Parts.{rule_of, signatures_of, tree_of};
-ghost use Rattle.serde_json_path_functions.specs.declared.error.QueryError.TheVariants.{Memory};
+ghost use Rattle.serde_json_path_core.specs.Inside.Words.{◌≡◌, IfOk, IfErr, view, located_nodes, node_values, Fits, with_rule, start_of, query_kind_view, OnlyMemoryOrPattern, Selects, SelectsValues, rest, document_of, rule_of, signatures_of, tree_of, Memory};
+ghost use Rattle.serde_json_path_core.specs.Walks.{query_of, set_of};
 
 use crate::evaluation::frame::first_frames;
 use crate::evaluation::scope::Scope;

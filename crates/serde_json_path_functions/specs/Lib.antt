@@ -6,6 +6,7 @@
 -- OwnSets: lemmas for a set of your own, that it keeps types and patterns.
 -- Kept: what contracts see of the patterns that are kept.
 -- Inside: that the sets here keep theirs, as a law of a trait may cite `specs` alone, and the built-in functions' names.
+-- Words: the words of contracts, here and in the crates above, from one place.
 pub mod Functions
 pub mod Patterns
 pub mod Terms
@@ -13,3 +14,4 @@ pub mod Errors
 pub mod OwnSets
 pub mod Kept
 pub mod Inside
+pub mod Words

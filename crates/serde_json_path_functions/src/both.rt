@@ -17,8 +17,7 @@ use std::alloc::Global;
 pub struct Both<A, B>(pub A, pub B);
 
 impl<A: Functions, B: Functions> Functions for Both<A, B> {
-    ghost use Rattle.serde_json_path_functions.specs.Inside.BothTypes.{both_keeps_types, both_keeps_patterns};
-    ghost use Rattle.serde_json_path_functions.specs.Functions.{both};
+    ghost use Rattle.serde_json_path_functions.specs.Words.{both_keeps_types, both_keeps_patterns, both};
 
     ghost set = { λ functions. both (A.set functions.0) (B.set functions.1) };
 

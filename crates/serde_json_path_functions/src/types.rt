@@ -1,8 +1,6 @@
 //! Arguments and answers of functions.
 
-ghost use Rattle.std.specs.Prelude.{◌≡◌, ◌==◌, Bool, false, None, length, map, option_map, slice_get};
-ghost use Rattle.serde_json.specs.View.{view};
-ghost use Rattle.serde_json_path_functions.specs.Terms.{node_view, nodes_view, truth_view, value_view};
+ghost use Rattle.serde_json_path_functions.specs.Words.{◌≡◌, ◌==◌, Bool, false, None, length, map, option_map, slice_get, view, node_view, nodes_view, truth_view, value_view};
 
 use serde_json::Value;
 

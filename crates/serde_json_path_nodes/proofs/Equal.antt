@@ -1,7 +1,5 @@
 -- The derived `==` of elements answers as `same_step` does of their steps.
-use Rattle.serde_json_path_nodes.proofs.Words.{nat_tests, pointwise, as_long, same_step, same_steps, step_view, PathElement, arith, ◌≡◌, ℕ, zero, suc, ◌-◌, true, false, List, [], ◌∷◌, length, map, slice_get, Option, Bor, refl, sym, ◌∙◌}
-use Rattle.std.specs.Option.{option_eq, option_copied}
-use Rattle.std.proofs.lemmas.Bool.{false_from_ne_true}
+use Rattle.serde_json_path_nodes.proofs.Words.{nat_tests, pointwise, as_long, same_step, same_steps, step_view, PathElement, arith, ◌≡◌, ℕ, zero, suc, ◌-◌, true, false, List, [], ◌∷◌, length, map, slice_get, Option, Bor, refl, sym, ◌∙◌, option_eq, option_copied, false_from_ne_true}
 use Rattle.serde_json_path_nodes.specs.contracts.path_element.PathElementPartialEq.TheImpl.{eq-value}
 
 eq-value-same_step : (a b : PathElement) → eq-value.it a b ≡ same_step (step_view a) (step_view b)

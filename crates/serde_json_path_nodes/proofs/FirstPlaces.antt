@@ -1,6 +1,5 @@
 -- In a list of numbered nodes, those that no node of a lower number shares its location with are `first_places`.
-use Rattle.serde_json_path_nodes.proofs.Words.{◌≡◌, ℕ, suc, ◌+◌, ◌<◌, ◌≤◌, false, List, [], ◌∷◌, ◌++◌, length, get_or, map, refl, sym, ◌∙◌, arith, append_assoc, All, AllByRecursion, filter, list_any, on, nat_tests, map_push, All-nil, All-push, All-weaker, recursion_from_All, Ordering, is_among, first_places, first_places_after, AreNumbered, location_cmp, located, location_of, LocatedNode}
-use Rattle.std.proofs.lemmas.List.Folds.{list_any-append}
+use Rattle.serde_json_path_nodes.proofs.Words.{◌≡◌, ℕ, suc, ◌+◌, ◌<◌, ◌≤◌, false, List, [], ◌∷◌, ◌++◌, length, get_or, map, refl, sym, ◌∙◌, arith, append_assoc, All, AllByRecursion, filter, list_any, on, nat_tests, map_push, All-nil, All-push, All-weaker, recursion_from_All, Ordering, is_among, first_places, first_places_after, AreNumbered, location_cmp, located, location_of, LocatedNode, list_any-append}
 use Rattle.serde_json_path_nodes.proofs.KeptBySorting.{is_first_among, repeats}
 use Rattle.serde_json_path_nodes.proofs.Orders.{location_cmp-ties}
 

@@ -1,10 +1,6 @@
 -- Numbered elements are sorted by an order and then by number, those that tie with their neighbour are removed, and the
 -- others are sorted back by number: what is left are the elements that no earlier one ties with, in their order.
-use Rattle.serde_json_path_nodes.proofs.Words.{◌≡◌, ℕ, ◌+◌, ◌<◌, ◌≤◌, Bool, true, false, cond, not, ◌&&◌, ltb, nat_eq, List, [], ◌∷◌, length, get_or, refl, ap, sym, ◌∙◌, arith, IsTotalOrder, All, AllByRecursion, IsDistinct, dedup, dedup_from, filter, list_any, sum_by, IsNonDecreasingBy, IsPermutation, IsSortedBy, eq_by_cmp, is_eq, is_lt, nat_cmp, on, then_cmp, Ordering, Less, ne_eqb, nat_tests, nat_cmp_total, nat_eq_equiv, on_total, then_total, tied_back, get_or_default, All-filter, All-same, All-tail, filter_agree, All-permutation, IsNonDecreasingBy-drop, list_any-IsPermutation, sum_by-IsPermutation}
-use Rattle.std.specs.List.Sorted.{IsStrictlySortedBy}
-use Rattle.std.proofs.lemmas.List.Kept.{IsNonDecreasingBy-filter}
-use Rattle.std.proofs.lemmas.List.Sums.{sum_by-cons, sum_by-le}
-use Rattle.std.proofs.lemmas.Map.Keys.{sorted_from_all_adjacent, apart_from_distinct, IsDistinct-from_apart, IsDistinct-IsPermutation}
+use Rattle.serde_json_path_nodes.proofs.Words.{common_steps, ◌≡◌, ℕ, ◌+◌, ◌<◌, ◌≤◌, Bool, true, false, cond, not, ◌&&◌, ltb, nat_eq, List, [], ◌∷◌, length, get_or, refl, ap, sym, ◌∙◌, arith, IsTotalOrder, All, AllByRecursion, IsDistinct, dedup, dedup_from, filter, list_any, sum_by, IsNonDecreasingBy, IsPermutation, IsSortedBy, eq_by_cmp, is_eq, is_lt, nat_cmp, on, then_cmp, Ordering, Less, ne_eqb, nat_tests, nat_cmp_total, nat_eq_equiv, on_total, then_total, tied_back, get_or_default, All-filter, All-same, All-tail, filter_agree, All-permutation, IsNonDecreasingBy-drop, list_any-IsPermutation, sum_by-IsPermutation, IsStrictlySortedBy, IsNonDecreasingBy-filter, sum_by-cons, sum_by-le, sorted_from_all_adjacent, apart_from_distinct, IsDistinct-from_apart, IsDistinct-IsPermutation}
 
 -- ---- filters and sums
 
@@ -96,10 +92,7 @@ module _ {X : Type 0} (order : X → X → Ordering) (number : X → ℕ) where
     -- the second of two elements is left out where it ties with the first, and else what comes after does not repeat the first
     second_repeats : (x y : X) (ys : List X) → order_then_number x y ≡ Less → is_eq (order y x) ≡ true
         → filter (is_first_among (x ∷ ys)) (x ∷ ys) ≡ filter (is_first_among (x ∷ y ∷ ys)) (x ∷ y ∷ ys)
-    second_repeats x y ys less tie =
-        let repeat : repeats y x ≡ true = grind (arith, nat_tests, later x y less, tied_back total y x) in
-        filter_agree (is_first_among (x ∷ ys)) (is_first_among (x ∷ y ∷ ys)) (λ z. grind (arith, nat_tests, repeats_through x y z less tie)) (x ∷ ys)
-        ∙ sym (filter-second (is_first_among (x ∷ y ∷ ys)) x y ys (grind (arith, nat_tests, repeat)))
+    second_repeats x y ys less tie = grind (arith, nat_tests, common_steps, tied_back, filter_agree, filter-second, later, repeats_through)
 
     second_is_apart : (x y : X) (ys : List X) → AllByRecursion (λ z. order_then_number x z ≡ Less) (y ∷ ys) → AllByRecursion (λ z. order_then_number y z ≡ Less) ys
         → is_eq (order y x) ≡ false → x ∷ filter (is_first_among (y ∷ ys)) (y ∷ ys) ≡ filter (is_first_among (x ∷ y ∷ ys)) (x ∷ y ∷ ys)
@@ -149,8 +142,7 @@ module _ {X : Type 0} (order : X → X → Ordering) (number : X → ℕ) where
       numbered_at k d within e = ap (λ n. get_or numbered n e) (numbers k d within) ∙ get_or_default numbered k e d within
 
       numbered_differ : IsDistinct (on number nat_eq) numbered
-      numbered_differ = IsDistinct-from_apart (on number nat_eq) numbered (λ i j d below within.
-          ne_eqb (number (get_or numbered i d)) (number (get_or numbered j d)) (λ same. omega (arith, numbers i d (omega arith), numbers j d within)))
+      numbered_differ = grind (arith, nat_tests, common_steps, ne_eqb, IsDistinct-from_apart)
 
       -- what is kept of the sorted elements
       kept_is : dedup (eq_by_cmp order) sorted ≡ filter (is_first_among numbered) sorted

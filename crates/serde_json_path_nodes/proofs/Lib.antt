@@ -1,5 +1,5 @@
 -- Lemmas; the folders have the proofs of functions.
--- Words: what proofs cite, from one place.
+-- Words: what proofs cite, here and in the crates above, from one place.
 -- Equal: the derived `==` of elements is the test of their steps.
 -- Quotes: a text in quotes, written character by character.
 -- Steps: a location, written step by step.
@@ -16,4 +16,4 @@ mod Pointers
 mod Quotes
 mod Steps
 mod TextsApart
-mod Words
+pub mod Words

@@ -1,10 +1,5 @@
 -- Locations are read back from their normalised paths, since decimals and escapes are.
-use Rattle.serde_json_path_nodes.proofs.Words.{common_steps, decimal, escape_of, in_quotes, normal_step, normal, nat_tests, encode_same, char_from_byte, encodes-chars, append_cancel_left, flat_map, chars, Step, by_name, by_position, IsProper, ◌≡◌, ℕ, zero, suc, ◌+◌, ◌-◌, ◌^◌, ◌<◌, List, [], ◌∷◌, map, refl, ap, sym, ◌∙◌, arith, ◌*◌, ◌==◌, nat_lt, Bool, true, false, if◌then◌else◌, ◌++◌, get_or, drop, is_some, encode_utf8, true≢false, ◌≢◌, codes, append_assoc, in_decimal}
-use Rattle.std.specs.Int.Digits.{digits_of, number_from_digits, AllBelowBase}
-use Rattle.std.proofs.lemmas.Fmt.{decimal_digit, decimal-digits_of}
-use Rattle.std.proofs.lemmas.Int.Digits.{number_digits_of, all_below_base_digits_of, first_digits_of}
-use Rattle.std.specs.Char.{digit_char}
-use Rattle.serde_json_path_nodes.specs.Laws.{TextsTellLocations}
+use Rattle.serde_json_path_nodes.proofs.Words.{common_steps, decimal, escape_of, in_quotes, normal_step, normal, nat_tests, encode_same, char_from_byte, encodes-chars, append_cancel_left, flat_map, chars, Step, by_name, by_position, IsProper, ◌≡◌, ℕ, zero, suc, ◌+◌, ◌-◌, ◌^◌, ◌<◌, List, [], ◌∷◌, map, refl, ap, sym, ◌∙◌, arith, ◌*◌, ◌==◌, nat_lt, Bool, true, false, if◌then◌else◌, ◌++◌, get_or, drop, is_some, encode_utf8, true≢false, ◌≢◌, codes, append_assoc, in_decimal, digits_of, number_from_digits, AllBelowBase, decimal_digit, decimal-digits_of, number_digits_of, all_below_base_digits_of, first_digits_of, digit_char, TextsTellLocations}
 
 -- ---- a number is read back from its digits, and within 64 bits they are those that std prints
 

@@ -6,6 +6,7 @@
 -- Views: what contracts see of the types.
 -- Same: the computed test whether steps and locations are equal.
 -- Inside: what contracts of private functions and proofs cite alone.
+-- Words: the words of contracts, here and in the crates above, from one place.
 pub mod Laws
 pub mod Lists
 pub mod Location
@@ -13,3 +14,4 @@ pub mod Same
 pub mod Text
 pub mod Views
 pub mod Inside
+pub mod Words

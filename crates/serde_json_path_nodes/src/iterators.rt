@@ -1,7 +1,6 @@
 //! Iterators over locations and lists. Each knows exactly how many items remain.
 
-ghost use Rattle.std.specs.Prelude.{◌≡◌, ◌≤◌, length, map, IfSome};
-ghost use Rattle.std.specs.Iterator.{YieldsFirstRef, UpTo, at_most, item_count};
+ghost use Rattle.serde_json_path_nodes.specs.Words.{◌≡◌, ◌≤◌, length, map, IfSome, YieldsFirstRef, UpTo, at_most, item_count};
 
 use crate::located_node::LocatedNode;
 use crate::normalized_path::NormalizedPath;
@@ -44,8 +43,7 @@ impl<'a, 'b> PathElements<'a, 'b> {
 }
 
 impl<'a, 'b> Iterator for PathElements<'a, 'b> {
-    ghost use Rattle.std.specs.Iterator.{YieldsFirstBy, item_count};
-    ghost use Rattle.serde_json_path_nodes.specs.Views.{step_view};
+    ghost use Rattle.serde_json_path_nodes.specs.Words.{YieldsFirstBy, item_count, step_view};
 
     type Item = PathElement<'b>;
 
@@ -91,8 +89,7 @@ impl<'a, 'b> LocatedNodes<'a, 'b> {
 }
 
 impl<'a, 'b> Iterator for LocatedNodes<'a, 'b> {
-    ghost use Rattle.std.specs.Iterator.{YieldsFirstBy, item_count};
-    ghost use Rattle.serde_json_path_nodes.specs.Views.{located, located_nodes_left};
+    ghost use Rattle.serde_json_path_nodes.specs.Words.{YieldsFirstBy, item_count, located, located_nodes_left};
 
     type Item = &'a LocatedNode<'b>;
 
@@ -157,8 +154,7 @@ impl<'a, 'b> Nodes<'a, 'b> {
 }
 
 impl<'a, 'b> Iterator for Nodes<'a, 'b> {
-    ghost use Rattle.std.specs.Iterator.{YieldsFirstBy, item_count};
-    ghost use Rattle.serde_json_path_nodes.specs.Views.{node_value, node_values_left};
+    ghost use Rattle.serde_json_path_nodes.specs.Words.{YieldsFirstBy, item_count, node_value, node_values_left};
 
     type Item = &'b Value;
 

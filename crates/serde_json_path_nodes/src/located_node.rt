@@ -1,7 +1,6 @@
 //! A node with its location.
 
-ghost use Rattle.std.specs.Prelude.{◌≡◌, map};
-ghost use Rattle.serde_json.specs.View.{view};
+ghost use Rattle.serde_json_path_nodes.specs.Words.{◌≡◌, map, view};
 
 use crate::normalized_path::NormalizedPath;
 use crate::path_element::PathElement;
@@ -20,8 +19,7 @@ pub struct LocatedNode<'b> {
 }
 
 impl<'b> LocatedNode<'b> {
-    ghost use Rattle.serde_json_path_nodes.specs.Views.{located, step_view};
-    ghost use Rattle.serde_json_path_nodes.specs.Inside.NodeOrder.{node_cmp};
+    ghost use Rattle.serde_json_path_nodes.specs.Words.{located, step_view, node_cmp};
 
     /// The node with this location. Takes no memory.
     pub fn new(location: NormalizedPath<'b>, node: &'b Value) -> LocatedNode<'b>

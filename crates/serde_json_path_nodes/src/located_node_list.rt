@@ -1,9 +1,6 @@
 //! Nodes with their locations.
 
-ghost use Rattle.std.specs.Prelude.{◌≡◌, ◌==◌, length, map, option_map, IfOk, IfErr};
-ghost use Rattle.serde_json_path_nodes.specs.Views.{located, location_of};
-ghost use Rattle.serde_json_path_nodes.specs.Lists.{first_places};
-ghost use Rattle.serde_json_path_nodes.specs.Inside.NodeOrder.{AreNumbered};
+ghost use Rattle.serde_json_path_nodes.specs.Words.{◌≡◌, ◌==◌, length, map, option_map, IfOk, IfErr, located, location_of, first_places, AreNumbered};
 
 use crate::error::{AtMostOneError, ExactlyOneError};
 use crate::iterators::{LocatedNodes, Locations, Nodes};
@@ -18,8 +15,7 @@ pub struct LocatedNodeList<'b> {
 }
 
 impl<'b> From<Vec<LocatedNode<'b>>> for LocatedNodeList<'b> {
-    ghost use Rattle.std.specs.Prelude.{◌≡◌, map};
-    ghost use Rattle.serde_json_path_nodes.specs.Views.{located, located_nodes};
+    ghost use Rattle.serde_json_path_nodes.specs.Words.{◌≡◌, map, located, located_nodes};
 
     ghost from_gives = { λ nodes list. located_nodes list ≡ map located nodes.items };
 
@@ -30,8 +26,7 @@ impl<'b> From<Vec<LocatedNode<'b>>> for LocatedNodeList<'b> {
 }
 
 impl<'b> LocatedNodeList<'b> {
-    ghost use Rattle.serde_json_path_nodes.specs.Views.{located, located_nodes, located_nodes_left, location_of, value_of, node_values_left};
-    ghost use Rattle.serde_json_path_nodes.specs.Lists.{first_places, at_most_one_of, exactly_one_of};
+    ghost use Rattle.serde_json_path_nodes.specs.Words.{located, located_nodes, located_nodes_left, location_of, value_of, node_values_left, first_places, at_most_one_of, exactly_one_of};
 
     /// How many entries there are, duplicates counted.
     pub fn len(&self) -> usize

@@ -13,8 +13,7 @@ pub struct NodeList<'b> {
 }
 
 impl<'b> From<Vec<&'b Value>> for NodeList<'b> {
-    ghost use Rattle.std.specs.Prelude.{◌≡◌, map};
-    ghost use Rattle.serde_json_path_nodes.specs.Views.{node_value, node_values};
+    ghost use Rattle.serde_json_path_nodes.specs.Words.{◌≡◌, map, node_value, node_values};
 
     ghost from_gives = { λ nodes list. node_values list ≡ map node_value nodes.items };
 
@@ -25,8 +24,7 @@ impl<'b> From<Vec<&'b Value>> for NodeList<'b> {
 }
 
 impl<'b> NodeList<'b> {
-    ghost use Rattle.serde_json_path_nodes.specs.Views.{node_value, node_values, node_values_left};
-    ghost use Rattle.serde_json_path_nodes.specs.Lists.{at_most_one_of, exactly_one_of};
+    ghost use Rattle.serde_json_path_nodes.specs.Words.{node_value, node_values, node_values_left, at_most_one_of, exactly_one_of};
 
     /// The nodes as a vector, in order. Takes no memory.
     pub fn all(self) -> Vec<&'b Value>

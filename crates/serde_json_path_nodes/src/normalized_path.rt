@@ -1,8 +1,6 @@
 //! Locations, as normalised paths.
 
-ghost use Rattle.std.specs.Prelude.{◌≡◌, ◌==◌, ◌↔◌, ◌++◌, length, map, slice_get, option_map, Some, IfOk, OnOk, IsTrue, string_bytes};
-ghost use Rattle.std.specs.List.{flat_map};
-ghost use Rattle.serde_json_path_nodes.specs.Text.{normal, pointer, in_pointer};
+ghost use Rattle.serde_json_path_nodes.specs.Words.{◌≡◌, ◌==◌, ◌↔◌, ◌++◌, length, map, slice_get, option_map, Some, IfOk, OnOk, IsTrue, string_bytes, flat_map, normal, pointer, in_pointer};
 
 use crate::iterators::PathElements;
 use crate::path_element::PathElement;
@@ -34,8 +32,7 @@ impl<'b> Model for NormalizedPath<'b> {
 }
 
 impl<'b> NormalizedPath<'b> {
-    ghost use Rattle.serde_json_path_nodes.specs.Views.{step_view};
-    ghost use Rattle.serde_json_path_nodes.specs.Inside.StepOrder.{location_cmp};
+    ghost use Rattle.serde_json_path_nodes.specs.Words.{step_view, location_cmp};
 
     /// The location that the steps lead to. Takes no memory.
     pub fn from_steps(steps: Vec<PathElement<'b>>) -> NormalizedPath<'b>
@@ -146,8 +143,7 @@ impl<'b> NormalizedPath<'b> {
 }
 
 impl<'b> PartialEq for NormalizedPath<'b> {
-    ghost use Rattle.std.specs.Cmp.{partial_equiv_from_equiv};
-    ghost use Rattle.serde_json_path_nodes.specs.Same.{same_steps, same_steps-equiv};
+    ghost use Rattle.serde_json_path_nodes.specs.Words.{partial_equiv_from_equiv, same_steps, same_steps-equiv};
 
     ghost eq = { same_steps };
 

@@ -14,8 +14,7 @@ pub enum PathElement<'b> {
 }
 
 impl<'b> PathElement<'b> {
-    ghost use Rattle.serde_json_path_nodes.specs.Inside.StepOrder.{step_cmp};
-    ghost use Rattle.serde_json_path_nodes.specs.Views.{step_view};
+    ghost use Rattle.serde_json_path_nodes.specs.Words.{step_cmp, step_view};
 
     /// A total order: names before indexes, names by their bytes.
     pub(crate) fn compare(&self, other: &PathElement<'b>) -> Ordering

@@ -1,6 +1,5 @@
 -- Equality of parts, of any kind and one by one.
-use Rattle.serde_json_path_syntax.proofs.Words.{◌≡◌, ◌≢◌, ◌≤◌, ◌⊎◌, List, [], ◌∷◌, length, Bool, true, false, ◌&&◌, refl, sym, ap, ◌∙◌, arith, length-map, branch_in, branches_named, ands_in, arguments_in, call_in, operand_in, or_in, ors_in, query_in, segments_in, selectors_in, parts_bound, Branch, a_query, a_segment, a_selector, an_or, an_and, a_basic, an_operand, a_call, same_branch, same_and, same_arguments, same_call, same_operand, same_or, same_query, same_segments, same_selectors, Part, each_is, is_and, is_argument, is_basic, is_call, is_comparable, is_or, is_query, is_segment, is_selector, is_tested}
-use Rattle.std.specs.Cmp.Lexicographic.{pointwise, unequal}
+use Rattle.serde_json_path_syntax.proofs.Words.{nat_tests, common_steps, ◌≡◌, ◌≢◌, ◌≤◌, ◌⊎◌, List, [], ◌∷◌, length, Bool, true, false, ◌&&◌, refl, sym, ap, ◌∙◌, arith, length-map, branch_in, branches_named, ands_in, arguments_in, call_in, operand_in, or_in, ors_in, query_in, segments_in, selectors_in, parts_bound, Branch, a_query, a_segment, a_selector, an_or, an_and, a_basic, an_operand, a_call, same_branch, same_and, same_arguments, same_call, same_operand, same_or, same_query, same_segments, same_selectors, Part, each_is, is_and, is_argument, is_basic, is_call, is_comparable, is_or, is_query, is_segment, is_selector, is_tested, pointwise}
 
 -- ---- parts of two trees that are compared one by one
 
@@ -9,8 +8,7 @@ module _ (ps qs : List Branch) where
   same_named xs ys = pointwise same_branch (branches_named ps xs) (branches_named qs ys)
 
   pub uneven : (xs ys : List Part) → length xs ≢ length ys → same_named xs ys ≡ false
-  uneven xs ys h =
-      unequal same_branch (branches_named ps xs) (branches_named qs ys) (λ same. h (sym (length-map xs _) ∙ same ∙ length-map ys _))
+  uneven xs ys h = grind (arith, nat_tests, common_steps, length-map)
 
   -- xs and ys are left of lefts and rights, where those before are alike
   pub record AreLeft (lefts rights xs ys : List Part) : Type 0 where

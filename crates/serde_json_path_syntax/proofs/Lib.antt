@@ -1,5 +1,5 @@
--- the words that proofs cite, from one place
-mod Words
+-- the words that proofs cite, here and in the crates above, from one place
+pub mod Words
 -- trees of growing vectors
 pub mod Tree
 -- typing

@@ -1,8 +1,6 @@
 -- What is printed of a part of any kind.
-use Rattle.serde_json_path_syntax.proofs.Words.{◌≡◌, ◌≢◌, ◌∙◌, ℕ, zero, suc, ◌+◌, ◌-◌, ◌*◌, ◌/◌, ◌%◌, ◌<◌, ℤ, pos, negsuc, List, [], ◌++◌, codes, true, false, refl, sym, ap, append_assoc, arith, ◌≤◌, ◌∷◌, length, map, take, get_or, ints, decimal, HasWritten, IsPlainFormatter, amount_text, fraction_digits, number_text, query_text, joined, branch_text, and_text, and_texts, argument_texts, basic_text, basic_texts, call_text, operand_text, or_text, segment_text, segments_text, selector_text, selector_texts, has_written_append, has_written_of_eq, flat_map_more, map_more, take_all, branch_in, branches_named, ands_in, arguments_in, call_in, operand_in, or_in, ors_in, query_in, segments_in, selectors_in, Branch, a_query, a_segment, a_selector, an_or, an_and, a_basic, an_operand, a_call, Part, each_is, is_and, is_argument, is_basic, is_call, is_operand, is_or, is_query, is_segment, is_selector}
+use Rattle.serde_json_path_syntax.proofs.Words.{nat_tests, common_steps, ◌≡◌, ◌≢◌, ◌∙◌, ℕ, zero, suc, ◌+◌, ◌-◌, ◌*◌, ◌/◌, ◌%◌, ◌<◌, ℤ, pos, negsuc, List, [], ◌++◌, codes, true, false, refl, sym, ap, append_assoc, arith, ◌≤◌, ◌∷◌, length, map, take, get_or, ints, decimal, HasWritten, IsPlainFormatter, amount_text, fraction_digits, number_text, query_text, joined, branch_text, and_text, and_texts, argument_texts, basic_text, basic_texts, call_text, operand_text, or_text, segment_text, segments_text, selector_text, selector_texts, has_written_append, has_written_of_eq, flat_map_more, map_more, take_all, branch_in, branches_named, ands_in, arguments_in, call_in, operand_in, or_in, ors_in, query_in, segments_in, selectors_in, Branch, a_query, a_segment, a_selector, an_or, an_and, a_basic, an_operand, a_call, Part, each_is, is_and, is_argument, is_basic, is_call, is_operand, is_or, is_query, is_segment, is_selector, nat_abs, Formatter}
 use lib.Signed.{lt_z}
-use Rattle.std.proofs.Math.IntN.{nat_abs}
-use Rattle.std.specs.declared.fmt.Formatter.{Formatter}
 use Rattle.std.specs.List.{flat_map}
 use Rattle.serde_json_path_syntax.proofs.Tree.NamedParts.{one_is, others, others-bound, others-cons, operand_of_comparable, operand_of_tested, others_are, within_get}
 
@@ -44,9 +42,7 @@ module _ (separator : List ℕ) (ps : List Branch) where
   begun parts i = flat_map (λ t. separator ++ t) (map text_of (take i parts))
 
   pub begun_more : (parts : List Part) (i : ℕ) (d : Part) → i < length parts → begun parts i ++ (separator ++ text_of (get_or parts i d)) ≡ begun parts (i + 1)
-  begun_more parts i d h =
-      flat_map_more (λ t. separator ++ t) [] (map text_of (take i parts)) (text_of (get_or parts i d))
-      ∙ ap (flat_map (λ t. separator ++ t)) (sym (map_more text_of parts i d h))
+  begun_more parts i d h = grind (arith, nat_tests, common_steps, flat_map_more, map_more)
 
   -- one more is printed
   pub printed_more : {W : Type 0} (took : W → List ℕ → W → Type 0) (f g h : Formatter W) (parts : List Part) (i : ℕ) (d : Part) → i < length parts
@@ -75,8 +71,7 @@ module _ (separator : List ℕ) (ps : List Branch) where
   pub all_printed : {W : Type 0} (took : W → List ℕ → W → Type 0) (f g h : Formatter W) (start : List ℕ) (parts : List Part) (d : Part) (i : ℕ)
       → 1 ≤ length parts → length (others parts) ≤ i → HasWritten took f (start ++ text_of (get_or parts 0 d)) g → HasWritten took g (begun (others parts) i) h
       → HasWritten took f (start ++ joined separator (map branch_text (branches_named ps parts))) h
-  all_printed took f g h start parts d i some all first rest =
-      has_written_of_eq _ _ _ _ _ (append_assoc start _ _ ∙ ap (λ t. start ++ t) (begun_whole parts d i some all)) (has_written_append _ _ _ _ _ _ first rest)
+  all_printed took f g h start parts d i some all first rest = grind (arith, nat_tests, common_steps, has_written_append, has_written_of_eq, begun_whole)
 
 -- before anything is printed
 pub nothing_printed : {W : Type 0} (took : W → List ℕ → W → Type 0) (f : Formatter W) → IsPlainFormatter f → HasWritten took f [] f

@@ -39,11 +39,8 @@ pub struct Checked {
 }
 
 impl Checked {
-    ghost use Rattle.std.specs.Prelude.{ℕ, List, true, map, Some, IfOk, string_bytes};
-    ghost use Rattle.serde_json_path_syntax.specs.Words.{AreOfKind, IsOfKind, fits, is_and, is_argument, is_basic, is_call, is_or, is_query, is_segment, is_selector, selector_ref_fits, IsIn, child, query, no_segments, segments_of, FunctionSet, Signature, arguments_of, name_of, MayFinish, or_at, ors_in, and_at, ands_in, call_at, arguments_in, part_query, segment_kind_view, branch_at, branch_of, branches, branches_named, segments_at, selector_at, selectors_at, NamesBelow, selectors_list, query_text, nodes_in, number_of, tree_of, rule_of, signatures_of, whole_numbers, parts_bound, selector_bound};
+    ghost use Rattle.serde_json_path_syntax.specs.Words.{ℕ, List, true, map, Some, IfOk, string_bytes, AreOfKind, IsOfKind, fits, is_and, is_argument, is_basic, is_call, is_or, is_query, is_segment, is_selector, selector_ref_fits, IsIn, child, query, no_segments, segments_of, FunctionSet, Signature, arguments_of, name_of, MayFinish, or_at, ors_in, and_at, ands_in, call_at, arguments_in, part_query, segment_kind_view, branch_at, branch_of, branches, branches_named, segments_at, selector_at, selectors_at, NamesBelow, selectors_list, query_text, nodes_in, number_of, tree_of, rule_of, signatures_of, whole_numbers, parts_bound, selector_bound, kind_view, numbers_view, query_kind_view};
     ghost use Rattle.serde_json_path_syntax.specs.Tree as tree;
-    ghost use Rattle.serde_json_path_functions.specs.Terms.{kind_view, numbers_view};
-    ghost use Rattle.serde_json_path_syntax.specs.Flat.{query_kind_view};
 
     /// The query `$`. Takes no memory.
     pub fn new(alloc: Global) -> Checked

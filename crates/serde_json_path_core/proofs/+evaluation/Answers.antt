@@ -1,5 +1,4 @@
-use Rattle.serde_json_path_core.proofs.Words.{◌≡◌, ◌+◌, length, map, take, [], drop, option_map, get_or, true, false, MatchOption, None, refl, sym, subst, ap, ◌∙◌, arith, ◌∷◌, ◌++◌, ◌⊎◌, inl, inr, rules, append_assoc, Option, Some, List, slice_get, ◌<◌, slice_get_within, get_or_default, map-append, common_steps, option_map_or, length-set, ∥∥₁_map, iter_rest, Data, view, Located, node_value, Passes, child, descendant, cursor_left, segment_kind_view, segment_in, segments_at, branch_at, basic_at, operand_at, call_at, part_query, branches, operator_view, term_view, StandsIn, Sound, IsTypedAnd, AreTypedArguments, calls_in_and, name_of, arguments_of, nodes_of, top_of, frame_view, frames_view, admitted, rest_of, work, IsStack, IsStackIn, IsInside, selector_view, stage_at, stages_at, child_view, values_from, Bor, Value, IsIn, within_get, within_bound, below_length, past_length, signatures_of, params_of, Step, EndsIn, AllStandIn, FunctionSet, LogicalOr, filter, or_at, kind_view, query_of, set_of}
-use Rattle.serde_json_path_core.specs.declared.child.Child.{Child}
+use Rattle.serde_json_path_core.proofs.Words.{◌≡◌, ◌+◌, length, map, take, [], drop, option_map, get_or, true, false, MatchOption, None, refl, sym, subst, ap, ◌∙◌, arith, ◌∷◌, ◌++◌, ◌⊎◌, inl, inr, rules, append_assoc, Option, Some, List, slice_get, ◌<◌, slice_get_within, get_or_default, map-append, common_steps, option_map_or, length-set, ∥∥₁_map, iter_rest, Data, view, Located, node_value, Passes, child, descendant, cursor_left, segment_kind_view, segment_in, segments_at, branch_at, basic_at, operand_at, call_at, part_query, branches, operator_view, term_view, StandsIn, Sound, IsTypedAnd, AreTypedArguments, calls_in_and, name_of, arguments_of, nodes_of, top_of, frame_view, frames_view, admitted, rest_of, work, IsStack, IsStackIn, IsInside, selector_view, stage_at, stages_at, child_view, values_from, Bor, Value, IsIn, within_get, within_bound, below_length, past_length, signatures_of, params_of, Step, EndsIn, AllStandIn, FunctionSet, LogicalOr, filter, or_at, kind_view, query_of, set_of, Child}
 use Rattle.serde_json_path_core.specs.Inside.Evaluates.{IsKept}
 use Rattle.serde_json_path_core.specs.Inside.Computed as computed
 use Rattle.serde_json_path_core.specs.Inside.Rest as advances

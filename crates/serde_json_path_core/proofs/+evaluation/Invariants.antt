@@ -1,7 +1,6 @@
-use Rattle.serde_json_path_core.proofs.Words.{◌≡◌, ◌+◌, ◌-◌, ◌*◌, ◌≤◌, ◌++◌, drop, length, map, max, AreOfKind, is_argument, iter_rest, view, Located, node_value, kind_of_term, term_view, arguments_of, calls_in_arguments, name_of, AreTypedArguments, params_of, and_at, ands_in, arguments_in, call_at, branches, branches_named, segments_at, parts_bound, selector_bound, cursor_left, rest_of, work, IsStackIn, Passes, values_from, stage_at, stages_at, Sound, nodes_of, top_of, frame_view, frames_view, kind_view, form_bound, any_holds, IsKept, set_of}
+use Rattle.serde_json_path_core.proofs.Words.{◌≡◌, ◌+◌, ◌-◌, ◌*◌, ◌≤◌, ◌++◌, drop, length, map, max, AreOfKind, is_argument, iter_rest, view, Located, node_value, kind_of_term, term_view, arguments_of, calls_in_arguments, name_of, AreTypedArguments, params_of, and_at, ands_in, arguments_in, call_at, branches, branches_named, segments_at, parts_bound, selector_bound, cursor_left, rest_of, work, IsStackIn, Passes, values_from, stage_at, stages_at, Sound, nodes_of, top_of, frame_view, frames_view, kind_view, form_bound, any_holds, IsKept, set_of, Filter}
 use Rattle.serde_json_path_core.specs.Inside.Computed as computed
 use Rattle.serde_json_path_core.specs.Inside.Evaluates.{Skips}
-use Rattle.serde_json_path_syntax.specs.declared.selector_ref.SelectorRef.TheVariants.{Filter}
 use Rattle.serde_json_path_core.proofs.+evaluation.Given as goal
 
 abbrev pub decreases-filter::logic::or_holds : goal.decreases-filter::logic::or_holds

@@ -1,7 +1,5 @@
 -- The computed comparisons answer as the definitions say.
-use Rattle.serde_json_path_core.proofs.Words.{◌≡◌, ℤ, ◌&&◌, Option, Some, Ordering, Less, nat_cmp, refl, sym, arith, true≢false, chars, bytes_eq, ◌<ℤ◌, int_lt, Decides, slice_cmp, is_lt, Decides-int_eq, Decides-and, Decides-or, Decides-not, ints, bytes_eq-Decides, Data, null, boolean, number, string, array, object, Items, no_items, item, Members, no_members, member, as_integer, Operator, equal, not_equal, less, less_or_equal, greater, greater_or_equal, Compared, nothing, billionths, amount_of, AreEqualAmounts, AreRisingAmounts, EqualData, EqualItems, EqualMembers, AreEqual, IsLess, Compares, same_data, same_items, same_members, is_same, comes_before, compare, int_eq, Num, document_number, Numbers, whole_numbers, all_numbers, AreEqualExact, AreRisingExact, EqualNumbers, EqualSides, RisingSides, exact_of, of_both, rising_sides, same_number, same_sides, always, never, Bool, IsTrue}
-use Rattle.std.specs.Cmp.{booleans_Decides}
-use Rattle.std.specs.Float.Ieee.{Float, eq, lt}
+use Rattle.serde_json_path_core.proofs.Words.{◌≡◌, ℤ, ◌&&◌, Option, Some, Ordering, Less, nat_cmp, refl, sym, arith, true≢false, chars, bytes_eq, ◌<ℤ◌, int_lt, Decides, slice_cmp, is_lt, Decides-int_eq, Decides-and, Decides-or, Decides-not, ints, bytes_eq-Decides, Data, null, boolean, number, string, array, object, Items, no_items, item, Members, no_members, member, as_integer, Operator, equal, not_equal, less, less_or_equal, greater, greater_or_equal, Compared, nothing, billionths, amount_of, AreEqualAmounts, AreRisingAmounts, EqualData, EqualItems, EqualMembers, AreEqual, IsLess, Compares, same_data, same_items, same_members, is_same, comes_before, compare, int_eq, Num, document_number, Numbers, whole_numbers, all_numbers, AreEqualExact, AreRisingExact, EqualNumbers, EqualSides, RisingSides, exact_of, of_both, rising_sides, same_number, same_sides, always, never, Bool, IsTrue, booleans_Decides, Float, eq, lt}
 use Rattle.serde_json_path_core.specs.Compared.{value}
 
 Decides-int_lt : (a b : ℤ) → Decides (int_lt a b) (a <ℤ b)

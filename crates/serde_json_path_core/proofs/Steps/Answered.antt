@@ -1,11 +1,5 @@
 -- A call of a set answers what is computed, and is refused for its pattern only where it goes by one.
-use Rattle.serde_json_path_core.proofs.Words.{◌≡◌, ◌⊎◌, ℕ, List, [], ◌∷◌, ◌++◌, length, map, inl, inr, Option, Some, None, option_map, Result, Ok, Err, IfOk, IfErr, refl, sym, ap, subst, ◌∙◌, append-nil, Data, Query, Call, call, Term, FunctionSet, Signature, kind_of_term, result_kind, term_view, params_of, IsTypedCall, AreTypedArguments, CallsByPattern, StandsIn, IsSound, arguments_of, calls_from, name_of, answer, arguments, Branch, arguments_in, branches_named, Part, kind_view}
-use Rattle.serde_json_path_functions.specs.Functions.{Gives}
-use Rattle.serde_json_path_functions.specs.Patterns.{MayRefuse}
-use Rattle.serde_json_path_functions.specs.declared.error.QueryError.{QueryError}
-use Rattle.serde_json_path_functions.specs.declared.error.QueryError.TheVariants.{Pattern}
-use Rattle.serde_json_path_functions.specs.declared.types.FunctionArgType.{FunctionArgType}
-use Rattle.serde_json_path_functions.specs.declared.types.FunctionValue.{FunctionValue}
+use Rattle.serde_json_path_core.proofs.Words.{◌≡◌, ◌⊎◌, ℕ, List, [], ◌∷◌, ◌++◌, length, map, inl, inr, Option, Some, None, option_map, Result, Ok, Err, IfOk, IfErr, refl, sym, ap, subst, ◌∙◌, append-nil, Data, Query, Call, call, Term, FunctionSet, Signature, kind_of_term, result_kind, term_view, params_of, IsTypedCall, AreTypedArguments, CallsByPattern, StandsIn, IsSound, arguments_of, calls_from, name_of, answer, arguments, Branch, arguments_in, branches_named, Part, kind_view, Gives, MayRefuse, QueryError, Pattern, FunctionArgType, FunctionValue}
 use Rattle.serde_json_path_core.proofs.Sound.{own-call}
 use Rattle.serde_json_path_core.proofs.Meaning.AnswerKinds.{answered-typed, taken-typed}
 use Rattle.serde_json_path_core.proofs.Meaning.Derived.{arguments_right}

@@ -1,6 +1,5 @@
 -- A document's height, computed.
-use Rattle.serde_json_path_core.proofs.Words.{◌≡◌, ℕ, ◌<◌, List, [], ◌∷◌, length, flat_map, Some, option_and_then, inl, inr, refl, sym, subst, ap, ◌∙◌, arith, cases_lt, Data, Step, child_at, at, Located, IsIn, children, descents, itself}
-use Rattle.serde_json_path_core.specs.Height.{IsHeight}
+use Rattle.serde_json_path_core.proofs.Words.{◌≡◌, ℕ, ◌<◌, List, [], ◌∷◌, length, flat_map, Some, option_and_then, inl, inr, refl, sym, subst, ap, ◌∙◌, arith, cases_lt, Data, Step, child_at, at, Located, IsIn, children, descents, itself, IsHeight}
 use Rattle.serde_json_path_core.proofs.Meaning.Descents.{below_child, descents_are, in_descents, longest, no_longer}
 
 some_longest : (n : Located) (ns : List Located) → (m : Located) × IsIn m (n ∷ ns) × (length m.location ≡ longest (n ∷ ns))

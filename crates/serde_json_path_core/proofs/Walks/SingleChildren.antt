@@ -1,8 +1,6 @@
 -- A query goes down by segments that select one child at most: the values that it selects stay.
-use Rattle.serde_json_path_core.proofs.Words.{IfSome, option_map_or, append-nil, drop_more, length-drop, take-append-drop, take_all, flat_map-map, map-map, Data, Step, Located, FunctionSet, Query, query, kind_of, segments_of, Segments, no_segments, segment, SegmentKind, child, descendant, Segment, Selector, stage_at, stage_of, Stage, branch_at, segment_in, segment_kind_in, segments_at, Node, Part, flat_map-same, map-flat_map, chosen, descents, itself, placed, reached, results, results_from, start_of, beneath, first_value, admitted, candidates, AreChildrenOf, EndsIn, IsIn, child_at, SelectOnly, candidate_values, single_view, values_from, dot_name, index, long_hand, name, no_selectors, selector, are_singular, is_single, ◌≡◌, ℕ, ◌+◌, ◌<◌, List, [], ◌∷◌, ◌++◌, ◌-◌, ◌≤◌, map, take, drop, flat_map, length, get_or, arith, subst, inl, Option, Some, None, option_to_list, slice_get, slice_index_or, true, refl, sym, ap, ◌∙◌}
-use Rattle.std.proofs.lemmas.List.Concat.{flat_map_single}
+use Rattle.serde_json_path_core.proofs.Words.{IfSome, option_map_or, append-nil, drop_more, length-drop, take-append-drop, take_all, flat_map-map, map-map, Data, Step, Located, FunctionSet, Query, query, kind_of, segments_of, Segments, no_segments, segment, SegmentKind, child, descendant, Segment, Selector, stage_at, stage_of, Stage, branch_at, segment_in, segment_kind_in, segments_at, Node, Part, flat_map-same, map-flat_map, chosen, descents, itself, placed, reached, results, results_from, start_of, beneath, first_value, admitted, candidates, AreChildrenOf, EndsIn, IsIn, child_at, SelectOnly, candidate_values, single_view, values_from, dot_name, index, long_hand, name, no_selectors, selector, are_singular, is_single, ◌≡◌, ℕ, ◌+◌, ◌<◌, List, [], ◌∷◌, ◌++◌, ◌-◌, ◌≤◌, map, take, drop, flat_map, length, get_or, arith, subst, inl, Option, Some, None, option_to_list, slice_get, slice_index_or, true, refl, sym, ap, ◌∙◌, flat_map_single, SingleSelector}
 use Rattle.serde_json_path_core.proofs.Walks.Frames.{candidates-of}
-use Rattle.serde_json_path_core.specs.declared.evaluation.single_children.SingleSelector.{SingleSelector}
 use Rattle.serde_json_path_core.specs.declared.evaluation.single_children.SingleSelector.TheVariants as single
 use Rattle.serde_json_path_core.proofs.Walks.Stacks.{chosen-list}
 

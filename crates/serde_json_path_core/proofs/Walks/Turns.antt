@@ -1,9 +1,8 @@
 -- Turns of a walk: what the last frame comes to.
-use Rattle.serde_json_path_core.proofs.Words.{◌≡◌, ℕ, ◌+◌, ◌<◌, List, [], ◌∷◌, ◌++◌, take, set, length, get_or, refl, ap, ◌∙◌, sym, arith, zero, suc, ◌≤◌, drop, slice_get, option_map, Option, Some, None, slice_index_or, inl, inr, ◌-◌, subst, length-append, frame_view, frames_view, Frame, last_passed, passed, get_or_append_left, take_all, length-set, map-append, drop_all, drop_more, none-some, slice_get_read, slice_get_past, Branch, Node, Part, branch_in, branches, branches_named, segment_in, segment_kind_in, segments_in, stage_of, stages, stage_at, stages_at, append-nil, take-append_seam, Data, Step, FunctionSet, Stage, admitted, entered, entering, is_leaf, rest_of, stack_path, work, IsAtStart, IsStack, ComesTo, IsAtNode, IsDone, Passes, cases_Bool, get_or_default, view, IsAtArrival, arrival_view, set-append_left, take_more, take_more_set, take-set, get_or_from_slice_get, slice_get_cases, slice_get_within, IsKept}
+use Rattle.serde_json_path_core.proofs.Words.{◌≡◌, ℕ, ◌+◌, ◌<◌, List, [], ◌∷◌, ◌++◌, take, set, length, get_or, refl, ap, ◌∙◌, sym, arith, zero, suc, ◌≤◌, drop, slice_get, option_map, Option, Some, None, slice_index_or, inl, inr, ◌-◌, subst, length-append, frame_view, frames_view, Frame, last_passed, passed, get_or_append_left, take_all, length-set, map-append, drop_all, drop_more, none-some, slice_get_read, slice_get_past, Branch, Node, Part, branch_in, branches, branches_named, segment_in, segment_kind_in, segments_in, stage_of, stages, stage_at, stages_at, append-nil, take-append_seam, Data, Step, FunctionSet, Stage, admitted, entered, entering, is_leaf, rest_of, stack_path, work, IsAtStart, IsStack, ComesTo, IsAtNode, IsDone, Passes, cases_Bool, get_or_default, view, IsAtArrival, arrival_view, set-append_left, take_more, take_more_set, take-set, get_or_from_slice_get, slice_get_cases, slice_get_within, IsKept, Arrival}
 use Rattle.serde_json_path_core.specs.declared.evaluation.frame.Frame as declared
 use Rattle.serde_json_path_core.proofs.Walks.Chains.{begun-of, chain-split, stack-held, stack-moved}
 use Rattle.serde_json_path_core.proofs.Walks.Stacks.{drops, gives, leaf-done, located, moves, passes, stack_path-last, work-fewer, work-held, work-moved}
-use Rattle.serde_json_path_core.specs.declared.evaluation.frame.Arrival.{Arrival}
 use Rattle.serde_json_path_core.proofs.Steps.Lookups.{found-none, found-some}
 
 -- ---- the last of so many frames

@@ -1,6 +1,5 @@
 -- When the calls of a builder let a query be finished.
-use Rattle.serde_json_path_syntax.proofs.Words.{◌≡◌, ◌≤◌, ℕ, List, Option, sym, subst, Signature, Query, root, kind_of, IsTyped, calls_of, names_of, IsIn, AreDeclared, MayFinish, deepest, names_in, signature_in}
-use Rattle.serde_json_path_syntax.specs.Depth.{depth}
+use Rattle.serde_json_path_syntax.proofs.Words.{◌≡◌, ◌≤◌, ℕ, List, Option, sym, subst, Signature, Query, root, kind_of, IsTyped, calls_of, names_of, IsIn, AreDeclared, MayFinish, deepest, names_in, signature_in, depth}
 use Rattle.serde_json_path_syntax.proofs.Lists.{map_in}
 use Rattle.serde_json_path_syntax.proofs.Names.Once.{declared_known}
 use Rattle.serde_json_path_syntax.proofs.Typing.TypedByNames.{typed_by_names}

@@ -1,8 +1,7 @@
 -- Names that a query calls, each once.
-use Rattle.serde_json_path_syntax.proofs.Words.{List, [], ◌∷◌, ◌++◌, inl, inr, refl, arith, ◌≡◌, ◌≢◌, ◌↔◌, ℕ, not, Bool, true, false, Option, Some, bytes_eq, sym, ap, subst, ◌∙◌, true≢false, Call, call, Query, OfEach, calls_from, calls_in_arguments, IsIn, IsInOrder, cases_Bool, nat_tests, none-some, same_Some, Signature, FunctionSet, Fits, AreCalled, AreDeclared, AreNamesOf, each_once, names_in, signature_in}
+use Rattle.serde_json_path_syntax.proofs.Words.{List, [], ◌∷◌, ◌++◌, inl, inr, refl, arith, ◌≡◌, ◌≢◌, ◌↔◌, ℕ, not, Bool, true, false, Option, Some, bytes_eq, sym, ap, subst, ◌∙◌, true≢false, Call, call, Query, OfEach, calls_from, calls_in_arguments, IsIn, IsInOrder, cases_Bool, nat_tests, none-some, same_Some, Signature, FunctionSet, Fits, AreCalled, AreDeclared, AreNamesOf, each_once, names_in, signature_in, bytes_eq-Decides}
 use Rattle.std.proofs.Common.{filter}
 use Rattle.serde_json_path_syntax.proofs.Lists.{in_append, in_keep, in_map, in_order-keep, map_in}
-use Rattle.std.proofs.lemmas.Slice.Eq.{bytes_eq-Decides}
 
 -- ---- what holds of each call that a part makes holds of each that a part of it makes
 

@@ -1,18 +1,10 @@
 -- The tree of a vector of nodes, as it grows and is copied, and that its nodes fit.
-use Rattle.serde_json_path_syntax.proofs.Words.{◌≡◌, ℕ, zero, suc, ◌+◌, ◌<◌, ◌≤◌, List, [], ◌∷◌, ◌++◌, ◌↔◌, length, drop, Bool, Result, Ok, Err, IfOk, OnOk, OnErr, inl, inr, get_or, refl, sym, ap, ◌∙◌, subst, arith, length-append, true, false, if◌then◌else◌, slice_get, slice_index_or, Option, Some, None, common_steps, flat_map-append, append-nil, drop_more, Signature, FunctionSet, Fits, IsIn, fits, AreFitting, Branch, Part, parts_bound, called_by, calls_among, no_branch, branch_in, branches_named, parts_in, branch_of, branches_from, branch_at, NamesBelow, IsGrown, query_at, query_in, cases_lt, AreCopies, IsCopy, branches}
-use Rattle.serde_json_path_syntax.specs.Parts.{result_by, result_of_call, result_through}
-use Rattle.serde_json_path_syntax.specs.declared.builder.SyntaxBuilder.{SyntaxBuilder}
-use Rattle.std.specs.declared.alloc.AllocError.{AllocError}
+use Rattle.serde_json_path_syntax.proofs.Words.{nat_tests, ◌≡◌, ℕ, zero, suc, ◌+◌, ◌<◌, ◌≤◌, List, [], ◌∷◌, ◌++◌, ◌↔◌, length, drop, Bool, Result, Ok, Err, IfOk, OnOk, OnErr, inl, inr, get_or, refl, sym, ap, ◌∙◌, subst, arith, length-append, true, false, if◌then◌else◌, slice_get, slice_index_or, Option, Some, None, common_steps, flat_map-append, append-nil, drop_more, Signature, FunctionSet, Fits, IsIn, fits, AreFitting, Branch, Part, parts_bound, called_by, calls_among, no_branch, branch_in, branches_named, parts_in, branch_of, branches_from, branch_at, NamesBelow, IsGrown, query_at, query_in, cases_lt, AreCopies, IsCopy, branches, result_by, result_of_call, result_through, SyntaxBuilder, AllocError, Node, LongHand, Relation, AllZip-get_or, AllZip-long}
 use Rattle.serde_json_path_syntax.proofs.Lists.{in_append}
 use Rattle.serde_json_path_syntax.proofs.Names.Once.{fits_append}
-use Rattle.serde_json_path_syntax.specs.declared.node.Node.{Node}
 use Rattle.serde_json_path_syntax.specs.declared.node.Node.TheVariants as node
-use Rattle.serde_json_path_syntax.specs.declared.node.Segment.TheVariants.{LongHand}
 use Rattle.serde_json_path_syntax.specs.declared.node.Selector.TheVariants as one
-use Rattle.serde_json_path_syntax.specs.declared.node.Basic.TheVariants.{Relation}
 use Rattle.serde_json_path_syntax.specs.declared.node.Operand.TheVariants as one_operand
-use Rattle.std.proofs.lemmas.List.Elements.{AllZip-get_or}
-use Rattle.std.proofs.lemmas.Slice.Zip.{AllZip-long}
 
 -- ---- the branches of a growing vector of nodes: what a push makes, and what it keeps
 
@@ -72,28 +64,20 @@ branch_from earlier (n ∷ nodes) (suc i) d grown h =
 -- the branch of a number, as its node makes it
 pub branch_at-is : (nodes : List Node) (i : ℕ) (d : Node) → IsGrown nodes → i < length nodes → branch_at nodes i ≡ branch_of (branches nodes) (get_or nodes i d)
 unfolding branches
-branch_at-is nodes i d grown h =
-    ap (branch_in (branches_from [] nodes)) (omega arith) ∙ branch_from [] nodes i d (λ k below. subst (λ j. NamesBelow j (get_or nodes k d)) (omega arith) (grown k d below)) h
+branch_at-is nodes i d grown h = grind (arith, nat_tests, common_steps, branch_from)
 
 -- ---- a push
 
 pushed_is : (old new : List Node) (n : Node) (p : ℕ) → new ≡ old ++ n ∷ [] → p ≡ length old → (p < length new) × (branch_at new p ≡ branch_of (branches old) n)
 unfolding branches
-pushed_is old new n p e f =
-    let long : length (branches_from [] old) ≡ 0 + length old = length-branches_from [] old in (
-      omega (arith, ap length e, length-append old (n ∷ [])),
-      ap (λ nodes. branch_in (branches_from [] nodes) p) e ∙ ap (λ made. branch_in made p) (branches_from-push [] old n) ∙ grind (arith, common_steps),
-    )
+pushed_is old new n p e f = grind (arith, nat_tests, common_steps, branches_from-push, length-branches_from)
 
 pub branch_at-push : (nodes : List Node) (n : Node) (i : ℕ) → i < length nodes → branch_at (nodes ++ n ∷ []) i ≡ branch_at nodes i
 unfolding branches
-branch_at-push nodes n i h =
-    let long : length (branches_from [] nodes) ≡ 0 + length nodes = length-branches_from [] nodes in
-    ap (λ made. branch_in made i) (branches_from-push [] nodes n) ∙ grind (arith, common_steps)
+branch_at-push nodes n i h = grind (arith, nat_tests, common_steps, branches_from-push, length-branches_from)
 
 pushed_keeps : (old new : List Node) (n : Node) (p : ℕ) (branch : Branch) → new ≡ old ++ n ∷ [] → (p < length old) × (branch_at old p ≡ branch) → (p < length new) × (branch_at new p ≡ branch)
-pushed_keeps old new n p branch e h =
-    (let below = h.0 in omega (arith, ap length e, length-append old (n ∷ [])), ap (λ nodes. branch_at nodes p) e ∙ branch_at-push old n p h.0 ∙ h.1)
+pushed_keeps old new n p branch e h = grind (arith, nat_tests, common_steps, branch_at-push)
 
 -- ---- a push that may be refused
 
@@ -131,11 +115,7 @@ get_last (m ∷ nodes) n = get_last nodes n
 -- an operand has that of the call that it names
 pub called_result : (old new : SyntaxBuilder) (call : Part) (p : ℕ) → new.arena.nodes.items ≡ old.arena.nodes.items ++ node.Operand (one_operand.Call call) ∷ [] → p ≡ length old.arena.nodes.items → call.number < length old.arena.nodes.items
     → result_through new (slice_get new.arena.nodes.items p) ≡ result_of_call old call
-called_result old new call p e f below =
-    let nodes = old.arena.nodes.items in
-    let named = node.Operand (one_operand.Call call) in
-    ap (λ all. result_through new (slice_get all p)) e ∙ ap (λ i. result_through new (slice_get (nodes ++ named ∷ []) i)) f ∙ ap (result_through new) (get_last nodes named)
-    ∙ ap (λ all. result_by (slice_get all call.number)) e ∙ ap result_by (get_earlier nodes named call.number below)
+called_result old new call p e f below = grind (arith, nat_tests, common_steps, named, get_earlier, get_last)
 
 -- ---- the calls of the nodes
 
@@ -156,19 +136,7 @@ fits_from F nodes i d h =
 
 -- one more node
 pub fitting_push : (nodes : List Node) (n : Node) → IsGrown nodes → AreFitting nodes → NamesBelow (length nodes) n → fits (branches nodes) n ≡ true → AreFitting (nodes ++ n ∷ [])
-fitting_push nodes n grown fitting below fit i d h =
-    let stays : (m : Node) → NamesBelow (length nodes) m → fits (branches (nodes ++ n ∷ [])) m ≡ fits (branches nodes) m =
-    same_fits (branches (nodes ++ n ∷ [])) (branches nodes) (length nodes) (branch_at-push nodes n) in
-    elim (cases_lt i (length nodes)) [
-      | inl lt ↦
-          let here : slice_index_or (nodes ++ n ∷ []) i d ≡ slice_index_or nodes i d = grind (arith, common_steps, lt) in
-          let names = grown i d lt in
-          ap (fits (branches (nodes ++ n ∷ []))) here ∙ stays (slice_index_or nodes i d) (omega (arith, names, lt)) ∙ fitting i d lt
-      | inr ge ↦
-          let last : i ≡ length nodes = omega (arith, ge, h, length-append nodes (n ∷ [])) in
-          let here : slice_index_or (nodes ++ n ∷ []) i d ≡ n = grind (arith, common_steps, last) in
-          ap (fits (branches (nodes ++ n ∷ []))) here ∙ stays n below ∙ fit
-    ]
+fitting_push nodes n grown fitting below fit i d h = grind (arith, nat_tests, common_steps, cases_lt, same_fits, branch_at-push)
 
 -- one more node, or none
 pub fitting_pushed : (b : Bool) (old new : List Node) (n : Node) → new ≡ (if b then old ++ n ∷ [] else old) → IsGrown old → AreFitting old → NamesBelow (length old) n → fits (branches old) n ≡ true → AreFitting new
@@ -196,9 +164,7 @@ copied_calls _ _ h = absurd h
 -- each names earlier ones, and such as its places want
 module _ (olds copies : List Node) (h : AreCopies olds copies) where
   copy_at : (i : ℕ) (d : Node) → i < length copies → (i < length olds) × IsCopy (slice_index_or olds i d) (slice_index_or copies i d)
-  copy_at i d below =
-      let within : i < length olds = subst (λ n. i < n) (AllZip-long IsCopy olds copies h) below in
-      (within, AllZip-get_or IsCopy olds copies i d d h within)
+  copy_at i d below = grind (arith, nat_tests, common_steps, AllZip-get_or, AllZip-long)
 
   pub copied_grown : IsGrown olds → IsGrown copies
   copied_grown grown i d below = let (within, copy) = copy_at i d below in rw copy.parts (grown i d within)

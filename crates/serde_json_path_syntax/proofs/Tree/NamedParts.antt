@@ -1,8 +1,6 @@
 -- Parts that nodes name: their bounds, their kinds, and what stands for them.
-use Rattle.serde_json_path_syntax.proofs.Words.{◌≡◌, ℕ, ◌<◌, ◌≤◌, true, false, nat_lt, arith, rules, zero, suc, List, [], ◌∷◌, length, get_or, ap, ◌-◌, take, drop, Bool, sym, subst, slice_get, option_map, refl, ◌∙◌, parts_bound, Part, and_parts, Decides-and, Decides, take_all, argument_branch, argument_in, branch_in, branches_named, selector_in, selectors_in, segments_in, ors_in, ands_in, arguments_in, are_singular, each_is, is_and, is_argument, is_basic, is_comparable, is_operand, is_query, is_segment, is_selector, is_singular_segment, is_tested, Branch, a_query, an_operand, query_in, long_hand, Selectors, selector, Selector, name, wildcard, index, slice, filter, IsSingularSegment, slice_get_read, slice_get_past, ArePartsFor, AreSelectorsOf, AreOrPartsOf, AreAndPartsOf, KeepsTrees, segment_branches, selector_branches, or_branches, and_branches, argument_branches, branches}
+use Rattle.serde_json_path_syntax.proofs.Words.{◌≡◌, ℕ, ◌<◌, ◌≤◌, true, false, nat_lt, arith, rules, zero, suc, List, [], ◌∷◌, length, get_or, ap, ◌-◌, take, drop, Bool, sym, subst, slice_get, option_map, refl, ◌∙◌, parts_bound, Part, and_parts, Decides-and, Decides, take_all, argument_branch, argument_in, branch_in, branches_named, selector_in, selectors_in, segments_in, ors_in, ands_in, arguments_in, are_singular, each_is, is_and, is_argument, is_basic, is_comparable, is_operand, is_query, is_segment, is_selector, is_singular_segment, is_tested, Branch, a_query, an_operand, query_in, long_hand, Selectors, selector, Selector, name, wildcard, index, slice, filter, IsSingularSegment, slice_get_read, slice_get_past, ArePartsFor, AreSelectorsOf, AreOrPartsOf, AreAndPartsOf, KeepsTrees, segment_branches, selector_branches, or_branches, and_branches, argument_branches, branches, SyntaxBuilder, selectors_list}
 use Rattle.serde_json_path_syntax.specs.Tree as tree
-use Rattle.serde_json_path_syntax.specs.declared.builder.SyntaxBuilder.{SyntaxBuilder}
-use Rattle.serde_json_path_syntax.specs.Stages.{selectors_list}
 use Rattle.serde_json_path_syntax.proofs.Lists.{always, never}
 
 -- ---- what a comparison of numbers tells

@@ -1,12 +1,6 @@
-use Rattle.serde_json_path_core.proofs.Words.{◌≡◌, List, [], ◌∷◌, Option, Some, None, pos, true, refl, sym, subst, ◌∙◌, String, number_view, view_step, map-Value, out-Value, fold_out-Value, Num, float, document_number, literal_number, all_numbers, Data, null, boolean, number, string, array, object, Items, no_items, item, Members, no_members, member, Value, view, items_view, members_view, Compared, nothing, billionths, AreEqual, EqualData, EqualItems, EqualMembers}
+use Rattle.serde_json_path_core.proofs.Words.{◌≡◌, List, [], ◌∷◌, Option, Some, None, pos, true, refl, sym, subst, ◌∙◌, String, number_view, view_step, map-Value, out-Value, fold_out-Value, Num, float, document_number, literal_number, all_numbers, Data, null, boolean, number, string, array, object, Items, no_items, item, Members, no_members, member, Value, view, items_view, members_view, Compared, nothing, billionths, AreEqual, EqualData, EqualItems, EqualMembers, is_valid, num_of, N, PosInt, NegInt, Value-F, equality, all_finite, IsFinite}
 use Rattle.std.specs.declared.alloc.Global.{Global}
-use Rattle.serde_json.specs.Number.{is_valid, num_of}
-use Rattle.serde_json.specs.declared.number.N.{N}
-use Rattle.serde_json.specs.declared.number.N.TheVariants.{PosInt, NegInt, Float as Double}
-use Rattle.serde_json.specs.declared.value.Value.TheOpen.{Value-F}
-use Rattle.serde_json_path_numbers.proofs.Floats.{equality}
-use Rattle.serde_json_path_numbers.proofs.Finite.{all_finite}
-use Rattle.serde_json_path_numbers.specs.Laws.{IsFinite}
+use Rattle.serde_json.specs.declared.number.N.TheVariants.{Float as Double}
 use Rattle.serde_json_path_core.specs.Compared.{value}
 use Rattle.serde_json_path_core.proofs.laws.law_equality_is_an_equivalence.Goals as goal
 

@@ -1,5 +1,4 @@
-use Rattle.serde_json_path_nodes.proofs.Words.{◌≡◌, ◌++◌, string_bytes, flat_map, in_pointer}
-use Rattle.std.specs.Str.Iter.{chars_rest}
+use Rattle.serde_json_path_nodes.proofs.Words.{◌≡◌, ◌++◌, string_bytes, flat_map, in_pointer, chars_rest}
 use Rattle.serde_json_path_nodes.proofs.normalized_path.push_in_pointer.Given as goal
 
 -- what is written and what is left are the whole name

@@ -1,5 +1,4 @@
-use Rattle.serde_json_path_syntax.proofs.Words.{◌+◌, ◌*◌, basic_parts, operand_parts, segment_parts, selector_parts, parts_bound, nodes_in, branches}
-use Rattle.std.specs.Slice.Iter.{iter_rest}
+use Rattle.serde_json_path_syntax.proofs.Words.{◌+◌, ◌*◌, basic_parts, operand_parts, segment_parts, selector_parts, parts_bound, nodes_in, branches, iter_rest}
 use Rattle.serde_json_path_syntax.proofs.Equality.{AreLeft}
 use Rattle.serde_json_path_syntax.proofs.equal.+comparing.Given as goal
 

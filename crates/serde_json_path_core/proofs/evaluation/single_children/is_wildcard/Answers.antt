@@ -1,5 +1,4 @@
-use Rattle.serde_json_path_core.proofs.Words.{◌≡◌, ◌∷◌, [], slice_index_or, subst, refl, nodes_in, selector_view, stage_at, child, wildcard, Part}
-use Rattle.serde_json_path_syntax.specs.declared.selector_ref.SelectorRef.{SelectorRef}
+use Rattle.serde_json_path_core.proofs.Words.{◌≡◌, ◌∷◌, [], slice_index_or, subst, refl, nodes_in, selector_view, stage_at, child, wildcard, Part, SelectorRef}
 use Rattle.serde_json_path_core.proofs.Walks.SingleChildren.{select-only}
 use Rattle.serde_json_path_core.proofs.evaluation.single_children.is_wildcard.Goals as goal
 

@@ -1,5 +1,4 @@
-use Rattle.serde_json_path_core.proofs.Words.{ap, ◌∙◌, arith, subst, sym, view, branches, StandsIn, start_of, nodes_of, top_of, query_of, set_of}
-use Rattle.serde_json_path_syntax.specs.Flat.{query_kind_view}
+use Rattle.serde_json_path_core.proofs.Words.{ap, ◌∙◌, arith, subst, sym, view, branches, StandsIn, start_of, nodes_of, top_of, query_of, set_of, query_kind_view}
 use Rattle.serde_json_path_core.proofs.Sound.{bound-ends, sound-ends, sound-segments}
 use Rattle.serde_json_path_core.proofs.Walks.Chains.{start_stands}
 use Rattle.serde_json_path_core.proofs.Walks.SingleChildren.{values-query}

@@ -1,5 +1,4 @@
-use Rattle.serde_json_path_nodes.proofs.Words.{◌≡◌, List, length, map, vec_len, rules, ap, subst, ◌∙◌, dedup, IsNonDecreasingBy, IsPermutation, IsSortedBy, eq_by_cmp, is_lt, on_total, with_items_is, IsNonDecreasingBy-from_sort_by_key, ranks_by, first_places, node_cmp, same_steps, located, LocatedNode}
-use Rattle.std.proofs.lemmas.Fn.{always_returns_same, dedup_same}
+use Rattle.serde_json_path_nodes.proofs.Words.{◌≡◌, List, length, map, vec_len, rules, ap, subst, ◌∙◌, dedup, IsNonDecreasingBy, IsPermutation, IsSortedBy, eq_by_cmp, is_lt, on_total, with_items_is, IsNonDecreasingBy-from_sort_by_key, ranks_by, first_places, node_cmp, same_steps, located, LocatedNode, always_returns_same, dedup_same}
 use Rattle.serde_json_path_nodes.proofs.FirstPlaces.{first_places_are_first, by_location, number_of}
 use Rattle.serde_json_path_nodes.proofs.KeptBySorting.{kept_by_sorting, order_then_number-total}
 use Rattle.serde_json_path_nodes.proofs.Orders.{location_cmp-total, location_cmp-ties}

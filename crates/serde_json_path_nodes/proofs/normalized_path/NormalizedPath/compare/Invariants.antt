@@ -1,5 +1,4 @@
-use Rattle.serde_json_path_nodes.proofs.Words.{◌≡◌, length, map, vec_len, nat_cmp, location_cmp, step_view}
-use Rattle.std.specs.Slice.Iter.{iter_rest}
+use Rattle.serde_json_path_nodes.proofs.Words.{◌≡◌, length, map, vec_len, nat_cmp, location_cmp, step_view, iter_rest}
 use Rattle.serde_json_path_nodes.proofs.normalized_path.NormalizedPath.compare.Given as goal
 
 -- the steps that are left decide as the whole locations do, and so do their numbers

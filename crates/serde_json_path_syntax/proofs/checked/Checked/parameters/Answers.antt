@@ -1,5 +1,4 @@
-use Rattle.serde_json_path_syntax.proofs.Words.{◌∙◌, inl, refl, string_bytes, sym, ap, subst, same_Some, Signature, name_of, IsIn, call_in, called_by, calls_among, branch_of, nodes_in, branches}
-use Rattle.serde_json_path_functions.specs.Terms.{signature_view}
+use Rattle.serde_json_path_syntax.proofs.Words.{◌∙◌, inl, refl, string_bytes, sym, ap, subst, same_Some, Signature, name_of, IsIn, call_in, called_by, calls_among, branch_of, nodes_in, branches, signature_view}
 use Rattle.serde_json_path_syntax.proofs.Names.Once.{fits_each, once_fits}
 use Rattle.serde_json_path_syntax.proofs.checked.Checked.parameters.Goals as goal
 

@@ -1,7 +1,5 @@
-use Rattle.serde_json_path_syntax.proofs.Words.{◌≡◌, Some, ap, same_Some}
-use Rattle.std.specs.Float.Ieee.{Float}
-use Rattle.serde_json.specs.Data.{Data, number, float}
-use Rattle.serde_json_path_syntax.specs.WellFormed.{double_in}
+use Rattle.serde_json_path_syntax.proofs.Words.{◌≡◌, Some, ap, same_Some, Float, Data, float, double_in}
+use Rattle.serde_json.specs.Data.{number}
 use Rattle.serde_json_path_syntax.proofs.literal.HeldDecimal.value.Goals as goal
 
 double_is : (v : Data) (x : Float) → double_in v ≡ Some x → v ≡ number (float x)

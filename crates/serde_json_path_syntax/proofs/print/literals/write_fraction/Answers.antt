@@ -1,4 +1,4 @@
-use Rattle.serde_json_path_syntax.proofs.Words.{◌∙◌, ◌++◌, ◌/◌, sym, ap, rules, decimal, has_written_append, has_written_of_eq, append-nil}
+use Rattle.serde_json_path_syntax.proofs.Words.{arith, nat_tests, common_steps, ◌∙◌, ◌++◌, ◌/◌, rules, decimal, has_written_append, has_written_of_eq}
 use Rattle.serde_json_path_syntax.proofs.Printing.{fraction_ended, fraction_more}
 use Rattle.serde_json_path_syntax.proofs.print.literals.write_fraction.Goals as goal
 
@@ -9,6 +9,4 @@ loop-preserved g c = λ plain.
     (done ++ decimal (c.loop.rest / 100000000), has_written_append _ _ _ _ _ _ wrote one, fraction_more done c.loop.counter c.loop.rest c.loop-test.true c.if-rest-eq0.false ∙ whole)
 
 pub returns-then-rest-eq0 : goal.returns-then-rest-eq0
-returns-then-rest-eq0 g c = λ plain ok.
-    let (done, wrote, whole) = c.loop.invariant plain in
-    has_written_of_eq _ _ _ _ _ (sym (append-nil done) ∙ ap (λ t. done ++ t) (sym (fraction_ended _ _ c.if-rest-eq0.true)) ∙ whole) wrote
+returns-then-rest-eq0 g c = grind (arith, nat_tests, common_steps, has_written_of_eq, fraction_ended)
