@@ -4,7 +4,7 @@ pub use Rattle.serde_json_path_parser.specs.Filters.{Deeper, and_list, begins_ca
 pub use Rattle.serde_json_path_parser.specs.Inside.Giving.{Fails, Grows, GrowsFrom, IsArgumentOf, IsAsRead, IsNear, IsQueryAsRead, IsRefused, IsWithin, Makes, MakesArgument, MakesArguments, MakesCall, MakesFrom, MakesOperand, MakesSegments, MakesSelectors, MakesSo, Moves, MovesTo, StopsNear, at_level, deeper, error_of, left, literal_word, read_filter, seen, segment_branch, signatures, observed}
 pub use Rattle.serde_json_path_parser.specs.Inside.Looking.{Gathered, IsAhead, LooksOn, Stretched, begins_operator, is_ascii, is_ascii_name_char, is_ascii_plain, limit_of, up_to}
 pub use Rattle.serde_json_path_parser.specs.Lexical.{AllPass, AreDigits, ArePieces, AreSignedDigits, IsAmount, IsBlank, IsDecimal, IsExponent, IsFraction, IsFunctionName, IsHex4, IsInt, IsName, IsNumber, IsNumberLiteral, IsNumeral, IsNumeralOf, IsPiece, IsPlaces, IsQuote, IsString, Joined, are_at, begins, begins_both, escaped_by, fraction_of, hex_escape, hexadecimal_of, is_at, is_blank, is_digit, is_function_char, is_name_char, is_name_first, is_plain, is_small_letter, letter_escape, opens, pair_escape, pair_of, plain, quote_escape, value_from, ◌∈◌}
-pub use Rattle.serde_json_path_parser.specs.Numbers.{after_first, as_literal, capped, is_exponent, is_sign, literal_of, read_amount, read_digits_after_point, read_exponent, read_fraction, read_number, read_numeral, read_places, read_signed, read_signed_digits, read_some_digits, read_whole, read_whole_text}
+pub use Rattle.serde_json_path_parser.specs.Numbers.{after_first, as_fraction, as_literal, capped, is_exponent, is_sign, literal_of, read_amount, read_exponent, read_fraction, read_number, read_numeral, read_places, read_signed, read_signed_digits, read_some_digits, read_whole, read_whole_text}
 pub use Rattle.serde_json_path_parser.specs.Operands.{is_number_argument, is_result, is_test, is_value_literal, is_whole, suits, takes_result}
 pub use Rattle.serde_json_path_parser.specs.Parsed.{Parsed, byte_count, front, past, past_blanks, refusal, refusal_at, with_front, ◌>>=◌}
 pub use Rattle.serde_json_path_parser.specs.Parsing.{after_dot, begins_int, is_first_digit, negative, of_kind, opens_after_root, opens_next, read_after_dot, read_bound, read_bracket, read_descendant, read_digits, read_dotted, read_index_or_slice, read_int, read_name, read_next_segment, read_next_selector, read_quoted, read_segment, read_segments, read_selector, read_selectors, read_slice, read_step, segment_list, selector_list}

@@ -41,7 +41,7 @@ fn parse_whole<S: PathSource>(reader: &mut Reader<'_, S>, place: usize) -> Resul
 }
 
 /// Parses a fraction, whose digits are read whole. Returns its billionths, or 0 where there is none.
-#[tactic(auto, unfolding(crate::specs::Numbers::read_fraction))]
+#[tactic(auto, unfolding(crate::specs::Numbers::read_fraction, crate::specs::Numbers::read_places))]
 fn parse_fraction<S: PathSource>(reader: &mut Reader<'_, S>, place: usize) -> Result<u128, Failure>
     ensures moves { MovesTo result reader.old reader.new }
     ensures gives { IsAsRead (λ n. n) result reader.new (read_fraction place (left reader.old)) }

@@ -64,6 +64,7 @@ fn parse_whole<S: PathSource>(
 }
 
 /// Parses a point and digits, if a point is next, and appends them to a text.
+#[tactic(auto, using(crate::proofs::Grammar::Numerals::first_pushed), unfolding(crate::specs::Numbers::read_places))]
 fn parse_places<S: PathSource>(
     reader: &mut Reader<'_, S>,
     text: &mut String,
@@ -81,7 +82,7 @@ fn parse_places<S: PathSource>(
 }
 
 /// Parses digits, perhaps with a sign before them, and appends them to a text.
-#[tactic(auto, unfolding(crate::specs::Numbers::read_signed_digits))]
+#[tactic(auto, using(crate::proofs::Grammar::Numerals::first_pushed), unfolding(crate::specs::Numbers::read_signed_digits))]
 fn parse_signed_digits<S: PathSource>(
     reader: &mut Reader<'_, S>,
     text: &mut String,
@@ -99,6 +100,7 @@ fn parse_signed_digits<S: PathSource>(
 }
 
 /// Parses an exponent, if one begins here, and appends it to a text.
+#[tactic(auto, using(crate::proofs::Grammar::Numerals::first_pushed), unfolding(crate::specs::Numbers::read_exponent))]
 fn parse_exponent<S: PathSource>(
     reader: &mut Reader<'_, S>,
     text: &mut String,
