@@ -1,16 +1,7 @@
 -- Numerals of any length, and number literals by either rule: what is read is one, each is read, and how one begins.
-use Rattle.serde_json_path_parser.proofs.Words.{past, refusal_at, FractionTooLong, read_fraction, read_amount, AllPass, fraction_of, Ghosts, Reader, Failure, Refused, IsAsRead, left, option_map, refusal, Amount, IsAmount, IsFraction, IsLiteral, IsNumber, IsNumberLiteral, IsNumeralOf, NumberOutOfRange, Numbers, whole_numbers, all_numbers, as_literal, begins_int, billionths, held_as, held_or, literal_of, number, read_signed, read_number, scan, sign_text, ints, nat_le, cases_Bool, none-some, subst, Literal, append-nil, drop, length, Option, None, Some, ℤ, pos, if◌then◌else◌, ◌+◌, ◌-◌, ◌*◌, ◌^◌, ◌≤◌, eqb-true, ◌<◌, Err, encode_utf8, encode_ascii, ◌==◌, ◌≡◌, ℕ, Bool, true, false, List, [], ◌∷◌, ◌++◌, Ok, refl, sym, ap, ◌∙◌, inl, inr, arith, append_assoc, begins, is_digit, is_exponent, is_sign, is_at, byte_count, front, Parsed, with_front, after_first, AreDigits, AreSignedDigits, IsExponent, IsNumeral, IsPlaces, read_some_digits, read_places, read_signed_digits, read_exponent, read_numeral, ExponentOrEmptyFraction, LongHand}
+use Rattle.serde_json_path_parser.proofs.Words.{past, refusal_at, FractionTooLong, read_fraction, read_amount, AllPass, fraction_of, Ghosts, Reader, Failure, Refused, IsAsRead, left, option_map, refusal, Amount, IsAmount, IsFraction, IsLiteral, IsNumber, IsNumberLiteral, IsNumeralOf, NumberOutOfRange, Numbers, whole_numbers, all_numbers, as_literal, begins_int, billionths, held_as, held_or, literal_of, number, read_signed, read_number, scan, sign_text, ints, nat_le, cases_Bool, none-some, subst, Literal, append-nil, drop, length, Option, None, Some, ℤ, pos, if◌then◌else◌, ◌+◌, ◌-◌, ◌*◌, ◌^◌, ◌≤◌, eqb-true, ◌<◌, Err, encode_utf8, encode_ascii, ◌==◌, ◌≡◌, ℕ, Bool, true, false, List, [], ◌∷◌, ◌++◌, Ok, refl, sym, ap, ◌∙◌, inl, inr, arith, append_assoc, begins, is_digit, is_exponent, is_sign, is_at, byte_count, front, Parsed, with_front, after_first, AreDigits, AreSignedDigits, IsExponent, IsNumeral, IsPlaces, read_some_digits, read_places, read_signed_digits, read_exponent, read_numeral, ExponentOrEmptyFraction, LongHand, plain_held, most_billionths, held_decimal, neg_ℤ, digits_value, leb-true, ok_or, literal_view}
 use Rattle.serde_json_path_parser.proofs.Reading.{whole, front_all, past_run, begins_where, differs, after_one, Plain, OutcomeIn, Outcome, gives, choose, guarded, refused, onward, past_in, made, after_in, weaker}
 use Rattle.serde_json_path_parser.proofs.Grammar.Numbers.{whole_outcome, whole_again, digits_are, digit_begins, AsText, goes_on, no_part, front_are_digits, digits_begin, whole_text_outcome, whole_text_again, decimal_first}
-use Rattle.serde_json_path_numbers.proofs.ReadBack.{plain_held}
-use Rattle.serde_json_path_numbers.specs.Decimals.{most_billionths}
-use Rattle.serde_json_path_numbers.specs.Numerals.{}
-use Rattle.serde_json_path_numbers.specs.Numerals as amount
-use Rattle.std.specs.Prelude.{neg_ℤ}
-use Rattle.std.specs.Str.Parse.{digits_value}
-use Rattle.std.proofs.Common.{leb-true}
-use Rattle.std.specs.Option.{ok_or}
-use Rattle.serde_json_path_parser.specs.Inside.Words.{literal_view}
 use Rattle.serde_json_path_syntax.specs.declared.literal.Literal as declared
 
 -- ---- what a reading gives, of a numeral that begins at start
@@ -170,7 +161,7 @@ as_numeral whole_numbers t (billionths b) h =
     let (negative, digits, n, is, whole, few, worth) = number_parts t b h in
     let held = amount_held negative digits n is few in
     (negative, digits, held.0, whole, held.1 ∙ ap (λ (i : ℤ). Some (billionths i)) (sym worth))
-as_numeral whole_numbers t (amount.decimal d) h = absurd h
+as_numeral whole_numbers t (held_decimal d) h = absurd h
 as_numeral all_numbers t a h = h
 
 -- ---- number literals, by either rule: what a reading gives
@@ -190,7 +181,7 @@ held_number negative t n a is e = elim (cases_Bool (nat_le n (most_billionths ne
 
 literal_is : (rule : Numbers) (t : List ℕ) (a : Amount) → IsNumberLiteral rule t a → IsLiteral rule (literal_of a) t
 literal_is rule t (billionths b) h = h
-literal_is rule t (amount.decimal d) h = h
+literal_is rule t (held_decimal d) h = h
 
 module _ (rule : Numbers) (negative : Bool) (start cs : List ℕ) where
   -- a literal after its sign
@@ -221,7 +212,7 @@ number_again whole_numbers t (billionths b) rest h e =
     let (negative, digits, n, is, whole, few, worth) = number_parts t b h in
     let judged : nat_le n (most_billionths negative) ≡ true = grind (arith, few) in
     rw whole (at_sign whole_numbers negative digits rest (amount_held negative digits n is few).0 ∙ rw (amount_again _ digits n rest is e, judged) (ap (λ (i : ℤ). Ok (number i, rest)) (sym worth)))
-number_again whole_numbers t (amount.decimal d) rest h e = absurd h
+number_again whole_numbers t (held_decimal d) rest h e = absurd h
 number_again all_numbers t a rest (negative, numeral, is, same, held) e =
     rw same (at_sign all_numbers negative numeral rest is ∙ rw (numeral_again _ numeral rest is e, held) refl)
 

@@ -1,9 +1,6 @@
 //! Number literals.
 
-ghost use Rattle.std.specs.Prelude.{◌≡◌, ◌≤◌, ◌<◌, ℕ, List, length, IfOk, Some, None};
-ghost use Rattle.std.specs.Option.{option_map};
-ghost use Rattle.serde_json_path_functions.specs.Terms.{numbers_view};
-ghost use Rattle.serde_json_path_parser.specs.Inside.Words.{held_as, held_or, scan, literal_of, literal_view, IsAsRead, MovesTo, left, read_whole, read_fraction, read_amount, read_number, capped};
+ghost use Rattle.serde_json_path_parser.specs.Inside.Words.{◌≡◌, ◌≤◌, ◌<◌, ℕ, List, length, IfOk, Some, None, option_map, numbers_view, held_as, held_or, scan, literal_of, literal_view, IsAsRead, MovesTo, left, read_whole, read_fraction, read_amount, read_number, capped};
 
 use crate::error::{Failure, ParseErrorKind as Kind};
 use crate::parser::primitive::decimal::parse_decimal;
