@@ -1,14 +1,11 @@
 -- Steps of the code: rows of items that a loop reads, how the builder grows by them, arguments, and what stands in filters.
-use Rattle.serde_json_path_parser.proofs.Words.{◌||◌, begins_test, read_number, read_operand, with_front, Numbers, ◌↔◌, append-nil, map-append, name_of, names_of, calls_in_segments, calls_from, calls_in_arguments, KeepsParts, KeepsTrees, calls_in, AreDeclared, MayFinish, deepest, names_in, IsTyped, depth, Part, query, root, Segments, Call, call, Arguments, SyntaxBuilder, Signature, Grows, Parsed, Failure, Reader, Ghosts, SegmentKind, Segment, ArePartsOf, segment_list, length-append, Branch, IsPart, ArePartsFor, parts_for_kept, Fails, GrowsFrom, ◌>>=◌, many, Selector, LogicalOr, LogicalAnd, Basic, Deeper, a_selector, an_and, a_basic, segment_branch, segment_branches, selector_branches, or_branches, and_branches, calls_in_selectors, calls_in_or, calls_in_and, selector_list, or_list, and_list, past_blanks, is_at, are_at, begins, opens, opens_next, level, read_segment, read_selector, read_and, read_basic, no_arguments, argument, Argument, Kind, ExpectedClosingParenthesis, calls_in_argument, IsAsRead, MakesArguments, refusal, ends_argument, read_argument, read_some_arguments, nat_tests, Literal, ExpectedExpression, Operand, literal, word, past_word, read_literal_word, literal_word, of_value, kind_view, is_result, ◌==◌, filter, byte_count, read_or, read_call, IsTrue, is_singular, Query, IsSingular, result_kind, WrongReturnType, called, cond, ◌≡◌, ◌≤◌, ℕ, List, [], ◌∷◌, ◌++◌, inl, inr, Some, Option, Result, Ok, Err, refl, sym, ap, subst, ◌∙◌, append_assoc, ◌<◌, Bool, true, false, length, arith, drop, None, zero, suc, ◌-◌, Memory, Refused, Context, read_filter, LongHand, MakesSo, calls_in_branch, same_from_decides, IsComparable, argument_branch, read_comparable, queried, refusal_at, NonSingularQuery, read_negated_test, read_test}
+use Rattle.serde_json_path_parser.proofs.Words.{◌||◌, begins_test, read_number, read_operand, with_front, Numbers, ◌↔◌, append-nil, map-append, name_of, names_of, calls_in_segments, calls_from, calls_in_arguments, KeepsParts, KeepsTrees, calls_in, AreDeclared, MayFinish, deepest, names_in, IsTyped, depth, Part, query, root, Segments, Call, call, Arguments, SyntaxBuilder, Signature, Grows, Parsed, Failure, Reader, Ghosts, SegmentKind, Segment, ArePartsOf, segment_list, length-append, Branch, IsPart, ArePartsFor, parts_for_kept, Fails, GrowsFrom, ◌>>=◌, many, Selector, LogicalOr, LogicalAnd, Basic, Deeper, a_selector, an_and, a_basic, segment_branch, segment_branches, selector_branches, or_branches, and_branches, calls_in_selectors, calls_in_or, calls_in_and, selector_list, or_list, and_list, past_blanks, is_at, are_at, begins, opens, opens_next, level, read_segment, read_selector, read_and, read_basic, no_arguments, argument, Argument, Kind, ExpectedClosingParenthesis, calls_in_argument, IsAsRead, MakesArguments, refusal, ends_argument, read_argument, read_some_arguments, nat_tests, Literal, ExpectedExpression, Operand, literal, word, past_word, read_literal_word, literal_word, of_value, kind_view, is_result, ◌==◌, filter, byte_count, read_or, read_call, IsTrue, is_singular, Query, IsSingular, result_kind, WrongReturnType, called, cond, ◌≡◌, ◌≤◌, ℕ, List, [], ◌∷◌, ◌++◌, inl, inr, Some, Option, Result, Ok, Err, refl, sym, ap, subst, ◌∙◌, append_assoc, ◌<◌, Bool, true, false, length, arith, drop, None, zero, suc, ◌-◌, Memory, Refused, Context, read_filter, LongHand, MakesSo, calls_in_branch, same_from_decides, IsComparable, argument_branch, read_comparable, queried, refusal_at, NonSingularQuery, read_negated_test, read_test, IsArgumentOf, IsSeenAs, result_of_operand, IsTested, null, operand, logical_argument, test}
 use Rattle.serde_json_path_syntax.proofs.Names.Finishing.{may_finish}
 use Rattle.serde_json_path_syntax.proofs.Lists.{in_append}
 use Rattle.serde_json_path_parser.proofs.Grammar.Calls.{level_laws}
 use Rattle.serde_json_path_parser.proofs.Grammar.LogicalExpressions.{next_basic_consumes, next_and_consumes}
 use Rattle.serde_json_path_parser.proofs.Grammar.Segments as segments
 use Rattle.serde_json_path_parser.proofs.Reading.{first_fails, begins_differs, Consumes, many_end, many_err, many_more, ok_is}
-use Rattle.serde_json_path_parser.specs.Inside.Giving.{IsArgumentOf}
-use Rattle.serde_json_path_syntax.specs.Parts.{IsSeenAs, result_of_operand}
-use Rattle.serde_json_path_syntax.specs.Tree.{IsTested, null, operand, logical_argument, test}
 use Rattle.serde_json_path_syntax.specs.declared.argument_ref.ArgumentRef.{ArgumentRef}
 use Rattle.serde_json_path_syntax.specs.declared.argument_ref.ArgumentRef.TheVariants as forms
 use denote.Enum.Bare.{sameb}

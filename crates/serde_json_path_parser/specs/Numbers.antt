@@ -25,36 +25,6 @@ read_whole_text start cs =
 abbrev pub read_whole : ℕ → List ℕ → Parsed ℕ
 read_whole start cs = read_whole_text start cs >>= λ t. Ok (value_from 0 t.0, t.1)
 
--- after a point: the billionths of the digits there, which are read whole
-abbrev pub read_digits_after_point : ℕ → List ℕ → Parsed ℕ
-read_digits_after_point start cs =
-    if begins is_digit cs then
-    (if begins is_exponent (past is_digit cs) then
-    Err (refusal_at ExponentOrEmptyFraction context.LongHand start)
-    else if nat_le (length (front is_digit cs)) 9 then
-    Ok (fraction_of (front is_digit cs), past is_digit cs)
-    else Err (refusal_at FractionTooLong context.LongHand start))
-    else Err (refusal_at ExponentOrEmptyFraction context.LongHand start)
-
--- after a whole number: a point and digits, or nothing
-unfoldable pub read_fraction : ℕ → List ℕ → Parsed ℕ
-read_fraction start cs =
-    if is_at "." cs then read_digits_after_point start (drop 1 cs)
-    else if begins is_exponent cs then
-    Err (refusal_at ExponentOrEmptyFraction context.LongHand start)
-    else Ok (0, cs)
-
--- without a sign, in billionths
-unfoldable pub read_amount : ℕ → List ℕ → Parsed ℕ
-read_amount start cs = do
-  whole ← read_whole start cs
-  fraction ← read_fraction start whole.1
-  Ok ((whole.0 * 1000000000) + fraction.0, fraction.1)
-
--- what is read, as a number that stops at the greatest u128
-abbrev pub capped : Parsed ℕ → Parsed ℕ
-capped read = read >>= λ n. Ok (min n.0 (2 ^ 128 - 1), n.1)
-
 -- ---- numerals of any length, each as its text
 
 -- digits, one at least
@@ -92,6 +62,32 @@ read_numeral start cs = do
   whole ← read_whole_text start cs
   places ← with_front whole.0 (read_places start whole.1)
   with_front places.0 (read_exponent start places.1)
+
+-- ---- amounts
+
+-- the billionths of places that are read, which are nine at most, and no exponent after them
+abbrev pub as_fraction : ℕ → List ℕ × List ℕ → Parsed ℕ
+as_fraction start places =
+    if begins is_exponent places.1 then
+    Err (refusal_at ExponentOrEmptyFraction context.LongHand start)
+    else if nat_le (length (drop 1 places.0)) 9 then
+    Ok (fraction_of (drop 1 places.0), places.1)
+    else Err (refusal_at FractionTooLong context.LongHand start)
+
+-- after a whole number: a point and digits, or nothing
+unfoldable pub read_fraction : ℕ → List ℕ → Parsed ℕ
+read_fraction start cs = read_places start cs >>= as_fraction start
+
+-- without a sign, in billionths
+unfoldable pub read_amount : ℕ → List ℕ → Parsed ℕ
+read_amount start cs = do
+  whole ← read_whole start cs
+  fraction ← read_fraction start whole.1
+  Ok ((whole.0 * 1000000000) + fraction.0, fraction.1)
+
+-- what is read, as a number that stops at the greatest u128
+abbrev pub capped : Parsed ℕ → Parsed ℕ
+capped read = read >>= λ n. Ok (min n.0 (2 ^ 128 - 1), n.1)
 
 -- ---- number literals, by either rule
 

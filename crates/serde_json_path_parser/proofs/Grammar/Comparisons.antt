@@ -1,5 +1,5 @@
 -- Operands, comparisons and tests, by what holds one level deeper.
-use Rattle.serde_json_path_parser.proofs.Words.{Amount, billionths, literal_of, Numbers, ◌==◌, codes, bytes_eq, and_parts, ReadSegments, is_digit, is_exponent, nat_le, ◌&&◌, bytes_eq-Decides, QueryKind, root, current, query, Call, Literal, text, number, truth, null, Segments, call, Signature, ExpectedExpression, is_at, begins, is_small_letter, is_function_char, IsFunctionName, IsQuote, AllPass, is_blank, is_name_char, IsNumberLiteral, opens, IsLiteral, Reads, ReadsCall, query_sign, Parsed, past_blanks, byte_count, read_string, segment_list, begins_int, Operand, literal, called, Deeper, word, past_word, begins_call, read_literal_word, read_query, read_named_call, read_text, read_operand, ◌>>=◌, Basic, relation, test, queried, Operator, equal, less, greater, result_kind, IsTestKind, Kind, of_value, of_nodes, of_logical, NonSingularQuery, WrongReturnType, ExpectedComparisonOperator, IsBlank, operator_sign, is_result, read_operator, read_comparable, read_test, read_right_side, read_relation, read_basic_from, ℕ, ◌<◌, ◌≡◌, inl, inr, true, false, List, [], ◌∷◌, ◌++◌, drop, Option, Ok, refl, sym, ap, ◌∙◌, append_assoc, Bool, arith, cond, Some, None, subst, LongHand, read_named, or_parts, begins_operator, IsTypedOperand, operand_depth, ReadsOperand, ◌≤◌}
+use Rattle.serde_json_path_parser.proofs.Words.{Amount, billionths, literal_of, Numbers, ◌==◌, codes, bytes_eq, and_parts, ReadSegments, is_digit, is_exponent, nat_le, ◌&&◌, bytes_eq-Decides, QueryKind, root, current, query, Call, Literal, text, number, truth, null, Segments, call, Signature, ExpectedExpression, is_at, begins, is_small_letter, is_function_char, IsFunctionName, IsQuote, AllPass, is_blank, is_name_char, IsNumberLiteral, opens, IsLiteral, Reads, ReadsCall, query_sign, Parsed, past_blanks, byte_count, read_string, segment_list, begins_int, Operand, literal, called, Deeper, word, past_word, begins_call, read_literal_word, read_query, read_named_call, read_text, read_operand, ◌>>=◌, Basic, relation, test, queried, Operator, equal, less, greater, result_kind, IsTestKind, Kind, of_value, of_nodes, of_logical, NonSingularQuery, WrongReturnType, ExpectedComparisonOperator, IsBlank, operator_sign, is_result, read_operator, read_comparable, read_test, read_right_side, read_relation, read_basic_from, ℕ, ◌<◌, ◌≡◌, inl, inr, true, false, List, [], ◌∷◌, ◌++◌, drop, Option, Ok, refl, sym, ap, ◌∙◌, append_assoc, Bool, arith, cond, Some, None, subst, LongHand, read_named, or_parts, begins_operator, IsTypedOperand, operand_depth, ReadsOperand, ◌≤◌, held_decimal, decimal_literal}
 use Rattle.serde_json_path_parser.proofs.Grammar.LogicalForms.{query_singular, IsGoodQuery, IsGoodCall, DeeperLaws, ends_operand, IsCallText, IsOperandText, singular_query, ends_basic, IsBasicText, IsComparableText, begins_operand, operand_begins, as_expression, no_blank_begins}
 use Rattle.serde_json_path_parser.proofs.Grammar.Numbers.{goes_on}
 use Rattle.serde_json_path_parser.proofs.Grammar.Numerals.{number_outcome, number_first, number_again}
@@ -7,8 +7,6 @@ use Rattle.serde_json_path_parser.proofs.Reading.{whole, front_each, front_begin
 use Rattle.serde_json_path_parser.proofs.Grammar.Segments.{segments_outcome, same_segments, segments_again}
 use Rattle.serde_json_path_parser.proofs.Rows.{Follows}
 use Rattle.serde_json_path_parser.proofs.Grammar.Strings.{string_outcome, string_again, of_quote}
-use Rattle.serde_json_path_numbers.specs.Numerals as amount
-use Rattle.serde_json_path_syntax.specs.Tree as tree
 
 -- ---- words
 
@@ -139,7 +137,7 @@ module _ (rule : Numbers) (signature : List ℕ → Option Signature) (n : ℕ) 
       let s = string_again t bytes rest h.1 in
       ap (λ (l : List ℕ). read (l ++ rest)) s.3 ∙ quoted_again s.0 (s.1 ++ rest) bytes rest s.2 s.4
   operand_again t (literal (number b)) rest h follows = number_read t (billionths b) rest h.1 follows
-  operand_again t (literal (tree.decimal d)) rest h follows = number_read t (amount.decimal d) rest h.1 follows
+  operand_again t (literal (decimal_literal d)) rest h follows = number_read t (held_decimal d) rest h.1 follows
   operand_again t (literal (truth true)) rest h follows = ap (λ (l : List ℕ). read (l ++ rest)) h.1 ∙ word_again (codes "true") rest (truth true) (refl, (refl, (refl, (refl, tt)))) refl (λ cs is. rw is refl) follows
   operand_again t (literal (truth false)) rest h follows = ap (λ (l : List ℕ). read (l ++ rest)) h.1 ∙ word_again (codes "false") rest (truth false) (refl, (refl, (refl, (refl, (refl, tt))))) refl (λ cs is. rw is refl) follows
   operand_again t (literal null) rest h follows = ap (λ (l : List ℕ). read (l ++ rest)) h.1 ∙ word_again (codes "null") rest null (refl, (refl, (refl, (refl, tt)))) refl (λ cs is. rw is refl) follows

@@ -1,11 +1,9 @@
 -- What is good at a level, and its texts: what may follow an operand or an expression, how each begins, and filters by what holds one level deeper.
-use Rattle.serde_json_path_parser.proofs.Words.{billionths, Numbers, comparable_is, ◌==◌, ◌||◌, Segments, no_segments, segment, Segment, dot_name, long_hand, no_selectors, selector, Selector, filter, LogicalOr, Signature, is_at, begins, ReadsSelector, past_blanks, Query, query, child, descendant, name, index, Call, call, Arguments, IsSingularSegment, AreSingular, IsSingular, and_parts, IsTyped, AreTypedSegments, IsTypedSegment, IsTypedSelector, IsTypedOr, IsTypedCall, depth, segments_depth, segment_depth, selector_depth, or_depth, call_depth, IsBlank, IsFunctionName, IsLiteral, Reads, ReadsOr, ReadsCall, ReadArguments, byte_count, Operand, literal, called, is_singular_segment, are_singular, is_singular, Deeper, IsTypedComparable, IsTypedAnd, ReadsAnd, IsTypedBasic, ReadsOperand, operand_depth, basic_depth, LogicalAnd, ReadsBasic, Basic, and_depth, root, current, no_or, or, no_and, and, paren, relation, test, queried, Literal, text, number, truth, is_blank, is_digit, is_small_letter, SegmentKind, ReadSegments, ReadsSegment, ◌≡◌, ℕ, true, List, [], ◌++◌, Option, Ok, ◌+◌, ◌≤◌, Bool, ◌∷◌, refl, arith, false, ap, ◌∙◌, append_assoc, drop, read_filter, begins_test, IsTypedOperand, Kind, of_value, of_logical}
+use Rattle.serde_json_path_parser.proofs.Words.{billionths, Numbers, comparable_is, ◌==◌, ◌||◌, Segments, no_segments, segment, Segment, dot_name, long_hand, no_selectors, selector, Selector, filter, LogicalOr, Signature, is_at, begins, ReadsSelector, past_blanks, Query, query, child, descendant, name, index, Call, call, Arguments, IsSingularSegment, AreSingular, IsSingular, and_parts, IsTyped, AreTypedSegments, IsTypedSegment, IsTypedSelector, IsTypedOr, IsTypedCall, depth, segments_depth, segment_depth, selector_depth, or_depth, call_depth, IsBlank, IsFunctionName, IsLiteral, Reads, ReadsOr, ReadsCall, ReadArguments, byte_count, Operand, literal, called, is_singular_segment, are_singular, is_singular, Deeper, IsTypedComparable, IsTypedAnd, ReadsAnd, IsTypedBasic, ReadsOperand, operand_depth, basic_depth, LogicalAnd, ReadsBasic, Basic, and_depth, root, current, no_or, or, no_and, and, paren, relation, test, queried, Literal, text, number, truth, is_blank, is_digit, is_small_letter, SegmentKind, ReadSegments, ReadsSegment, ◌≡◌, ℕ, true, List, [], ◌++◌, Option, Ok, ◌+◌, ◌≤◌, Bool, ◌∷◌, refl, arith, false, ap, ◌∙◌, append_assoc, drop, read_filter, begins_test, IsTypedOperand, Kind, of_value, of_logical, held_decimal, decimal_literal}
 use Rattle.serde_json_path_parser.proofs.Reading.{Inner, Outcome, Past, remade, after_sign, Spaced, some_begun, begins_front, begins_where, no_blank, blanks_of, past_run, front_each}
 use Rattle.serde_json_path_parser.proofs.Rows.{Follows}
 use Rattle.serde_json_path_parser.proofs.Grammar.Numerals.{number_first}
 use Rattle.serde_json_path_parser.proofs.Grammar.Strings.{string_again, of_quote}
-use Rattle.serde_json_path_numbers.specs.Numerals as amount
-use Rattle.serde_json_path_syntax.specs.Tree as tree
 
 -- ---- what may follow, after blanks
 
@@ -135,7 +133,7 @@ literal_begins rule (text bytes) t rest h =
     let s = string_again t bytes rest h in
     ap (λ (x : List ℕ). begins begins_operand (x ++ rest)) s.3 ∙ of_quote (λ quote. begins_operand quote ≡ true) refl refl s.0 s.2
 literal_begins rule (number b) t rest h = number_first rule begins_operand true t (billionths b) rest (λ c e. grind (arith, e)) h
-literal_begins rule (tree.decimal d) t rest h = number_first rule begins_operand true t (amount.decimal d) rest (λ c e. grind (arith, e)) h
+literal_begins rule (decimal_literal d) t rest h = number_first rule begins_operand true t (held_decimal d) rest (λ c e. grind (arith, e)) h
 literal_begins rule (truth true) t rest h = ap (λ (x : List ℕ). begins begins_operand (x ++ rest)) h
 literal_begins rule _ t rest h = ap (λ (x : List ℕ). begins begins_operand (x ++ rest)) h
 

@@ -1,8 +1,7 @@
 -- Integers and number literals: what is read is one, each is read, and where a refusal of one stands.
-use Rattle.serde_json_path_parser.proofs.Words.{nat_le, ◌==◌, ℤ, pos, negsuc, ints, largest, ExpectedSelector, IntegerOutOfRange, is_at, cases_Bool, begins, is_blank, is_digit, value_from, IsDecimal, IsInt, front, past, byte_count, is_first_digit, read_digits, negative, read_int, begins_int, ◌||◌, encode_utf8, ExpectedExpression, ExponentOrEmptyFraction, FractionTooLong, AllPass, AreDigits, fraction_of, IsFraction, IsAmount, refusal_at, is_exponent, read_whole, read_digits_after_point, read_fraction, read_amount, read_whole_text, mul-lt-mul_of_pos_right, one-le-pow, length-append, pow-add, encode_ascii, encode_utf8_all, ◌≡◌, ℕ, zero, suc, ◌+◌, ◌-◌, ◌*◌, ◌≤◌, inl, inr, Bool, true, false, List, [], ◌∷◌, ◌++◌, drop, Ok, refl, sym, ap, ◌∙◌, arith, ◌^◌, length, Err, append_assoc, ◌<◌, min, LongHand}
+use Rattle.serde_json_path_parser.proofs.Words.{nat_le, ◌==◌, ℤ, pos, negsuc, ints, largest, ExpectedSelector, IntegerOutOfRange, is_at, cases_Bool, begins, is_blank, is_digit, value_from, IsDecimal, IsInt, front, past, byte_count, is_first_digit, read_digits, negative, read_int, begins_int, ◌||◌, encode_utf8, ExpectedExpression, ExponentOrEmptyFraction, FractionTooLong, AllPass, AreDigits, fraction_of, IsFraction, IsAmount, refusal_at, is_exponent, read_whole, read_whole_text, mul-lt-mul_of_pos_right, one-le-pow, length-append, pow-add, encode_ascii, encode_utf8_all, ◌≡◌, ℕ, zero, suc, ◌+◌, ◌-◌, ◌*◌, ◌≤◌, inl, inr, Bool, true, false, List, [], ◌∷◌, ◌++◌, drop, Ok, refl, sym, ap, ◌∙◌, arith, ◌^◌, length, Err, append_assoc, ◌<◌, min, LongHand, AllDigits, digits_value_after}
 use Rattle.serde_json_path_parser.proofs.Reading.{begins_where, differs, begins_differs, no_blank, whole, front_each, front_begins, front_begins_not, front_all, past_run, value_least, some_begun, begins_front, after_one, Plain, OutcomeIn, Outcome, gives, choose, guarded, past_in, made, refused, after_in}
 use Rattle.std.specs.Char.{digit_value}
-use Rattle.std.specs.Str.Parse.{AllDigits, digits_value_after}
 use Rattle.std.proofs.lemmas.Str.{digit_value_digit}
 use Rattle.std.proofs.lemmas.Str.Parse.{digits_value_short, numerals_by_value, tells_digits}
 
@@ -111,31 +110,11 @@ whole_text_outcome start cs =
     choose (λ e. gives (48 ∷ [], drop 1 cs) (record { text = 48 ∷ []; is_so = (refl, zero_is); split = after_one 48 cs e })) (λ _.
     guarded ExpectedExpression LongHand refl (λ e. gives _ (record { text = front is_digit cs; is_so = (refl, front_is_whole cs e); split = whole is_digit cs })))
 
-whole_outcome : (start cs : List ℕ) → OutcomeIn IsDecimal Plain start cs (read_whole (byte_count start) cs)
+pub whole_outcome : (start cs : List ℕ) → OutcomeIn IsDecimal Plain start cs (read_whole (byte_count start) cs)
 whole_outcome start cs = made (value_from 0) (λ t n is. rw is.0 is.1) (whole_text_outcome start cs)
 
 pub front_are_digits : (cs : List ℕ) → begins is_digit cs ≡ true → AreDigits (front is_digit cs)
 front_are_digits cs some = (front_each is_digit cs, some_begun is_digit (front is_digit cs) (front_begins is_digit is_digit cs (λ c d. d) some))
-
-fraction_digits_outcome : (start cs : List ℕ) → OutcomeIn (λ t n. IsFraction (46 ∷ t) n) Plain start cs (read_digits_after_point (byte_count start) cs)
-fraction_digits_outcome start cs =
-    guarded ExponentOrEmptyFraction LongHand refl (λ some.
-    choose (λ _. refused ExponentOrEmptyFraction LongHand refl) (λ _.
-    guarded FractionTooLong LongHand refl (λ (few : nat_le (length (front is_digit cs)) 9 ≡ true).
-    let are = front_are_digits cs some in
-    let most : length (front is_digit cs) ≤ 9 = grind (arith, few) in
-    gives _ (record { text = front is_digit cs; is_so = inr (front is_digit cs, refl, are.0, are.1, most, refl); split = whole is_digit cs }))))
-
-fraction_outcome : (start cs : List ℕ) → OutcomeIn IsFraction Plain start cs (read_fraction (byte_count start) cs)
-unfolding read_fraction
-fraction_outcome start cs =
-    choose (λ e. past_in (46 ∷ []) (after_one 46 cs e) (fraction_digits_outcome start (drop 1 cs))) (λ _.
-    choose (λ _. refused ExponentOrEmptyFraction LongHand refl) (λ _. gives (0, cs) (record { text = []; is_so = inl (refl, refl); split = refl })))
-
-pub amount_outcome : (start cs : List ℕ) → OutcomeIn IsAmount Plain start cs (read_amount (byte_count start) cs)
-unfolding read_amount
-amount_outcome start cs = after_in (whole_outcome start cs) (λ w e r.
-    made (λ n. (w.0 * 1000000000) + n) (λ t n is. (r.text, t, w.0, n, r.is_so, is, refl, refl)) (fraction_outcome start w.1))
 
 -- ---- each number is read
 
@@ -156,37 +135,12 @@ whole_text_again start t n rest d e = elim d.plain [
       rw (begins_differs is_first_digit 48 (t ++ rest) refl first, first, front_all is_digit t rest d.passes e, past_run is_digit t rest d.passes e) refl
 ]
 
-whole_again : (start t : List ℕ) (n : ℕ) (rest : List ℕ) → IsDecimal t n → begins is_digit rest ≡ false → read_whole (byte_count start) (t ++ rest) ≡ Ok (n, rest)
+pub whole_again : (start t : List ℕ) (n : ℕ) (rest : List ℕ) → IsDecimal t n → begins is_digit rest ≡ false → read_whole (byte_count start) (t ++ rest) ≡ Ok (n, rest)
 whole_again start t n rest d e = rw (whole_text_again start t n rest d e) (ap (λ (k : ℕ). Ok (k, rest)) (sym d.value_of))
 
 pub digits_begin : (digits rest : List ℕ) → AreDigits digits → begins is_digit (digits ++ rest) ≡ true
 digits_begin [] rest are = absurd (let some = are.1 in omega (arith, some))
 digits_begin (c ∷ digits) rest are = are.0.0
-
-fraction_again : (start t : List ℕ) (n : ℕ) (rest : List ℕ) → IsFraction t n → begins goes_on rest ≡ false → read_fraction (byte_count start) (t ++ rest) ≡ Ok (n, rest)
-unfolding read_fraction
-fraction_again start t n rest is e = elim is [
-  | inl none ↦ ap (λ (l : List ℕ). read_fraction (byte_count start) (l ++ rest)) none.0 ∙ rw ((no_part rest e).1, (no_part rest e).2) (ap (λ (k : ℕ). Ok (k, rest)) (sym none.1))
-  | inr some ↦
-      let few : nat_le (length some.0) 9 ≡ true = let most = some.4 in grind (arith, most) in
-      ap (λ (l : List ℕ). read_fraction (byte_count start) (l ++ rest)) some.1
-      ∙ rw (digits_begin some.0 rest (some.2, some.3), front_all is_digit some.0 rest some.2 (no_part rest e).0, past_run is_digit some.0 rest some.2 (no_part rest e).0, (no_part rest e).2, few)
-      (ap (λ (k : ℕ). Ok (k, rest)) (sym some.5))
-]
-
--- no digit stands after a whole number, with a fraction or without
-failures : (t : List ℕ) (n : ℕ) (rest : List ℕ) → IsFraction t n → begins is_digit rest ≡ false → begins is_digit (t ++ rest) ≡ false
-failures t n rest is e = elim is [
-  | inl none ↦ ap (λ (l : List ℕ). begins is_digit (l ++ rest)) none.0 ∙ e
-  | inr some ↦ ap (λ (l : List ℕ). begins is_digit (l ++ rest)) some.1
-]
-
-pub amount_again : (start t : List ℕ) (n : ℕ) (rest : List ℕ) → IsAmount t n → begins goes_on rest ≡ false → read_amount (byte_count start) (t ++ rest) ≡ Ok (n, rest)
-unfolding read_amount
-amount_again start t n rest is e =
-    let regrouped : t ++ rest ≡ is.0 ++ (is.1 ++ rest) = ap (λ (l : List ℕ). l ++ rest) is.6 ∙ append_assoc is.0 is.1 rest in
-    let read = whole_again start is.0 is.2 (is.1 ++ rest) is.4 (failures is.1 is.3 rest is.5 (no_part rest e).0) in
-    ap (read_amount (byte_count start)) regrouped ∙ rw (read, fraction_again start is.1 is.3 rest is.5 e) (ap (λ (k : ℕ). Ok (k, rest)) (sym is.7))
 
 pub decimal_first : (p : ℕ → Bool) (b : Bool) (t : List ℕ) (n : ℕ) (rest : List ℕ) → ((c : ℕ) → is_digit c ≡ true → p c ≡ b) → IsDecimal t n → begins p (t ++ rest) ≡ b
 decimal_first p b t n rest h is =
@@ -246,12 +200,3 @@ fraction_is ds value power count passes c few v p =
     let same : value ≡ value_from 0 ds = omega (arith, v, few_below 9 ds passes within) in
     let scale : power ≡ 10 ^ (9 - length ds) = p ∙ ap (λ (k : ℕ). 10 ^ (9 - k)) c in
     rw (same, scale) refl
-
--- ---- reading
-
-module _ (start : ℕ) (cs : List ℕ) (some : begins is_digit cs ≡ true) (plain : begins is_exponent (past is_digit cs) ≡ false) where
-  pub too_long : 9 < length (front is_digit cs) → read_digits_after_point start cs ≡ Err (refusal_at FractionTooLong LongHand start)
-  too_long many = let judged : nat_le (length (front is_digit cs)) 9 ≡ false = grind (arith, many) in rw (some, plain, judged) refl
-
-  pub reads : length (front is_digit cs) ≤ 9 → read_digits_after_point start cs ≡ Ok (fraction_of (front is_digit cs), past is_digit cs)
-  reads few = let judged : nat_le (length (front is_digit cs)) 9 ≡ true = grind (arith, few) in rw (some, plain, judged) refl

@@ -1,16 +1,7 @@
 -- Numerals of any length, and number literals by either rule: what is read is one, each is read, and how one begins.
-use Rattle.serde_json_path_parser.proofs.Words.{AllPass, fraction_of, Ghosts, Reader, Failure, Refused, IsAsRead, left, option_map, refusal, Amount, IsAmount, IsFraction, IsLiteral, IsNumber, IsNumberLiteral, IsNumeralOf, NumberOutOfRange, Numbers, whole_numbers, all_numbers, as_literal, begins_int, billionths, held_as, held_or, literal_of, number, read_signed, read_number, scan, sign_text, ints, nat_le, cases_Bool, none-some, subst, Literal, append-nil, drop, length, Option, None, Some, ℤ, pos, if◌then◌else◌, ◌+◌, ◌-◌, ◌*◌, ◌^◌, ◌≤◌, eqb-true, ◌<◌, Err, encode_utf8, encode_ascii, ◌==◌, ◌≡◌, ℕ, Bool, true, false, List, [], ◌∷◌, ◌++◌, Ok, refl, sym, ap, ◌∙◌, inl, inr, arith, append_assoc, begins, is_digit, is_exponent, is_sign, is_at, byte_count, front, Parsed, with_front, after_first, AreDigits, AreSignedDigits, IsExponent, IsNumeral, IsPlaces, read_some_digits, read_places, read_signed_digits, read_exponent, read_numeral, ExponentOrEmptyFraction, LongHand}
+use Rattle.serde_json_path_parser.proofs.Words.{past, refusal_at, FractionTooLong, read_fraction, read_amount, AllPass, fraction_of, Ghosts, Reader, Failure, Refused, IsAsRead, left, option_map, refusal, Amount, IsAmount, IsFraction, IsLiteral, IsNumber, IsNumberLiteral, IsNumeralOf, NumberOutOfRange, Numbers, whole_numbers, all_numbers, as_literal, begins_int, billionths, held_as, held_or, literal_of, number, read_signed, read_number, scan, sign_text, ints, nat_le, cases_Bool, none-some, subst, Literal, append-nil, drop, length, Option, None, Some, ℤ, pos, if◌then◌else◌, ◌+◌, ◌-◌, ◌*◌, ◌^◌, ◌≤◌, eqb-true, ◌<◌, Err, encode_utf8, encode_ascii, ◌==◌, ◌≡◌, ℕ, Bool, true, false, List, [], ◌∷◌, ◌++◌, Ok, refl, sym, ap, ◌∙◌, inl, inr, arith, append_assoc, begins, is_digit, is_exponent, is_sign, is_at, byte_count, front, Parsed, with_front, after_first, AreDigits, AreSignedDigits, IsExponent, IsNumeral, IsPlaces, read_some_digits, read_places, read_signed_digits, read_exponent, read_numeral, ExponentOrEmptyFraction, LongHand, plain_held, most_billionths, held_decimal, neg_ℤ, digits_value, leb-true, ok_or, literal_view}
 use Rattle.serde_json_path_parser.proofs.Reading.{whole, front_all, past_run, begins_where, differs, after_one, Plain, OutcomeIn, Outcome, gives, choose, guarded, refused, onward, past_in, made, after_in, weaker}
-use Rattle.serde_json_path_parser.proofs.Grammar.Numbers.{amount_outcome, amount_again, digits_are, digit_begins, AsText, goes_on, no_part, front_are_digits, digits_begin, whole_text_outcome, whole_text_again, decimal_first}
-use Rattle.serde_json_path_numbers.proofs.ReadBack.{plain_held}
-use Rattle.serde_json_path_numbers.specs.Decimals.{most_billionths}
-use Rattle.serde_json_path_numbers.specs.Numerals.{}
-use Rattle.serde_json_path_numbers.specs.Numerals as amount
-use Rattle.std.specs.Prelude.{neg_ℤ}
-use Rattle.std.specs.Str.Parse.{digits_value}
-use Rattle.std.proofs.Common.{leb-true}
-use Rattle.std.specs.Option.{ok_or}
-use Rattle.serde_json_path_parser.specs.Inside.Words.{literal_view}
+use Rattle.serde_json_path_parser.proofs.Grammar.Numbers.{whole_outcome, whole_again, digits_are, digit_begins, AsText, goes_on, no_part, front_are_digits, digits_begin, whole_text_outcome, whole_text_again, decimal_first}
 use Rattle.serde_json_path_syntax.specs.declared.literal.Literal as declared
 
 -- ---- what a reading gives, of a numeral that begins at start
@@ -52,6 +43,25 @@ unfolding read_numeral
 numeral_outcome start cs = after_in (whole_text_outcome start cs) (λ w _ a.
     after_in (made {is_made = λ t n. (n ≡ a.text ++ t) × IsPlaces t} (λ n. w.0 ++ n) (λ t n is. (cc (is.0, a.is_so.0), is.1)) (places_outcome start w.1)) (λ p _ b.
     made (λ n. p.0 ++ n) (λ t n is. (cc (is.0, b.is_so.0, append_assoc a.text b.text t), (a.text, b.text, t, _, a.is_so.1, b.is_so.1, is.1, refl))) (exponent_outcome start p.1)))
+
+-- the fraction that places write, where they are nine at most
+places_fraction : (t : List ℕ) → IsPlaces t → length (drop 1 t) ≤ 9 → IsFraction t (fraction_of (drop 1 t))
+places_fraction t (inl none) few = inl (none, rw none refl)
+places_fraction t (inr (ds, are, same)) few = inr (ds, same, are.0, are.1, (rw same at few), rw same refl)
+
+fraction_outcome : (start cs : List ℕ) → OutcomeIn IsFraction Plain start cs (read_fraction (byte_count start) cs)
+unfolding read_fraction
+fraction_outcome start cs = onward (places_outcome start cs) (λ p _ r.
+    choose (λ _. refused ExponentOrEmptyFraction LongHand refl) (λ _.
+    guarded FractionTooLong LongHand refl (λ few. gives _ (record { text = r.text; is_so = fraction_so p.0 r.text r.is_so few; split = r.split }))))
+  where
+    fraction_so : (given t : List ℕ) → AsText IsPlaces t given → nat_le (length (drop 1 given)) 9 ≡ true → IsFraction t (fraction_of (drop 1 given))
+    fraction_so given t is few = rw is.0 (places_fraction t is.1 (let e = rw is.0 at few in grind (arith, e)))
+
+amount_outcome : (start cs : List ℕ) → OutcomeIn IsAmount Plain start cs (read_amount (byte_count start) cs)
+unfolding read_amount
+amount_outcome start cs = after_in (whole_outcome start cs) (λ w e r.
+    made (λ n. (w.0 * 1000000000) + n) (λ t n is. (r.text, t, w.0, n, r.is_so, is, refl, refl)) (fraction_outcome start w.1))
 
 -- ---- each numeral is read
 
@@ -100,6 +110,25 @@ numeral_again start t rest (a, b, c, n, is_whole, are_places, is_exp, same) e =
     rw (parted a b c rest same, whole_text_again start a n (b ++ (c ++ rest)) is_whole (no_digit b (c ++ rest) are_places none), places_again (byte_count start) b (c ++ rest) are_places none no_point, exponent_again (byte_count start) c rest is_exp digit exponent)
     (ap (λ (l : List ℕ). Ok (l, rest)) (append_assoc a b c ∙ sym same))
 
+-- a fraction by its places, what they are worth, and whether there is a point
+fraction_parts : (t : List ℕ) (n : ℕ) → IsFraction t n → IsPlaces t × AllPass is_digit (drop 1 t) × (length (drop 1 t) ≤ 9) × (n ≡ fraction_of (drop 1 t)) × (point : Bool) × (t ≡ (if point then 46 ∷ drop 1 t else [])) × (point ≡ false → drop 1 t ≡ [])
+fraction_parts t n (inl (none, zero)) = rw none (inl refl, tt, omega arith, zero, false, refl, λ e. refl)
+fraction_parts t n (inr (ds, same, passes, some, few, worth)) = rw same (inr (ds, (passes, some), refl), passes, few, worth, true, refl, λ e. cc)
+
+fraction_again : (start : ℕ) (t : List ℕ) (n : ℕ) (rest : List ℕ) → IsFraction t n → begins goes_on rest ≡ false → read_fraction start (t ++ rest) ≡ Ok (n, rest)
+unfolding read_fraction
+fraction_again start t n rest is e =
+    let (digit, point, exponent) = no_part rest e in
+    let (places, passes, few, worth, has_point, split, none) = fraction_parts t n is in
+    let judged : nat_le (length (drop 1 t)) 9 ≡ true = grind (arith, few) in
+    rw (places_again start t rest places digit point, exponent, judged, worth) refl
+
+amount_again : (start t : List ℕ) (n : ℕ) (rest : List ℕ) → IsAmount t n → begins goes_on rest ≡ false → read_amount (byte_count start) (t ++ rest) ≡ Ok (n, rest)
+unfolding read_amount
+amount_again start t n rest (a, b, w, f, is_whole, is, same, sum) e =
+    let (digit, point, exponent) = no_part rest e in
+    rw (same, append_assoc a b rest, whole_again start a w (b ++ rest) is_whole (no_digit b rest (fraction_parts b f is).0 digit), fraction_again (byte_count start) b f rest is e, sum) refl
+
 -- ---- how a numeral begins
 
 pub numeral_first : (p : ℕ → Bool) (b : Bool) (t rest : List ℕ) → ((c : ℕ) → is_digit c ≡ true → p c ≡ b) → IsNumeral t → begins p (t ++ rest) ≡ b
@@ -117,14 +146,10 @@ number_parts : (t : List ℕ) (b : ℤ) → IsNumber t b → (negative : Bool) �
 number_parts t b ((n, inl (is, same)), range) = (false, t, n, is, refl, let most = range.1 in omega (arith, ints, most, same), same)
 number_parts t b ((n, inr (digits, is, whole, same)), range) = (true, digits, n, is, whole, let least = range.0 in omega (arith, ints, least, same), omega (arith, ints, same))
 
--- a fraction by whether there is a point, and its digits
-fraction_parts : (t : List ℕ) (n : ℕ) → IsFraction t n → IsPlaces t × (point : Bool) × (ds : List ℕ) × (t ≡ (if point then 46 ∷ ds else [])) × AllPass is_digit ds × (point ≡ false → ds ≡ []) × (length ds ≤ 9) × (n ≡ fraction_of ds)
-fraction_parts t n (inl (none, zero)) = (inl none, false, [], none, tt, λ e. refl, omega arith, zero)
-fraction_parts t n (inr (ds, same, passes, some, few, worth)) = (inr (ds, (passes, some), same), true, ds, same, passes, λ e. cc, few, worth)
-
 amount_held : (negative : Bool) (t : List ℕ) (n : ℕ) → IsAmount t n → n ≤ most_billionths negative → IsNumeral t × (held_as negative (scan t) ≡ Some (billionths (signed negative n)))
 amount_held negative t n (a, b, w, f, d, is, same, sum) few =
-    let (places, point, ds, split, passes, none, nine, worth) = fraction_parts b f is in
+    let (places, passes, nine, worth, point, split, none) = fraction_parts b f is in
+    let ds = drop 1 b in
     let whole = digits_are 0 a d.passes in
     let fraction = digits_are 0 ds passes in
     let value : digits_value 10 a * 1000000000 + digits_value 10 ds * 10 ^ (9 - length ds) ≡ n = rw (whole.1, ← d.value_of, fraction.1, ← worth) (sym sum) in
@@ -136,7 +161,7 @@ as_numeral whole_numbers t (billionths b) h =
     let (negative, digits, n, is, whole, few, worth) = number_parts t b h in
     let held = amount_held negative digits n is few in
     (negative, digits, held.0, whole, held.1 ∙ ap (λ (i : ℤ). Some (billionths i)) (sym worth))
-as_numeral whole_numbers t (amount.decimal d) h = absurd h
+as_numeral whole_numbers t (held_decimal d) h = absurd h
 as_numeral all_numbers t a h = h
 
 -- ---- number literals, by either rule: what a reading gives
@@ -156,7 +181,7 @@ held_number negative t n a is e = elim (cases_Bool (nat_le n (most_billionths ne
 
 literal_is : (rule : Numbers) (t : List ℕ) (a : Amount) → IsNumberLiteral rule t a → IsLiteral rule (literal_of a) t
 literal_is rule t (billionths b) h = h
-literal_is rule t (amount.decimal d) h = h
+literal_is rule t (held_decimal d) h = h
 
 module _ (rule : Numbers) (negative : Bool) (start cs : List ℕ) where
   -- a literal after its sign
@@ -187,7 +212,7 @@ number_again whole_numbers t (billionths b) rest h e =
     let (negative, digits, n, is, whole, few, worth) = number_parts t b h in
     let judged : nat_le n (most_billionths negative) ≡ true = grind (arith, few) in
     rw whole (at_sign whole_numbers negative digits rest (amount_held negative digits n is few).0 ∙ rw (amount_again _ digits n rest is e, judged) (ap (λ (i : ℤ). Ok (number i, rest)) (sym worth)))
-number_again whole_numbers t (amount.decimal d) rest h e = absurd h
+number_again whole_numbers t (held_decimal d) rest h e = absurd h
 number_again all_numbers t a rest (negative, numeral, is, same, held) e =
     rw same (at_sign all_numbers negative numeral rest is ∙ rw (numeral_again _ numeral rest is e, held) refl)
 
@@ -203,16 +228,10 @@ number_first rule p b t a rest h is = numeral_begins p b t a rest h (as_numeral 
 
 -- ---- as the code reads it
 
-with_both : (a b : List ℕ) (read : Parsed (List ℕ)) → with_front a (with_front b read) ≡ with_front (a ++ b) read
-with_both a b (Ok x) = ap (λ (l : List ℕ). Ok (l, x.1)) (sym (append_assoc a b x.0))
-with_both a b (Err r) = refl
-
--- a first character that is one byte is taken into the text
-pub first_taken : {cs ds after : List ℕ} {c : ℕ} (p : ℕ → Bool) (read : List ℕ → Parsed (List ℕ)) (before : List ℕ) → ((k : ℕ) → p k ≡ true → k < 128) → cs ≡ c ∷ ds → begins p cs ≡ true
-    → after ≡ before ++ encode_utf8 c → with_front before (after_first read cs) ≡ with_front after (read ds)
-first_taken {c = c} p read before ascii e begun pushed =
-    let passes : p c ≡ true = sym (ap (begins p) e) ∙ begun in
-    rw (e, pushed, encode_ascii c (ascii c passes)) (with_both before (c ∷ []) (read _))
+-- two texts before what is read
+pub first_pushed : (before first : List ℕ) (read : Parsed (List ℕ)) → with_front before (with_front first read) ≡ with_front (before ++ first) read
+first_pushed before first (Ok x) = ap (λ (l : List ℕ). Ok (l, x.1)) (sym (append_assoc before first x.0))
+first_pushed before first (Err r) = refl
 
 -- the literal of an amount is given, or the refusal
 pub literal_given : {S : Type 0} {g : Ghosts S} (start : List ℕ) (reader : Reader S g) (o : Option Amount) (l : Option declared.Literal) (stop : Failure) → option_map literal_view l ≡ option_map literal_of o → stop ≡ Refused (refusal NumberOutOfRange LongHand start)
@@ -221,3 +240,9 @@ literal_given start reader None None stop e is = rw is refl
 literal_given start reader (Some a) (Some l) stop e is = let same : literal_view l ≡ literal_of a = cc in rw same refl
 literal_given start reader None (Some l) stop e is = absurd cc
 literal_given start reader (Some a) None stop e is = absurd cc
+
+-- digits that are read after a point, with no exponent after them
+pub fraction_read : {old cs rest : List ℕ} {c : ℕ} (start : ℕ) → old ≡ c ∷ cs → is_at "." old ≡ true → begins is_digit cs ≡ true → rest ≡ past is_digit cs → begins is_exponent rest ≡ false
+    → read_fraction start old ≡ (if nat_le (length (front is_digit cs)) 9 then Ok (fraction_of (front is_digit cs), rest) else Err (refusal_at FractionTooLong LongHand start))
+unfolding read_fraction read_places
+fraction_read start e point some is plain = rw (point, e, some, ← is, plain) refl

@@ -1,6 +1,5 @@
 -- Whole paths, and the promises of a parse.
-use Rattle.serde_json_path_parser.proofs.Words.{Numbers, ◌==◌, encode_utf8_all, all_scalars, chars, IsUtf8, IsCharBoundary, append-nil, length-append, nil_from_length, eqb-true, SegmentKind, Segments, Segment, deepest, Signature, ParseErrorKind, ExpectedRoot, UndefinedFunction, TextAfterPath, NoMemory, IsUndeclared, is_at, begins, Parsed, refusal, opens_next, read_segments, segment_list, opens_after_root, level, read_path, encodes-chars, encodes-append, scalars-chars, IsCharBoundary-at_seam, ◌&&◌, take-append_seam, drop-append_seam, IsCharBoundary-start, chars-encodes, Query, query, root, current, greatest_usize, Refusal, Failure, tree_of, rule_of, signatures_of, opens, AreCalled, Reports, reported, Fails, IsRefused, IsWithin, error_of, is_dollar, NeedsNoMemory, ParsedQuery, IsParse, checked_view, eq-eqb, length-le-encodes, ◌≡◌, ◌≢◌, ℕ, ◌≤◌, ◌↔◌, true, false, true≢false, List, [], ◌∷◌, ◌++◌, length, drop, Option, Ok, refl, sym, ap, subst, ◌∙◌, arith, ◌+◌, ◌-◌, inl, inr, ◌<◌, take, Some, Err, read_filter, Memory, Refused, is_blank, read_next_segment}
-use Rattle.serde_json_path_parser.specs.declared.error.Context.TheVariants as context
+use Rattle.serde_json_path_parser.proofs.Words.{Numbers, ◌==◌, encode_utf8_all, all_scalars, chars, IsUtf8, IsCharBoundary, append-nil, length-append, nil_from_length, eqb-true, SegmentKind, Segments, Segment, deepest, Signature, ParseErrorKind, ExpectedRoot, UndefinedFunction, TextAfterPath, NoMemory, IsUndeclared, is_at, begins, Parsed, refusal, opens_next, read_segments, segment_list, opens_after_root, level, read_path, encodes-chars, encodes-append, scalars-chars, IsCharBoundary-at_seam, ◌&&◌, take-append_seam, drop-append_seam, IsCharBoundary-start, chars-encodes, Query, query, root, current, greatest_usize, Refusal, Failure, tree_of, rule_of, signatures_of, opens, AreCalled, Reports, reported, Fails, IsRefused, IsWithin, error_of, is_dollar, NeedsNoMemory, ParsedQuery, IsParse, checked_view, eq-eqb, length-le-encodes, ◌≡◌, ◌≢◌, ℕ, ◌≤◌, ◌↔◌, true, false, true≢false, List, [], ◌∷◌, ◌++◌, length, drop, Option, Ok, refl, sym, ap, subst, ◌∙◌, arith, ◌+◌, ◌-◌, inl, inr, ◌<◌, take, Some, Err, read_filter, Memory, Refused, is_blank, read_next_segment, Path, OneTreeAtMost}
 use Rattle.serde_json_path_parser.proofs.Grammar.LogicalForms.{AreSegmentsText}
 use Rattle.serde_json_path_parser.proofs.Grammar.Calls.{level_laws}
 use Rattle.serde_json_path_parser.proofs.Grammar.Segments.{segments_outcome, segments_again, same_segments}
@@ -8,7 +7,6 @@ use Rattle.serde_json_path_parser.proofs.Printing.QuotedTexts.{scalars_of}
 use Rattle.serde_json_path_parser.proofs.Reading.{ok_is, after_one, is_plain, Inner, Stands, IsOutcome, gives, refuses, choose, onward, past_run, stands_so, many_end}
 use Rattle.serde_json_path_syntax.specs.declared.checked.Checked.{Checked}
 use Rattle.serde_json_path_parser.specs.Accepted.{IsAccepted}
-use Rattle.serde_json_path_parser.specs.Laws.{OneTreeAtMost}
 
 -- ---- whole paths: what is read is well-typed and at most 128 deep, each of those is read, and where a refusal stands
 
@@ -19,13 +17,13 @@ all_read rest bytes is none = eq-eqb (length rest) 0 (omega (arith, is, none, le
 module _ (rule : Numbers) (signature : List ℕ → Option Signature) where
   -- the segments of a path
   abbrev pub read_path_segments : List ℕ → Parsed (List (SegmentKind × Segment))
-  read_path_segments cs = read_segments (read_filter rule signature (level rule signature deepest)) context.Path cs
+  read_path_segments cs = read_segments (read_filter rule signature (level rule signature deepest)) Path cs
 
   -- where no segment begins after `$`, none is read
   pub none_read : (cs ds rest : List ℕ) (c : ℕ) (ss : List (SegmentKind × Segment)) → begins (λ d. d == 36) cs ≡ true → cs ≡ c ∷ ds → read_path_segments ds ≡ Ok (ss, rest) → opens_after_root cs ≡ false → ss ≡ []
   none_read cs ds rest c ss sign split read none =
       let closed : opens_next ds ≡ false = sym (rw (sign, split) refl) ∙ none in
-      let empty = many_end opens_next (read_next_segment (read_filter rule signature (level rule signature deepest)) context.Path) ds closed in
+      let empty = many_end opens_next (read_next_segment (read_filter rule signature (level rule signature deepest)) Path) ds closed in
       ap (λ (x : List (SegmentKind × Segment) × List ℕ). x.0) (ok_is (ss, rest) ([], ds) (sym read ∙ empty))
 
   -- ---- each path is read
@@ -33,7 +31,7 @@ module _ (rule : Numbers) (signature : List ℕ → Option Signature) where
   pub path_again : (t a : List ℕ) (segs : Segments) → AreSegmentsText rule signature deepest a segs → t ≡ 36 ∷ a → read_path rule signature t ≡ Ok segs
   unfolding read_path
   path_again t a segs h e =
-      let again = segments_again rule signature deepest (level rule signature deepest) (level_laws rule signature deepest) context.Path a segs [] h refl refl in
+      let again = segments_again rule signature deepest (level rule signature deepest) (level_laws rule signature deepest) Path a segs [] h refl refl in
       let all = ap read_path_segments (sym (append-nil a)) ∙ again in
       ap (read_path rule signature) e ∙ rw all (ap (λ (ss : Segments). Ok ss) (same_segments segs))
 
@@ -64,11 +62,11 @@ module _ (rule : Numbers) (signature : List ℕ → Option Signature) where
   unfolding read_path
   path_outcome cs = choose (λ sign.
       let begun = after_one 36 cs sign in
-      let segments = segments_outcome rule signature deepest (level rule signature deepest) (level_laws rule signature deepest) context.Path (drop 1 cs) in
+      let segments = segments_outcome rule signature deepest (level rule signature deepest) (level_laws rule signature deepest) Path (drop 1 cs) in
       onward (stands_so (λ r s. record { before = 36 ∷ s.before; rest = s.rest; split = begun ∙ ap (λ (l : List ℕ). 36 ∷ l) s.split; left = s.left; tells = in_segment cs r.kind s.rest sign s.tells }) segments) (λ ss _ r.
       let split : cs ≡ 36 ∷ (r.text ++ ss.1) = begun ∙ ap (λ (l : List ℕ). 36 ∷ l) r.split in
       choose (λ e. gives (segment_list ss.0) (r.text, r.is_so, split ∙ ap (λ (l : List ℕ). 36 ∷ (r.text ++ l)) (nil_from_length ss.1 (eqb-true (length ss.1) 0 e)) ∙ ap (λ (l : List ℕ). 36 ∷ l) (append-nil r.text))) (λ e.
-      refuses (refusal TextAfterPath context.Path ss.1) (record {
+      refuses (refusal TextAfterPath Path ss.1) (record {
         before = 36 ∷ r.text;
         rest = ss.1;
         split = split;
@@ -80,7 +78,7 @@ module _ (rule : Numbers) (signature : List ℕ → Option Signature) where
           undefined = λ e. absurd cc;
         };
       })))) (λ none.
-      refuses (refusal ExpectedRoot context.Path cs) (record {
+      refuses (refusal ExpectedRoot Path cs) (record {
         before = [];
         rest = cs;
         split = refl;

@@ -1,12 +1,10 @@
 -- What reads by whole numbers reads by all numbers, part by part.
-use Rattle.serde_json_path_parser.proofs.Words.{billionths, Query, query, Segments, no_segments, segment, SegmentKind, Segment, long_hand, Selectors, no_selectors, selector, Selector, filter, LogicalOr, no_or, or, LogicalAnd, no_and, and, Basic, paren, relation, test, Operand, literal, queried, called, Call, call, Arguments, no_arguments, argument, Argument, operand, logical_argument, Literal, number, truth, whole_numbers, all_numbers, MayBeArgument, Reads, ReadSegments, ReadsSegment, ReadSelectors, ReadMoreSelectors, ReadsSelector, ReadsOr, ReadMoreOrs, ReadsAnd, ReadMoreAnds, ReadsBasic, ReadsOperand, ReadsCall, ReadArguments, ReadMoreArguments, ReadsArgument, Negated, IsLiteral, ℕ, List, Bool, true, false}
+use Rattle.serde_json_path_parser.proofs.Words.{billionths, Query, query, Segments, no_segments, segment, SegmentKind, Segment, long_hand, Selectors, no_selectors, selector, Selector, filter, LogicalOr, no_or, or, LogicalAnd, no_and, and, Basic, paren, relation, test, Operand, literal, queried, called, Call, call, Arguments, no_arguments, argument, Argument, operand, logical_argument, Literal, number, truth, whole_numbers, all_numbers, MayBeArgument, Reads, ReadSegments, ReadsSegment, ReadSelectors, ReadMoreSelectors, ReadsSelector, ReadsOr, ReadMoreOrs, ReadsAnd, ReadMoreAnds, ReadsBasic, ReadsOperand, ReadsCall, ReadArguments, ReadMoreArguments, ReadsArgument, Negated, IsLiteral, ℕ, List, Bool, true, false, AllNumbersReadMore, decimal_literal}
 use Rattle.serde_json_path_parser.proofs.Grammar.Numerals.{as_numeral}
-use Rattle.serde_json_path_parser.specs.Laws.{AllNumbersReadMore}
-use Rattle.serde_json_path_syntax.specs.Tree as tree
 
 literal_more : (l : Literal) (t : List ℕ) → IsLiteral whole_numbers l t → IsLiteral all_numbers l t
 literal_more (number b) t h = as_numeral whole_numbers t (billionths b) h
-literal_more (tree.decimal d) t h = absurd h
+literal_more (decimal_literal d) t h = absurd h
 literal_more (truth true) t h = h
 literal_more _ t h = h
 

@@ -1,5 +1,5 @@
 -- Numbers, slices and literals, as they are printed, read as themselves.
-use Rattle.serde_json_path_parser.proofs.Words.{AreDigits, AreSignedDigits, IsNumeral, IsNumberLiteral, held_as, Numbers, whole_numbers, all_numbers, billionths, scan, sign_text, unsigned_abs, cases_Bool, one-le-pow, ℤ, pos, negsuc, ◌-ℤ◌, decimal, signed_decimal, pow-succ', mul-sub, mul_comm, mul_assoc, nat_tests, eqb_tells, ints, pow-add, in_decimal, largest, fraction_digits, fraction_text, amount_text, number_text, begins, is_digit, AllPass, value_from, IsDecimal, IsInt, fraction_of, IsFraction, IsAmount, IsNumber, all_scalars, Slice, Literal, text, number, truth, null, integer_text, slice_step_text, slice_text, literal_text, IsBound, IsSliceStep, IsSlice, IsLiteral, ◌≡◌, ◌≤◌, ◌<◌, ◌+◌, ◌-◌, ◌*◌, ◌/◌, ◌%◌, ◌^◌, ◌==◌, ℕ, zero, suc, inl, inr, Bool, true, false, if◌then◌else◌, List, [], ◌∷◌, length, map, get_or, refl, sym, ap, subst, ◌∙◌, arith, ◌++◌, Option, Some, None, codes, append_assoc, append-nil}
+use Rattle.serde_json_path_parser.proofs.Words.{AreDigits, AreSignedDigits, IsNumeral, IsNumberLiteral, held_as, Numbers, whole_numbers, all_numbers, billionths, scan, sign_text, unsigned_abs, cases_Bool, one-le-pow, ℤ, pos, negsuc, ◌-ℤ◌, decimal, signed_decimal, pow-succ', mul-sub, mul_comm, mul_assoc, nat_tests, eqb_tells, ints, pow-add, in_decimal, largest, fraction_digits, fraction_text, amount_text, number_text, begins, is_digit, AllPass, value_from, IsDecimal, IsInt, fraction_of, IsFraction, IsAmount, IsNumber, all_scalars, Slice, Literal, text, number, truth, null, integer_text, slice_step_text, slice_text, literal_text, IsBound, IsSliceStep, IsSlice, IsLiteral, ◌≡◌, ◌≤◌, ◌<◌, ◌+◌, ◌-◌, ◌*◌, ◌/◌, ◌%◌, ◌^◌, ◌==◌, ℕ, zero, suc, inl, inr, Bool, true, false, if◌then◌else◌, List, [], ◌∷◌, length, map, get_or, refl, sym, ap, subst, ◌∙◌, arith, ◌++◌, Option, Some, None, codes, append_assoc, append-nil, held_in_range, read_back, Decimal, decimal_text, has_point, place_digits, size_text, held_decimal, decimal_literal, IsLiteralAmount, div-le_self, div-lt_iff_lt-mul, mod-lt}
 use Rattle.std.specs.Int.Digits.{digits_of, number_from_digits_after, AllBelowBase}
 use Rattle.std.proofs.lemmas.Fmt.{decimal_digit, decimal-digits_of}
 use Rattle.std.proofs.lemmas.Int.Digits.{all_below_base_digits_of, first_digits_of, number_digits_of}
@@ -7,12 +7,6 @@ use Rattle.serde_json_path_parser.proofs.Grammar.Numbers.{zero_is}
 use Rattle.serde_json_path_parser.proofs.Printing.QuotedTexts.{Spells, Spelt, spell_nothing, spell_both, spell_ascii, spell_passing, spell_sign, spelt_nothing, spelt_as, spelt_after, string_spelt}
 use Rattle.serde_json_path_parser.proofs.Grammar.Numerals.{as_numeral}
 use Rattle.serde_json_path_parser.proofs.Reading.{some_begun}
-use Rattle.serde_json_path_numbers.proofs.ReadBack.{held_in_range, read_back}
-use Rattle.serde_json_path_numbers.specs.Decimals.{Decimal, decimal_text, has_point, place_digits, size_text}
-use Rattle.serde_json_path_numbers.specs.Numerals as amount
-use Rattle.serde_json_path_syntax.specs.Tree as tree
-use Rattle.serde_json_path_syntax.specs.WellFormed.{IsLiteralAmount}
-use Rattle.std.proofs.Common.{div-le_self, div-lt_iff_lt-mul, mod-lt}
 
 -- ---- digits
 
@@ -76,73 +70,36 @@ int_spelt t (negsuc n) is =
 
 -- ---- fractions
 
--- of a fraction in billionths so many places are left to print: it ends in zeros after them
-record Left (places rest : ℕ) : Type 0 where
-  in_range : rest < 1000000000
-  digits : ℕ
-  ends : rest ≡ digits * 10 ^ (9 - places)
-
--- what the last places hold once the first digit is taken away
-tail : (digits high unit rest : ℕ) → high * unit ≡ 100000000 → rest ≡ digits * unit → (rest % 100000000) * 10 ≡ (digits - (rest / 100000000) * high) * (10 * unit)
-tail digits high unit rest whole ends =
-    let first = rest / 100000000 in
-    let n = digits - first * high in
-    let taken : unit * (first * high) ≡ first * 100000000 = mul_comm unit (first * high) ∙ mul_assoc first high unit ∙ ap (λ (k : ℕ). first * k) whole in
-    let there : unit * digits ≡ rest = mul_comm unit digits ∙ sym ends in
-    let product : n * (10 * unit) ≡ (n * unit) * 10 = ap (λ (k : ℕ). n * k) (mul_comm 10 unit) ∙ sym (mul_assoc n unit 10) in
-    let less : n * unit ≡ rest - first * 100000000 = mul_comm n unit ∙ mul-sub unit digits (first * high) ∙ rw (taken, there) refl in
-    omega (arith, less) ∙ sym product
-
--- after one digit more
-one_less : (places rest : ℕ) → suc places ≤ 9 → Left (suc places) rest → Left places ((rest % 100000000) * 10)
-one_less places rest few h =
-    let unit = 10 ^ (9 - suc places) in
-    let eight : places + (9 - suc places) ≡ 8 = omega (arith, few) in
-    let whole : 10 ^ places * unit ≡ 100000000 = sym (pow-add 10 places (9 - suc places)) ∙ ap (λ (k : ℕ). 10 ^ k) eight in
-    let next : 9 - places ≡ suc (9 - suc places) = omega (arith, few) in
-    let ten : 10 ^ (9 - places) ≡ 10 * unit = ap (λ (k : ℕ). 10 ^ k) next ∙ pow-succ' 10 (9 - suc places) in
-    record {
-      in_range = omega arith;
-      digits = h.digits - (rest / 100000000) * 10 ^ places;
-      ends = rw ten (tail h.digits (10 ^ places) unit rest whole h.ends);
-    }
-
--- the digits that are printed of it, and the number that they write after those of n
-record Writes (n places rest : ℕ) (digits : List ℕ) : Type 0 where
-  few : length digits ≤ places
+-- the digits that are printed of so many places which make up m, and the number that they write after those of n
+record Writes (n places m : ℕ) (digits : List ℕ) : Type 0 where
+  zeros : ℕ
+  few : length digits + zeros ≡ places
   passes : AllPass is_digit digits
-  value : value_from n digits * 10 ^ (9 - length digits) ≡ n * 1000000000 + rest
+  value : value_from n digits * 10 ^ zeros ≡ n * 10 ^ places + m
 
-nothing_written : (n places rest : ℕ) → rest ≡ 0 → Writes n places rest []
-nothing_written n places rest none = record { few = omega arith; passes = tt; value = omega (arith, none) }
+nothing_written : (n places m : ℕ) → m ≡ 0 → Writes n places m []
+nothing_written n places m none = record { zeros = places; few = omega arith; passes = tt; value = omega (arith, none) }
 
-shifted : (value power ten n rest : ℕ) → ten ≡ 10 * power → value * ten ≡ (n * 10 + rest / 100000000) * 1000000000 + (rest % 100000000) * 10
-    → value * power ≡ n * 1000000000 + rest
-shifted value power ten n rest e h =
-    let product : value * ten ≡ (value * power) * 10 = ap (λ (k : ℕ). value * k) (e ∙ mul_comm 10 power) ∙ sym (mul_assoc value power 10) in
-    omega (arith, product, h)
+-- what is left once the first digit is taken away
+one_less : (first low power m : ℕ) → (first * 100000000 + low) * (10 * power) ≡ m * 1000000000 → (first * power ≤ m) × ((low * 10) * power ≡ (m - first * power) * 1000000000)
+one_less first low power m h = let least : first * power ≤ m = omega (arith, h) in (least, omega (arith, h, least))
 
-one_written : (n places rest : ℕ) (digits : List ℕ) → suc places ≤ 9 → rest / 100000000 < 10 → Writes (n * 10 + rest / 100000000) places ((rest % 100000000) * 10) digits
-    → Writes n (suc places) rest ((48 + rest / 100000000) ∷ digits)
-one_written n places rest digits few small h =
-    let first = rest / 100000000 in
-    let same : (n * 10) + ((48 + first) - 48) ≡ n * 10 + first = omega arith in
-    let next : 9 - length digits ≡ suc (9 - suc (length digits)) = omega (arith, few, h.few) in
-    let ten : 10 ^ (9 - length digits) ≡ 10 * 10 ^ (9 - suc (length digits)) = ap (λ (k : ℕ). 10 ^ k) next ∙ pow-succ' 10 (9 - suc (length digits)) in
-    record {
-      few = omega (arith, h.few);
-      passes = (digit_is first small, h.passes);
-      value = rw same (shifted (value_from (n * 10 + first) digits) (10 ^ (9 - suc (length digits))) (10 ^ (9 - length digits)) n rest ten h.value);
-    }
-
-digits_written : (n places rest : ℕ) → places ≤ 9 → Left places rest → Writes n places rest (fraction_digits places rest)
-digits_written n zero rest few h = nothing_written n 0 rest (omega (arith, h.in_range, h.ends))
-digits_written n (suc places) rest few h = elim (eqb_tells rest 0) [
-  | inl none ↦ rw none.1 (nothing_written n (suc places) 0 refl)
+digits_written : (n places rest m : ℕ) → rest < 1000000000 → rest * 10 ^ places ≡ m * 1000000000 → Writes n places m (fraction_digits places rest)
+digits_written n zero rest m range ends = nothing_written n 0 m (omega (arith, range, ends))
+digits_written n (suc places) rest m range ends = elim (eqb_tells rest 0) [
+  | inl none ↦ rw none.1 (nothing_written n (suc places) m (let zero : 0 * 10 ^ suc places ≡ m * 1000000000 = rw none.1 at ends in omega (arith, zero)))
   | inr some ↦
-      let small : rest / 100000000 < 10 = let range = h.in_range in omega (arith, range) in
-      let more = digits_written (n * 10 + rest / 100000000) places ((rest % 100000000) * 10) (omega (arith, few)) (one_less places rest few h) in
-      rw (some.0, decimal_digit (rest / 100000000) small) (one_written n places rest _ few small more)
+      let first = rest / 100000000 in
+      let small : first < 10 = omega (arith, range) in
+      let ten = pow-succ' 10 places in
+      let split : rest ≡ first * 100000000 + rest % 100000000 = omega arith in
+      let whole : (first * 100000000 + rest % 100000000) * (10 * 10 ^ places) ≡ m * 1000000000 = rw (← split, ← ten) ends in
+      let (least, left) = one_less first (rest % 100000000) (10 ^ places) m whole in
+      let w = digits_written (n * 10 + first) places ((rest % 100000000) * 10) (m - first * 10 ^ places) (omega arith) left in
+      let same : (n * 10) + ((48 + first) - 48) ≡ n * 10 + first = omega arith in
+      let written : Writes n (suc places) m ((48 + first) ∷ fraction_digits places ((rest % 100000000) * 10)) =
+      record { zeros = w.zeros; few = omega (arith, w.few); passes = (digit_is first small, w.passes); value = rw (same, value_from, ten) (omega (arith, w.value, least)) } in
+      rw (some.0, decimal_digit first small) written
 ]
 
 -- one digit is printed of a fraction that is not 0
@@ -157,12 +114,12 @@ fraction_is : (rest : ℕ) → rest < 1000000000 → IsFraction (fraction_text r
 fraction_is rest range = elim (eqb_tells rest 0) [
   | inl none ↦ rw none.1 (inl (refl, refl), spell_nothing)
   | inr some ↦
-      let w = digits_written 0 9 rest (omega arith) (record { in_range = range; digits = rest; ends = omega arith }) in
+      let w = digits_written 0 9 rest rest range refl in
       let digits = fraction_digits 9 rest in
       let first : rest / 100000000 < 10 = omega (arith, range) in
-      let value : rest ≡ fraction_of digits = omega (arith, w.value) in
+      let value : rest ≡ fraction_of digits = let zeros : 9 - length digits ≡ w.zeros = omega (arith, w.few) in rw zeros (omega (arith, w.value)) in
       subst (λ t. IsFraction t rest × Spells t t) (sym (unless (rest == 0) [] (46 ∷ digits) some.0))
-      (inr (digits, refl, w.passes, some_digit rest some.0 first, w.few, value), spell_both (spell_sign 46 (omega arith)) (digits_spell digits w.passes))
+      (inr (digits, refl, w.passes, some_digit rest some.0 first, omega (arith, w.few), value), spell_both (spell_sign 46 (omega arith)) (digits_spell digits w.passes))
 ]
 
 -- ---- number literals
@@ -235,7 +192,7 @@ sign_spells : (negative : Bool) → Spells (sign_text negative) (sign_text negat
 sign_spells true = spell_sign 45 (omega arith)
 sign_spells false = spell_nothing
 
-decimal_spelt : (rule : Numbers) (t : List ℕ) (d : Decimal) → IsNumberLiteral rule t (amount.decimal d) → Spelt (λ t. IsNumberLiteral rule t (amount.decimal d)) (decimal_text d)
+decimal_spelt : (rule : Numbers) (t : List ℕ) (d : Decimal) → IsNumberLiteral rule t (held_decimal d) → Spelt (λ t. IsNumberLiteral rule t (held_decimal d)) (decimal_text d)
 decimal_spelt whole_numbers t d is = absurd is
 decimal_spelt all_numbers t d (negative, numeral, is, same, held) =
     let (sign, few, low, again) = read_back negative numeral d held in
@@ -269,7 +226,7 @@ slice_spelt s t (a, k, b, c, start, blank, end, step, split) =
 pub literal_spelt : (rule : Numbers) (l : Literal) (t : List ℕ) → all_scalars t ≡ true → IsLiteral rule l t → Spelt (IsLiteral rule l) (literal_text l)
 literal_spelt rule (text bytes) t e h = string_spelt t bytes e h
 literal_spelt rule (number b) t e h = billionths_spelt rule t b h
-literal_spelt rule (tree.decimal d) t e h = decimal_spelt rule t d h
+literal_spelt rule (decimal_literal d) t e h = decimal_spelt rule t d h
 literal_spelt rule (truth true) t e h = record { characters = codes "true"; spells = spell_ascii (codes "true") (omega arith, (omega arith, (omega arith, (omega arith, tt)))); is_so = refl }
 literal_spelt rule (truth false) t e h = record { characters = codes "false"; spells = spell_ascii (codes "false") (omega arith, (omega arith, (omega arith, (omega arith, (omega arith, tt))))); is_so = refl }
 literal_spelt rule null t e h = record { characters = codes "null"; spells = spell_ascii (codes "null") (omega arith, (omega arith, (omega arith, (omega arith, tt)))); is_so = refl }

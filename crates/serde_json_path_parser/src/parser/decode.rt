@@ -1,7 +1,6 @@
 //! Decodes characters from bytes.
 
-ghost use Rattle.std.specs.Prelude.{◌≡◌, ◌<◌, ◌≤◌, ◌+◌, ◌-◌, ◌%◌, ◌^◌, length, slice_index, slice_get, drop, Some, None};
-ghost use Rattle.serde_json_path_parser.specs.Inside.Words.{ForSome, IsUtf8, StartsWithChar, IsScalar, LooksOn, up_to};
+ghost use Rattle.serde_json_path_parser.specs.Inside.Words.{◌≡◌, ◌<◌, ◌≤◌, ◌+◌, ◌-◌, ◌%◌, ◌^◌, length, slice_index, slice_get, drop, Some, None, ForSome, IsUtf8, StartsWithChar, IsScalar, LooksOn, up_to};
 
 use crate::source::PathSource;
 

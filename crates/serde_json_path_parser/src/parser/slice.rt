@@ -1,7 +1,6 @@
 //! Slices.
 
-ghost use Rattle.std.specs.Prelude.{IfOk};
-ghost use Rattle.serde_json_path_parser.specs.Inside.Words.{slice_view, IsOptionalInteger, IsAsRead, MovesTo, left, read_bound, read_slice};
+ghost use Rattle.serde_json_path_parser.specs.Inside.Words.{IfOk, slice_view, IsOptionalInteger, IsAsRead, MovesTo, left, read_bound, read_slice};
 
 use crate::error::Failure;
 use crate::parser::primitive::int::parse_int;

@@ -1,4 +1,4 @@
-use Rattle.std.proofs.Common.{length, sym, ap, ◌∙◌, arith}
+use Rattle.serde_json_path_parser.proofs.Words.{length, sym, ap, ◌∙◌, arith}
 use Rattle.serde_json_path_parser.proofs.Grammar.Paths.{parsed, too_long_reported, refused_reported}
 use Rattle.serde_json_path_parser.proofs.parser.parse.Goals as goal
 

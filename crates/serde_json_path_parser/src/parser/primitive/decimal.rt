@@ -1,7 +1,6 @@
 //! Digits.
 
-ghost use Rattle.std.specs.Prelude.{◌≡◌, ◌+◌, ◌-◌, ◌*◌, ◌^◌, ◌<◌, min};
-ghost use Rattle.serde_json_path_parser.specs.Inside.Words.{is_digit, value_from, front, past, left, Moves};
+ghost use Rattle.serde_json_path_parser.specs.Inside.Words.{◌≡◌, ◌+◌, ◌-◌, ◌*◌, ◌^◌, ◌<◌, min, is_digit, value_from, front, past, left, Moves};
 
 use crate::parser::reader::Reader;
 use crate::source::PathSource;

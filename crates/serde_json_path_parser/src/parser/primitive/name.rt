@@ -1,7 +1,6 @@
 //! Member names.
 
-ghost use Rattle.std.specs.Prelude.{◌≡◌, string_bytes};
-ghost use Rattle.serde_json_path_parser.specs.Inside.Words.{IsAsRead, MovesTo, left, read_name};
+ghost use Rattle.serde_json_path_parser.specs.Inside.Words.{◌≡◌, string_bytes, IsAsRead, MovesTo, left, read_name};
 
 use crate::error::{Context, Failure, ParseErrorKind as Kind};
 use crate::parser::reader::Reader;
@@ -15,8 +14,7 @@ pub(crate) fn parse_name<S: PathSource>(
     context: Context,
 ) -> Result<String, Failure>
     ensures moves { MovesTo result reader.old reader.new }
-    ensures gives { IsAsRead (λ text. string_bytes text) result reader.new
-        (read_name context (left reader.old)) }
+    ensures gives { IsAsRead string_bytes result reader.new (read_name context (left reader.old)) }
 {
     if !reader.sees_name_first() {
         return Err(reader.refusal(Kind::BadMemberName, context));

@@ -1,9 +1,6 @@
 //! Number literals.
 
-ghost use Rattle.std.specs.Prelude.{◌≡◌, ◌≤◌, ◌<◌, ℕ, List, length, IfOk, Some, None};
-ghost use Rattle.std.specs.Option.{option_map};
-ghost use Rattle.serde_json_path_functions.specs.Terms.{numbers_view};
-ghost use Rattle.serde_json_path_parser.specs.Inside.Words.{held_as, held_or, scan, literal_of, literal_view, IsAsRead, MovesTo, left, read_whole, read_fraction, read_amount, read_number, capped};
+ghost use Rattle.serde_json_path_parser.specs.Inside.Words.{◌≡◌, ◌≤◌, ◌<◌, ℕ, List, length, IfOk, Some, None, option_map, numbers_view, held_as, held_or, scan, literal_of, literal_view, IsAsRead, MovesTo, left, read_whole, read_fraction, read_amount, read_number, capped};
 
 use crate::error::{Failure, ParseErrorKind as Kind};
 use crate::parser::primitive::decimal::parse_decimal;
@@ -41,7 +38,7 @@ fn parse_whole<S: PathSource>(reader: &mut Reader<'_, S>, place: usize) -> Resul
 }
 
 /// Parses a fraction, whose digits are read whole. Returns its billionths, or 0 where there is none.
-#[tactic(auto, unfolding(crate::specs::Numbers::read_fraction))]
+#[tactic(auto, unfolding(crate::specs::Numbers::read_fraction, crate::specs::Numbers::read_places))]
 fn parse_fraction<S: PathSource>(reader: &mut Reader<'_, S>, place: usize) -> Result<u128, Failure>
     ensures moves { MovesTo result reader.old reader.new }
     ensures gives { IsAsRead (λ n. n) result reader.new (read_fraction place (left reader.old)) }

@@ -1,7 +1,6 @@
 //! Numerals of any length, each as its text.
 
-ghost use Rattle.std.specs.Prelude.{◌≡◌, ◌++◌, IfOk, string_bytes};
-ghost use Rattle.serde_json_path_parser.specs.Inside.Words.{front, past, is_digit, with_front, IsAsRead, Moves, MovesTo, left, read_some_digits, read_whole_text, read_places, read_signed_digits, read_exponent, read_numeral};
+ghost use Rattle.serde_json_path_parser.specs.Inside.Words.{◌≡◌, ◌++◌, IfOk, string_bytes, front, past, is_digit, with_front, IsAsRead, Moves, MovesTo, left, read_some_digits, read_whole_text, read_places, read_signed_digits, read_exponent, read_numeral};
 
 use crate::error::{Failure, ParseErrorKind as Kind};
 use crate::parser::reader::Reader;
@@ -48,7 +47,7 @@ fn parse_whole<S: PathSource>(
     place: usize,
 ) -> Result<String, Failure>
     ensures moves { MovesTo result reader.old reader.new }
-    ensures gives { IsAsRead (λ text. string_bytes text) result reader.new
+    ensures gives { IsAsRead string_bytes result reader.new
         (read_whole_text place (left reader.old)) }
 {
     let mut text = String::new(alloc);
@@ -64,6 +63,7 @@ fn parse_whole<S: PathSource>(
 }
 
 /// Parses a point and digits, if a point is next, and appends them to a text.
+#[tactic(auto, using(crate::proofs::Grammar::Numerals::first_pushed), unfolding(crate::specs::Numbers::read_places))]
 fn parse_places<S: PathSource>(
     reader: &mut Reader<'_, S>,
     text: &mut String,
@@ -81,7 +81,7 @@ fn parse_places<S: PathSource>(
 }
 
 /// Parses digits, perhaps with a sign before them, and appends them to a text.
-#[tactic(auto, unfolding(crate::specs::Numbers::read_signed_digits))]
+#[tactic(auto, using(crate::proofs::Grammar::Numerals::first_pushed), unfolding(crate::specs::Numbers::read_signed_digits))]
 fn parse_signed_digits<S: PathSource>(
     reader: &mut Reader<'_, S>,
     text: &mut String,
@@ -99,6 +99,7 @@ fn parse_signed_digits<S: PathSource>(
 }
 
 /// Parses an exponent, if one begins here, and appends it to a text.
+#[tactic(auto, using(crate::proofs::Grammar::Numerals::first_pushed), unfolding(crate::specs::Numbers::read_exponent))]
 fn parse_exponent<S: PathSource>(
     reader: &mut Reader<'_, S>,
     text: &mut String,
@@ -123,8 +124,7 @@ pub(crate) fn parse_numeral<S: PathSource>(
     place: usize,
 ) -> Result<String, Failure>
     ensures moves { MovesTo result reader.old reader.new }
-    ensures gives { IsAsRead (λ text. string_bytes text) result reader.new
-        (read_numeral place (left reader.old)) }
+    ensures gives { IsAsRead string_bytes result reader.new (read_numeral place (left reader.old)) }
 {
     let mut text = parse_whole(alloc, reader, place)?;
     parse_places(reader, &mut text, place)?;

@@ -1,7 +1,6 @@
 //! Comparison operators.
 
-ghost use Rattle.std.specs.Prelude.{◌≡◌, IsNone, option_map};
-ghost use Rattle.serde_json_path_parser.specs.Inside.Words.{operator_view, read_operator, left, Moves};
+ghost use Rattle.serde_json_path_parser.specs.Inside.Words.{◌≡◌, IsNone, option_map, operator_view, read_operator, left, Moves};
 
 use crate::parser::reader::Reader;
 use crate::source::PathSource;

@@ -1,7 +1,6 @@
 //! String literals.
 
-ghost use Rattle.std.specs.Prelude.{◌≡◌, ◌==◌, ◌<◌, ◌≤◌, ◌+◌, ◌^◌, ℕ, List, length, true, IfOk, string_bytes};
-ghost use Rattle.serde_json_path_parser.specs.Inside.Words.{IsScalar, IsAsRead, MovesTo, left, begins, IsQuote, read_hexadecimal, read_hex4, is_high, read_low, read_unicode, read_piece, is_inside, read_string};
+ghost use Rattle.serde_json_path_parser.specs.Inside.Words.{◌≡◌, ◌==◌, ◌<◌, ◌≤◌, ◌+◌, ◌^◌, ℕ, List, length, true, IfOk, string_bytes, IsScalar, IsAsRead, MovesTo, left, begins, IsQuote, read_hexadecimal, read_hex4, is_high, read_low, read_unicode, read_piece, is_inside, read_string};
 
 use crate::error::{Context, Failure, ParseErrorKind as Kind};
 use crate::parser::reader::Reader;
@@ -125,8 +124,7 @@ pub(crate) fn parse_string<S: PathSource>(
 ) -> Result<String, Failure>
     requires { IsQuote quote }
     ensures moves { MovesTo result reader.old reader.new }
-    ensures gives { IsAsRead (λ text. string_bytes text) result reader.new
-        (read_string quote (left reader.old)) }
+    ensures gives { IsAsRead string_bytes result reader.new (read_string quote (left reader.old)) }
 {
     let mut text = String::new(alloc);
     let plain = PlainChars { quote };

@@ -1,11 +1,10 @@
 use Rattle.serde_json_path_parser.proofs.Reading.{first_fails, no_longer, with_none}
 use Rattle.serde_json_path_parser.proofs.Texts.{is_ahead}
-use Rattle.serde_json_path_parser.proofs.Words.{numbers_view, drop, ◌∙◌, [], Err, refl, sym, ap, option_map, arith, true≢false, past_blanks, string_bytes, nil_from_length, err_from_is_err_and, literal_view, operator_view, an_operand, logical_argument, call, signature_view, and_list, or_list, signatures, deeper, begins, is_at, opens, literal, called, left, common_steps, selector_list, read_segments, segment_list, read_named_call, queried, AreAndPartsOf, AreOrPartsOf, AreSelectorsOf, map, kind_view, read_argument, segment_kind_view, query_kind_view, operand, true, false}
+use Rattle.serde_json_path_parser.proofs.Words.{numbers_view, drop, ◌∙◌, [], Err, refl, sym, ap, option_map, arith, true≢false, past_blanks, string_bytes, nil_from_length, err_from_is_err_and, literal_view, operator_view, an_operand, logical_argument, call, signature_view, and_list, or_list, signatures, deeper, begins, is_at, opens, literal, called, left, common_steps, selector_list, read_segments, segment_list, read_named_call, queried, AreAndPartsOf, AreOrPartsOf, AreSelectorsOf, map, kind_view, read_argument, segment_kind_view, query_kind_view, operand, true, false, paren, query, long_hand, relation, filter}
 use Rattle.serde_json_path_parser.specs.Inside.Giving.{read_filter}
 use Rattle.serde_json_path_parser.proofs.Steps.{number_reads, no_literal, operand_of, comparable_read, none_made, one_more, first_refused, first_open, literal_word_reads, level_down, at_mark, grows_none, grows_leaf, grows_kept, grows_then, grows_call, grown_so, made_as, begins_row, row_fails, row_shorter, row_goes_on, row_done, segments_stand, selectors_stand, ors_stand, ands_stand, segment_shorter, some_parts}
 use Rattle.serde_json_path_parser.proofs.parser.Parser.+filters.Goals.{parse_operand-in_default-via-in-Some+in_default+then-this-lt97, parse_operand-in_default-via-in-Some+in_default+else-this-lt97+else-this-lt123, parse_operand-in_default-via-in_default}
 use Rattle.serde_json_path_parser.proofs.parser.Parser.+filters.Goals as goal
-use Rattle.serde_json_path_syntax.specs.Tree as tree
 
 pub parse_and_from-parts-init : goal.parse_and_from-parts-init
 parse_and_from-parts-init g t c = record {
@@ -111,7 +110,7 @@ parse_arguments-returns-then-not-sees-clause-gives g t c =
 pub parse_basic-returns-then-sees-clause-gives : goal.parse_basic-returns-then-sees-clause-gives
 parse_basic-returns-then-sees-clause-gives g t c =
     let inner = c.in_ok-inner.ensures.gives in
-    (tree.paren false inner.0, c.in_ok-paren.ensures.made inner.0 inner.1, grind (arith, common_steps), grows_kept inner.3 c.paren.ensures.keeps)
+    (paren false inner.0, c.in_ok-paren.ensures.made inner.0 inner.1, grind (arith, common_steps), grows_kept inner.3 c.paren.ensures.keeps)
 
 pub parse_basic_from-returns-in_default-clause-gives : goal.parse_basic_from-returns-in_default-clause-gives
 parse_basic_from-returns-in_default-clause-gives g t c = λ x is. rw (c.in_default.ensures.value, ← c.in_default.ensures.stays refl) (c.as_test.ensures.gives x is)
@@ -133,7 +132,7 @@ parse_basic_from-returns-clause-gives g t c = λ x is.
     let a = c.in_ok-check_comparable.ensures.gives x is in
     let o = c.in_ok-right.ensures.gives in
     let b = rw c.bytes_left-right_place.ensures.value at (c.in_ok-check_comparable-2.ensures.gives o.0 o.1) in (
-      tree.relation x (operator_view c.in-Some.operator) o.0,
+      relation x (operator_view c.in-Some.operator) o.0,
       c.in_ok-relation.ensures.made x o.0 (o.3.trees c.args.operand (an_operand x) is.0) o.1.0,
       rw (c.in-Some.ensures.value, ← c.skip_blanks.ensures.left, a, o.2, b) refl,
       λ before grown. grows_kept (grows_then grown o.3) c.relation.ensures.keeps,
@@ -143,7 +142,7 @@ pub parse_bracket-returns-clause-gives : goal.parse_bracket-returns-clause-gives
 parse_bracket-returns-clause-gives g t c =
     let read = c.in_ok-selectors.ensures.gives in
     let sels = selector_list read.0 in
-    ((segment_kind_view c.args.kind, tree.long_hand sels), c.in_ok-long_hand.ensures.made sels read.1, grind (arith, common_steps), grows_kept read.3 c.long_hand.ensures.keeps)
+    ((segment_kind_view c.args.kind, long_hand sels), c.in_ok-long_hand.ensures.made sels read.1, grind (arith, common_steps), grows_kept read.3 c.long_hand.ensures.keeps)
 
 pub parse_call-returns-in_default-clause-gives : goal.parse_call-returns-in_default-clause-gives
 parse_call-returns-in_default-clause-gives g t c =
@@ -191,7 +190,7 @@ parse_named-returns-in-Some-clause-gives g t c =
 pub parse_negated-returns-then-sees-clause-gives : goal.parse_negated-returns-then-sees-clause-gives
 parse_negated-returns-then-sees-clause-gives g t c =
     let inner = c.in_ok-inner.ensures.gives in
-    (tree.paren true inner.0, c.in_ok-paren.ensures.made inner.0 inner.1, grind (arith, common_steps), grows_kept inner.3 c.paren.ensures.keeps)
+    (paren true inner.0, c.in_ok-paren.ensures.made inner.0 inner.1, grind (arith, common_steps), grows_kept inner.3 c.paren.ensures.keeps)
 
 pub parse_negated-returns-in-Literal-clause-gives : goal.parse_negated-returns-in-Literal-clause-gives
 parse_negated-returns-in-Literal-clause-gives g t c =
@@ -270,7 +269,7 @@ pub parse_query-returns-clause-gives : goal.parse_query-returns-clause-gives
 parse_query-returns-clause-gives g t c =
     let read = c.in_ok-parts.ensures.gives in
     let segs = segment_list read.0 in
-    (tree.query (query_kind_view c.args.kind) segs, c.in_ok-query.ensures.made segs read.2, grind (arith, common_steps), grows_kept read.6 c.query.ensures.keeps)
+    (query (query_kind_view c.args.kind) segs, c.in_ok-query.ensures.made segs read.2, grind (arith, common_steps), grows_kept read.6 c.query.ensures.keeps)
 
 pub parse_segments-segments-init : goal.parse_segments-segments-init
 parse_segments-segments-init g t c = record {
@@ -335,7 +334,7 @@ parse_selector-returns-in_err-test-clause-gives g t c =
 pub parse_selector-returns-then-sees-clause-gives : goal.parse_selector-returns-then-sees-clause-gives
 parse_selector-returns-then-sees-clause-gives g t c =
     let read = c.in_ok-test.ensures.gives in
-    (tree.filter read.0, c.in_ok-filter.ensures.made read.0 read.1, rw (at_mark (numbers_view c.args.self.now.numbers) (signatures g.F.Functions.set c.args.self.now) (deeper g.F.Functions.set c.args.self.now) (left c.args.reader.now) (sym c.sees.ensures ∙ c.if-sees.true), read.2) refl, grows_kept read.3 c.filter.ensures.keeps)
+    (filter read.0, c.in_ok-filter.ensures.made read.0 read.1, rw (at_mark (numbers_view c.args.self.now.numbers) (signatures g.F.Functions.set c.args.self.now) (deeper g.F.Functions.set c.args.self.now) (left c.args.reader.now) (sym c.sees.ensures ∙ c.if-sees.true), read.2) refl, grows_kept read.3 c.filter.ensures.keeps)
 
 pub parse_selectors-selectors-init : goal.parse_selectors-selectors-init
 parse_selectors-selectors-init g t c =

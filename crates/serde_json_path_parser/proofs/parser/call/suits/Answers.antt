@@ -1,4 +1,4 @@
-use Rattle.std.proofs.Common.{sym}
+use Rattle.serde_json_path_parser.proofs.Words.{sym}
 use Rattle.serde_json_path_parser.proofs.Steps.{singular_by}
 use Rattle.serde_json_path_parser.proofs.parser.call.suits.Goals as goal
 

@@ -1,4 +1,4 @@
-use Rattle.std.proofs.Common.{rules, ◌<◌, ◌+◌, length, refl, ◌∙◌}
+use Rattle.serde_json_path_parser.proofs.Words.{rules, ◌<◌, ◌+◌, length, refl, ◌∙◌}
 use Rattle.serde_json_path_parser.proofs.Texts as d
 use Rattle.serde_json_path_parser.proofs.parser.decode.wide_character_at.Goals as goal
 

@@ -1,4 +1,4 @@
-use Rattle.std.proofs.Common.{sym, ◌∙◌}
+use Rattle.serde_json_path_parser.proofs.Words.{sym, ◌∙◌}
 use Rattle.serde_json_path_parser.proofs.Texts.{ahead, ascii_begun}
 use Rattle.serde_json_path_parser.proofs.parser.reader.Reader.sees_both.Goals as goal
 
