@@ -155,7 +155,7 @@ literal_of _ = null
 abbrev pub held_view : held.LiteralValue → Literal
 held_view (Value v) = literal_of (view v)
 held_view (Number n) = tree.number (number_amount n)
-held_view (Decimal d) = tree.decimal (decimal_view d.decimal)
+held_view (Decimal d) = tree.decimal (decimal_view d.value.decimal)
 
 abbrev pub operand_of : List Branch → operands.Operand → Operand
 operand_of earlier (one_operand.Literal l) = literal (held_view l)

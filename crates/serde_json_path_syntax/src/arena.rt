@@ -27,6 +27,11 @@ impl Arena {
         }
     }
 
+    /// Where the nodes take their memory.
+    pub(crate) fn allocator(&self) -> Global {
+        *self.nodes.allocator()
+    }
+
     /// Appends a node whose children already exist.
     // Inlined, so that a caller writes the node straight into the vector.
     #[inline(always)]

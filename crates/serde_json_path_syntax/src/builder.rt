@@ -224,7 +224,8 @@ impl SyntaxBuilder {
             IsPart self.new part (an_operand (tree.literal (literal_view literal)))) }
         ensures keeps { KeepsParts self.old self.new }
     {
-        self.push(Node::Operand(Operand::Literal(literal.held())))
+        let literal = literal.held(self.arena.allocator())?;
+        self.push(Node::Operand(Operand::Literal(literal)))
     }
 
     /// A query as an operand (RFC 9535, section 2.3.5.1).

@@ -229,7 +229,7 @@ fn same_literal(literal: &LiteralValue, other: &LiteralValue) -> bool
             number.billionths() == other.billionths()
         }
         (LiteralValue::Decimal(held), LiteralValue::Decimal(other)) => {
-            held.decimal == other.decimal
+            held.as_ref().decimal == other.as_ref().decimal
         }
         (LiteralValue::Value(value), LiteralValue::Value(other)) => match (value, other) {
             (Value::String(text), Value::String(other)) => text == other,

@@ -1,6 +1,6 @@
 //! Literals of filters (RFC 9535, section 2.3.5.1).
 
-ghost use Rattle.std.specs.Prelude.{◌≡◌, Some};
+ghost use Rattle.std.specs.Prelude.{◌≡◌, IfOk, Some};
 ghost use Rattle.serde_json.specs.Data.{float, number};
 ghost use Rattle.serde_json.specs.View.{view};
 ghost use Rattle.serde_json_path_numbers.specs.Decimals.{decimal_number};
@@ -10,7 +10,7 @@ ghost use Rattle.serde_json_path_syntax.specs.WellFormed.{IsLiteralAmount, doubl
 
 use serde_json::Value;
 use serde_json_path_numbers::{Decimal, ExactNumber, literal_double};
-use std::alloc::AllocError;
+use std::alloc::{AllocError, Global};
 
 /// One, in billionths.
 pub(crate) const ONE: i128 = 1_000_000_000;
@@ -110,20 +110,20 @@ pub enum Literal {
 }
 
 impl Literal {
-    ghost use Rattle.serde_json_path_syntax.specs.Words.{◌≡◌, true, held_view, literal_fits, literal_view};
+    ghost use Rattle.serde_json_path_syntax.specs.Words.{◌≡◌, IfOk, true, held_view, literal_fits, literal_view};
 
-    /// The literal as a tree holds it.
-    pub(crate) fn held(self) -> LiteralValue
-        ensures means { held_view result ≡ literal_view self }
-        ensures fits { literal_fits result ≡ true }
+    /// The literal as a tree holds it. An error comes only where memory is refused.
+    pub(crate) fn held(self, alloc: Global) -> Result<LiteralValue, AllocError>
+        ensures means { IfOk result (λ held. held_view held ≡ literal_view self) }
+        ensures fits { IfOk result (λ held. literal_fits held ≡ true) }
     {
-        match self {
+        Ok(match self {
             Literal::String(text) => LiteralValue::Value(Value::String(text)),
             Literal::Number(number) => LiteralValue::Number(number),
-            Literal::Decimal(decimal) => LiteralValue::Decimal(HeldDecimal::new(decimal)),
+            Literal::Decimal(decimal) => LiteralValue::Decimal(HeldDecimal::new(alloc, decimal)?),
             Literal::Bool(truth) => LiteralValue::Value(Value::Bool(truth)),
             Literal::Null => LiteralValue::Value(Value::Null),
-        }
+        })
     }
 }
 
@@ -136,12 +136,12 @@ pub struct HeldDecimal {
 }
 
 impl HeldDecimal {
-    /// The decimal with its value.
-    pub(crate) fn new(decimal: Decimal) -> HeldDecimal
-        ensures { result.decimal ≡ decimal }
+    /// The decimal with its value, in a box, as most literals are smaller. An error comes only where memory is refused.
+    pub(crate) fn new(alloc: Global, decimal: Decimal) -> Result<Box<HeldDecimal>, AllocError>
+        ensures { IfOk result (λ held. held.value.decimal ≡ decimal) }
     {
         let value = Value::from(decimal.double());
-        HeldDecimal { decimal, value }
+        Ok(Box::new(alloc, HeldDecimal { decimal, value })?)
     }
 
     /// The double nearest to the literal, as a document would hold it.
@@ -162,7 +162,7 @@ pub enum LiteralValue {
     /// A number.
     Number(NumberLiteral),
     /// A number as the double nearest to it.
-    Decimal(HeldDecimal),
+    Decimal(Box<HeldDecimal>),
 }
 
 impl LiteralValue {
@@ -177,7 +177,8 @@ impl LiteralValue {
             LiteralValue::Value(value) => Ok(LiteralValue::Value(value.clone()?)),
             LiteralValue::Number(number) => Ok(LiteralValue::Number(*number)),
             LiteralValue::Decimal(held) => {
-                Ok(LiteralValue::Decimal(HeldDecimal::new(held.decimal)))
+                let copy = HeldDecimal::new(*Box::allocator(held), held.as_ref().decimal)?;
+                Ok(LiteralValue::Decimal(copy))
             }
         }
     }

@@ -83,7 +83,7 @@ fn argument_as<'x, 'q: 'x, 'b: 'x, F: Functions>(
                 Ok(FunctionValue::Value(ValueType::Value(number.value())))
             }
             Operand::Literal(LiteralValue::Decimal(held)) => {
-                let literal: &'x Value = held.value();
+                let literal: &'x Value = held.as_ref().value();
                 Ok(FunctionValue::Value(ValueType::Node(literal)))
             }
             Operand::Query(query) => result_as(scope, *query, kind, current),

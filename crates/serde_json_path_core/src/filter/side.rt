@@ -44,7 +44,7 @@ pub(crate) fn side_of_literal(literal: &LiteralValue) -> Side<'_>
     match literal {
         LiteralValue::Value(value) => Side::Value(value),
         LiteralValue::Number(number) => Side::Number(number),
-        LiteralValue::Decimal(held) => Side::Value(held.value()),
+        LiteralValue::Decimal(held) => Side::Value(held.as_ref().value()),
     }
 }
 

@@ -80,7 +80,7 @@ pub(crate) fn write_literal<W: Write>(f: &mut Formatter<W>, literal: &LiteralVal
 {
     match literal {
         LiteralValue::Number(number) => write!(f, "{number}"),
-        LiteralValue::Decimal(held) => write!(f, "{}", held.decimal),
+        LiteralValue::Decimal(held) => write!(f, "{}", held.as_ref().decimal),
         LiteralValue::Value(Value::String(text)) => write!(f, "{}", Quoted(text.as_str())),
         LiteralValue::Value(Value::Bool(true)) => f.write_str("true"),
         LiteralValue::Value(Value::Bool(false)) => f.write_str("false"),
