@@ -1,0 +1,216 @@
+-- A plan grows by rows for the queries in a part of a tree.
+use Rattle.std.proofs.Common.{◌≡◌, ℕ, List, [], ◌∷◌, ◌++◌, ◌+◌, ◌<◌, ◌≤◌, length, take, drop, get_or, true, Result, Ok, Err, IfOk, ◌⊎◌, refl, sym, ap, subst, ◌∙◌, inl, inr, add-one, drop-cons, arith}
+use Rattle.std.specs.Int.Bits.{bit_or}
+use Rattle.serde_json_path_syntax.specs.Branch.{Branch, a_query, a_segment, a_selector, an_or, an_and, a_basic, an_operand, a_call}
+use Rattle.serde_json_path_syntax.specs.Flat.{branch_at, branch_in, branches_named, segments_at, segment_kind_in, segment_in, selector_in, or_in, and_in, basic_in, operand_in, call_in, argument_in, selectors_in, ors_in, ands_in, arguments_in}
+use Rattle.serde_json_path_syntax.specs.Lists.{IsIn}
+use Rattle.serde_json_path_syntax.specs.Tree.{root, current, Query, query, Segments, no_segments, segment, SegmentKind, descendant}
+use Rattle.serde_json_path_core.proofs.Words.{in_append, take_more, map-append, flat_map-append, append-nil, drop_all}
+use Rattle.serde_json_path_syntax.specs.declared.node.Node.{Node}
+use Rattle.serde_json_path_syntax.specs.declared.node.Part.{Part}
+use Rattle.serde_json_path_reach.specs.Inside.Queries.{queries_of, queries_in_segments, queries_in_segment, queries_in_selectors, queries_in_selector, queries_in_or, queries_in_and, queries_in_basic, queries_in_operand, queries_in_call, queries_in_arguments, queries_in_argument, queries_in_branch, queries_in_branches}
+use Rattle.serde_json_path_reach.specs.Inside.Rows.{Includes, IsRight, AreRight, Covers, Grows, Gains, AddsRow, kind_of_row, segment_of_row, rest_of_row}
+use Rattle.serde_json_path_reach.specs.declared.plan.Plan.{Plan}
+use Rattle.serde_json_path_reach.specs.declared.row.Row.{Row}
+use Rattle.serde_json_path_reach.proofs.Rows.{meets_itself, includes_more, includes_left, includes_right}
+
+pub if_ok : {A E : Type 0} (P Q : A → Type 0) (r : Result A E) → ((a : A) → P a → Q a) → IfOk r P → IfOk r Q
+if_ok P Q (Ok a) f h = f a h
+if_ok P Q (Err e) f h = h
+
+-- ---- what a part of another kind stands for has no query in it, so what a part has is in its branch
+
+segment_there : (b : Branch) (q : Query) → IsIn q (queries_in_segment (segment_in b)) → IsIn q (queries_in_branch b)
+segment_there (a_segment kind seg) q h = h
+segment_there _ q h = absurd h
+
+selector_there : (b : Branch) (q : Query) → IsIn q (queries_in_selector (selector_in b)) → IsIn q (queries_in_branch b)
+selector_there (a_selector sel) q h = h
+selector_there _ q h = absurd h
+
+or_there : (b : Branch) (q : Query) → IsIn q (queries_in_or (or_in b)) → IsIn q (queries_in_branch b)
+or_there (an_or e) q h = h
+or_there _ q h = absurd h
+
+and_there : (b : Branch) (q : Query) → IsIn q (queries_in_and (and_in b)) → IsIn q (queries_in_branch b)
+and_there (an_and e) q h = h
+and_there _ q h = absurd h
+
+basic_there : (b : Branch) (q : Query) → IsIn q (queries_in_basic (basic_in b)) → IsIn q (queries_in_branch b)
+basic_there (a_basic e) q h = h
+basic_there _ q h = absurd h
+
+operand_there : (b : Branch) (q : Query) → IsIn q (queries_in_operand (operand_in b)) → IsIn q (queries_in_branch b)
+operand_there (an_operand o) q h = h
+operand_there _ q h = absurd h
+
+call_there : (b : Branch) (q : Query) → IsIn q (queries_in_call (call_in b)) → IsIn q (queries_in_branch b)
+call_there (a_call c) q h = h
+call_there _ q h = absurd h
+
+argument_there : (b : Branch) (q : Query) → IsIn q (queries_in_argument (argument_in b)) → IsIn q (queries_in_branch b)
+argument_there (an_or e) q h = h
+argument_there (an_operand o) q h = h
+argument_there _ q h = absurd h
+
+both_there : (q : Query) (xs ys us vs : List Query) → (IsIn q xs → IsIn q us) → (IsIn q ys → IsIn q vs) → IsIn q (xs ++ ys) → IsIn q (us ++ vs)
+both_there q xs ys us vs f g h = (in_append q us vs).1 (elim ((in_append q xs ys).0 h) [ inl i ↦ inl (f i) | inr i ↦ inr (g i) ])
+
+pub selectors_there : (bs : List Branch) (q : Query) → IsIn q (queries_in_selectors (selectors_in bs)) → IsIn q (queries_in_branches bs)
+selectors_there [] q h = h
+selectors_there (b ∷ bs) q h =
+    both_there q (queries_in_selector (selector_in b)) (queries_in_selectors (selectors_in bs)) (queries_in_branch b) (queries_in_branches bs) (selector_there b q) (selectors_there bs q) h
+
+pub ors_there : (bs : List Branch) (q : Query) → IsIn q (queries_in_or (ors_in bs)) → IsIn q (queries_in_branches bs)
+ors_there [] q h = h
+ors_there (b ∷ bs) q h =
+    both_there q (queries_in_and (and_in b)) (queries_in_or (ors_in bs)) (queries_in_branch b) (queries_in_branches bs) (and_there b q) (ors_there bs q) h
+
+pub ands_there : (bs : List Branch) (q : Query) → IsIn q (queries_in_and (ands_in bs)) → IsIn q (queries_in_branches bs)
+ands_there [] q h = h
+ands_there (b ∷ bs) q h =
+    both_there q (queries_in_basic (basic_in b)) (queries_in_and (ands_in bs)) (queries_in_branch b) (queries_in_branches bs) (basic_there b q) (ands_there bs q) h
+
+pub arguments_there : (bs : List Branch) (q : Query) → IsIn q (queries_in_arguments (arguments_in bs)) → IsIn q (queries_in_branches bs)
+arguments_there [] q h = h
+arguments_there (b ∷ bs) q h =
+    both_there q (queries_in_argument (argument_in b)) (queries_in_arguments (arguments_in bs)) (queries_in_branch b) (queries_in_branches bs) (argument_there b q) (arguments_there bs q) h
+
+pub sides_there : (b c : Branch) (q : Query) → IsIn q (queries_in_operand (operand_in b) ++ queries_in_operand (operand_in c)) → IsIn q (queries_in_branch b ++ queries_in_branch c)
+sides_there b c q h =
+    both_there q (queries_in_operand (operand_in b)) (queries_in_operand (operand_in c)) (queries_in_branch b) (queries_in_branch c) (operand_there b q) (operand_there c q) h
+
+-- ---- gains
+
+pub gains_none : (a : Plan) → Gains a a 0 []
+gains_none a = record {
+  right = λ r. r;
+  grows = record { by_rows = λ pending segs h. h; at_root = λ segs h. h };
+  covers = record { dollar = λ segs h. absurd h; at = λ segs h. absurd h };
+}
+
+pub gains_some : (a b : Plan) (m : ℕ) (qs rs : List Query) → ((q : Query) → IsIn q rs → IsIn q qs) → Gains a b m qs → Gains a b m rs
+gains_some a b m qs rs among h = record {
+  right = h.right;
+  grows = h.grows;
+  covers = record { dollar = λ segs i. h.covers.dollar segs (among (query root segs) i); at = λ segs i. h.covers.at segs (among (query current segs) i) };
+}
+
+pub gains_both : (a b c : Plan) (m n : ℕ) (qs rs : List Query) → Gains a b m qs → Gains b c n rs → Gains a c (bit_or m n) (qs ++ rs)
+gains_both a b c m n qs rs g h = record {
+  right = λ r. h.right (g.right r);
+  grows = record { by_rows = λ pending segs i. h.grows.by_rows pending segs (g.grows.by_rows pending segs i); at_root = λ segs i. h.grows.at_root segs (g.grows.at_root segs i) };
+  covers = record {
+    dollar = λ segs i. elim ((in_append (query root segs) qs rs).0 i) [ inl j ↦ h.grows.at_root segs (g.covers.dollar segs j) | inr j ↦ h.covers.dollar segs j ];
+    at = λ segs i. elim ((in_append (query current segs) qs rs).0 i) [
+      | inl j ↦ includes_left c.rows.items m n segs (h.grows.by_rows m segs (g.covers.at segs j))
+      | inr j ↦ includes_right c.rows.items m n segs (h.covers.at segs j)
+    ];
+  };
+}
+
+-- a query by `@` is pending where it is asked
+pub gains_current : (a b : Plan) (first asked : ℕ) (segs : Segments) → Includes b.rows.items first segs → Gains a b asked (queries_in_segments segs)
+    → Gains a b (bit_or first asked) (queries_of (query current segs))
+gains_current a b first asked segs here h = record {
+  right = h.right;
+  grows = h.grows;
+  covers = record {
+    dollar = λ more. elim [ inl e ↦ absurd cc | inr i ↦ h.covers.dollar more i ];
+    at = λ more. elim [
+      | inl e ↦ let same : segs ≡ more = cc in includes_left b.rows.items first asked more (subst (Includes b.rows.items first) same here)
+      | inr i ↦ includes_right b.rows.items first asked more (h.covers.at more i)
+    ];
+  };
+}
+
+-- what more is pending at the root
+pub gains_root : (a b c : Plan) (first asked : ℕ) (segs : Segments) → c.rows.items ≡ b.rows.items → c.at_root ≡ bit_or b.at_root first
+    → Includes b.rows.items first segs → Gains a b asked (queries_in_segments segs) → Gains a c asked (queries_of (query root segs))
+gains_root a b c first asked segs rows at_root here h =
+    let kept = λ (pending : ℕ) (more : Segments) (i : Includes b.rows.items pending more). subst (λ (rs : List Row). Includes rs pending more) (sym rows) i in
+    let added = λ (more : Segments) (i : Includes b.rows.items (bit_or b.at_root first) more). subst (λ (bits : ℕ). Includes c.rows.items bits more) (sym at_root) (kept (bit_or b.at_root first) more i) in
+    record {
+      right = λ r. subst AreRight (sym rows) (h.right r);
+      grows = record {
+        by_rows = λ pending more i. kept pending more (h.grows.by_rows pending more i);
+        at_root = λ more i. added more (includes_left b.rows.items b.at_root first more (h.grows.at_root more i));
+      };
+      covers = record {
+        dollar = λ more. elim [
+          | inl e ↦ let same : segs ≡ more = cc in added more (includes_right b.rows.items b.at_root first more (subst (Includes b.rows.items first) same here))
+          | inr i ↦ added more (includes_left b.rows.items b.at_root first more (h.covers.dollar more i))
+        ];
+        at = λ more. elim [ inl e ↦ absurd cc | inr i ↦ kept asked more (h.covers.at more i) ];
+      };
+    }
+
+-- one more row
+module _ (rows : List Row) (row : Row) where
+  among : (r : Row) → IsIn r rows → IsIn r (rows ++ row ∷ [])
+  among r i = (in_append r rows (row ∷ [])).1 (inl i)
+
+  pub still_included : (pending : ℕ) (segs : Segments) → Includes rows pending segs → Includes (rows ++ row ∷ []) pending segs
+  still_included pending segs h = includes_more rows (rows ++ row ∷ []) pending pending among (λ m g. g) segs h
+
+  still_right : (r : Row) → IsRight rows r → IsRight (rows ++ row ∷ []) r
+  still_right r h = record { next = record { rest = still_included r.next _ h.next.rest; asked = λ segs i. still_included r.next segs (h.next.asked segs i) }; again = h.again }
+
+  all_right : IsRight rows row → AreRight rows → AreRight (rows ++ row ∷ [])
+  all_right here right r i = elim ((in_append r rows (row ∷ [])).0 i) [
+    | inl j ↦ still_right r (right r j)
+    | inr j ↦ elim j [ inl e ↦ subst (IsRight (rows ++ row ∷ [])) (sym e) (still_right row here) | inr never ↦ absurd never ]
+  ]
+
+pub gains_row : (a b : Plan) (row : Row) → b.rows.items ≡ a.rows.items ++ row ∷ [] → b.at_root ≡ a.at_root → IsRight a.rows.items row → Gains a b 0 []
+gains_row a b row rows at_root right =
+    let kept = λ (pending : ℕ) (segs : Segments) (i : Includes a.rows.items pending segs). subst (λ (rs : List Row). Includes rs pending segs) (sym rows) (still_included a.rows.items row pending segs i) in
+    record {
+      right = λ r. subst AreRight (sym rows) (all_right a.rows.items row right r);
+      grows = record { by_rows = kept; at_root = λ segs i. subst (λ (bits : ℕ). Includes b.rows.items bits segs) (sym at_root) (kept a.at_root segs i) };
+      covers = record { dollar = λ segs h. absurd h; at = λ segs h. absurd h };
+    }
+
+pub adds_row : (a b : Plan) (before : List Row) (row : Row) → b.rows.items ≡ before ++ row ∷ [] → before ≡ a.rows.items → b.at_root ≡ a.at_root → 0 < row.bit → (kind_of_row row ≡ descendant → row.again ≡ row.bit)
+    → AddsRow a b (kind_of_row row) (segment_of_row row) (rest_of_row row) row.next row.bit
+adds_row a b before row grown same at_root some again next = let rows = grown ∙ ap (λ rs. rs ++ row ∷ []) same in (
+  gains_row a b row rows at_root (record { next = next; again = λ down. rw (again down) (meets_itself row.bit some) }),
+  inr (row, subst (IsIn row) (sym rows) ((in_append row a.rows.items (row ∷ [])).1 (inr (inl refl))), meets_itself row.bit some, refl),
+)
+
+-- a segment, its filters' queries and its row
+pub gains_segment : (a b c d : Plan) (m n first bit : ℕ) (branch : Branch) (kind : SegmentKind) (more : Segments)
+    → Gains a b m (queries_in_segments more) → Includes b.rows.items first more → Gains b c n (queries_in_branch branch)
+    → AddsRow c d kind (segment_in branch) more (bit_or first n) bit
+    → Gains a d (bit_or m n) (queries_in_segment (segment_in branch) ++ queries_in_segments more) × Includes d.rows.items bit (segment kind (segment_in branch) more)
+gains_segment a b c d m n first bit branch kind more g here h adds =
+    let (k, pending) = adds (record {
+      rest = includes_left c.rows.items first n more (h.grows.by_rows first more here);
+      asked = λ segs i. includes_right c.rows.items first n segs (h.covers.at segs (segment_there branch (query current segs) i));
+    }) in
+    let both = gains_both a b c m n (queries_in_segments more) (queries_in_branch branch) g h in
+    let swapped = gains_some a c (bit_or m n) (queries_in_segments more ++ queries_in_branch branch) (queries_in_segment (segment_in branch) ++ queries_in_segments more) (λ q i.
+    (in_append q (queries_in_segments more) (queries_in_branch branch)).1 (elim ((in_append q (queries_in_segment (segment_in branch)) (queries_in_segments more)).0 i) [
+      | inl j ↦ inr (segment_there branch q j)
+      | inr j ↦ inl j
+    ])) both in (
+      record {
+        right = λ r. k.right (swapped.right r);
+        grows = record { by_rows = λ pending segs i. k.grows.by_rows pending segs (swapped.grows.by_rows pending segs i); at_root = λ segs i. k.grows.at_root segs (swapped.grows.at_root segs i) };
+        covers = record { dollar = λ segs i. k.grows.at_root segs (swapped.covers.dollar segs i); at = λ segs i. k.grows.by_rows (bit_or m n) segs (swapped.covers.at segs i) };
+      },
+      pending,
+    )
+
+-- ---- parts in order
+
+pub one_more_part : (bs : List Branch) (parts : List Part) (i : ℕ) (d : Part) → i < length parts
+    → queries_in_branches (branches_named bs (take (i + 1) parts)) ≡ queries_in_branches (branches_named bs (take i parts)) ++ queries_in_branch (branch_in bs (get_or parts i d).number)
+one_more_part bs parts i d h = ap (λ ps. queries_in_branches (branches_named bs ps)) (take_more parts i d h) ∙ simp (map-append, flat_map-append, append-nil)
+
+pub first_part : (nodes : List Node) (parts : List Part) (i : ℕ) (d : Part) → i < length parts
+    → segments_at nodes (drop i parts) ≡ segment (segment_kind_in (branch_at nodes (get_or parts i d).number)) (segment_in (branch_at nodes (get_or parts i d).number)) (segments_at nodes (drop (i + 1) parts))
+first_part nodes parts i d h = rw (add-one, drop-cons parts i d) refl
+
+pub no_part : (nodes : List Node) (parts : List Part) → segments_at nodes (drop (length parts) parts) ≡ no_segments
+no_part nodes parts = let end : length parts ≤ length parts = omega arith in ap (segments_at nodes) (drop_all (length parts) parts end)

@@ -1,0 +1,170 @@
+-- What a reader's loops over items and members have kept so far.
+use Rattle.std.proofs.Common.{◌≡◌, ℕ, zero, suc, ◌+◌, List, [], ◌∷◌, ◌++◌, Bool, true, false, Option, Some, None, if◌then◌else◌, ◌⊎◌, Ordering, Less, Equal, Greater, nat_cmp, is_eq, refl, sym, ap, subst, ◌∙◌, inl, inr, arith}
+use Rattle.json.specs.Token.{Token}
+use Rattle.json.specs.Json.{parse_map}
+use Rattle.serde_json.specs.Data.{Data, null, array, object, Items, no_items, item, Members, no_members, member, put}
+use Rattle.serde_json.specs.Events.{items_len}
+use Rattle.serde_json_path_nodes.specs.Location.{Step, by_name, by_position}
+use Rattle.serde_json_path_core.proofs.Words.{slice_cmp, match_ordering, is_eq-slice_cmp, bytes_eq-Decides, cases_Bool}
+use Rattle.serde_json_path_reach.specs.Inside.Bits.{is_whole}
+use Rattle.serde_json_path_reach.specs.Inside.Kept.{in_place, in_places, any_kept, kept_object, kept_member, items_inside, members_inside, kept}
+
+-- the items of both
+abbrev pub joined : Items → Items → Items
+joined no_items more = more
+joined (item d ds) more = item d (joined ds more)
+
+abbrev pub nulls : ℕ → Items
+nulls zero = no_items
+nulls (suc n) = item null (nulls n)
+
+abbrev pub has_items : Items → Bool
+has_items no_items = false
+has_items (item d ds) = true
+
+joined-nil : (ds : Items) → joined ds no_items ≡ ds
+joined-nil no_items = refl
+joined-nil (item d ds) = ap (item d) (joined-nil ds)
+
+pub joined-joined : (a b c : Items) → joined (joined a b) c ≡ joined a (joined b c)
+joined-joined no_items b c = refl
+joined-joined (item d a) b c = ap (item d) (joined-joined a b c)
+
+one_more_null : (n : ℕ) → joined (nulls n) (item null no_items) ≡ nulls (suc n)
+one_more_null zero = refl
+one_more_null (suc n) = ap (item null) (one_more_null n)
+
+has_joined : (a b : Items) (e : Data) → has_items (joined a (joined b (item e no_items))) ≡ true
+has_joined no_items no_items e = refl
+has_joined no_items (item d b) e = refl
+has_joined (item d a) b e = refl
+
+in_places-append : (os ps : List (Option Data)) → in_places (os ++ ps) ≡ joined (in_places os) (in_places ps)
+in_places-append [] ps = refl
+in_places-append (o ∷ os) ps = ap (item (in_place o)) (in_places-append os ps)
+
+any_kept-none : (os : List (Option Data)) → any_kept (os ++ None ∷ []) ≡ any_kept os
+any_kept-none [] = refl
+any_kept-none (None ∷ os) = any_kept-none os
+any_kept-none (Some d ∷ os) = refl
+
+any_kept-some : (os : List (Option Data)) (d : Data) → any_kept (os ++ Some d ∷ []) ≡ true
+any_kept-some [] d = refl
+any_kept-some (None ∷ os) d = any_kept-some os d
+any_kept-some (Some e ∷ os) d = refl
+
+pub items_turn : (done : Items) (d : Data) (rest : Option (Items × List Token)) → parse_map (joined done) (parse_map (item d) rest) ≡ parse_map (joined (joined done (item d no_items))) rest
+items_turn done d None = refl
+items_turn done d (Some p) = ap (λ ds. Some (ds, p.1)) (sym (joined-joined done (item d no_items) p.0))
+
+pub items_done : (done : Items) (rest : List Token) → parse_map (joined done) (Some (no_items, rest)) ≡ Some (done, rest)
+items_done done rest = ap (λ ds. Some (ds, rest)) (joined-nil done)
+
+same_text : (k l : List ℕ) → slice_cmp nat_cmp k l ≡ Equal → k ≡ l
+same_text k l e = (bytes_eq-Decides k l).0 (sym (is_eq-slice_cmp k l) ∙ ap is_eq e)
+
+pub next_place : (a : Items) (d : Data) → items_len (joined a (item d no_items)) ≡ suc (items_len a)
+next_place no_items d = refl
+next_place (item e a) d = ap suc (next_place a d)
+
+module _ (after : Step → ℕ → ℕ) where
+  -- one more item is read
+  one_more : (pending : ℕ) (i : ℕ) (done : Items) (d : Data)
+      → items_inside after pending i (joined done (item d no_items)) ≡ items_inside after pending i done ++ kept after (after (by_position (i + items_len done)) pending) d ∷ []
+  one_more pending i no_items d = let here : i ≡ i + 0 = omega arith in ap (λ n. kept after (after (by_position n) pending) d ∷ []) here
+  one_more pending i (item e done) d =
+      let next : suc i + items_len done ≡ i + suc (items_len done) = omega arith in
+      ap (λ os. kept after (after (by_position i) pending) e ∷ os)
+      (one_more pending (suc i) done d ∙ ap (λ n. items_inside after pending (suc i) done ++ kept after (after (by_position n) pending) d ∷ []) next)
+
+  -- Of the items that are read, `found` and then as many nulls as were passed are what is kept; nothing is found before
+  -- something is kept.
+  pub record AreSoFar (pending : ℕ) (done found : Items) (passed : ℕ) : Type 0 where
+    pub places : in_places (items_inside after pending 0 done) ≡ joined found (nulls passed)
+    pub any : any_kept (items_inside after pending 0 done) ≡ has_items found
+
+  pub none_so_far : (pending : ℕ) → AreSoFar pending no_items no_items 0
+  none_so_far pending = record { places = refl; any = refl }
+
+  -- an item of which nothing is kept
+  pub passed_one : (pending : ℕ) (done found : Items) (passed : ℕ) (d : Data) → AreSoFar pending done found passed
+      → kept after (after (by_position (items_len done)) pending) d ≡ None → AreSoFar pending (joined done (item d no_items)) found (suc passed)
+  passed_one pending done found passed d so_far dropped =
+      let os = items_inside after pending 0 done in
+      let next : items_inside after pending 0 (joined done (item d no_items)) ≡ os ++ None ∷ [] =
+      one_more pending 0 done d ∙ ap (λ n. os ++ kept after (after (by_position n) pending) d ∷ []) (omega arith) ∙ ap (λ o. os ++ o ∷ []) dropped in
+      record {
+        places = ap in_places next ∙ in_places-append os (None ∷ []) ∙ ap (λ xs. joined xs (item null no_items)) so_far.places
+            ∙ joined-joined found (nulls passed) (item null no_items) ∙ ap (joined found) (one_more_null passed);
+        any = ap any_kept next ∙ any_kept-none os ∙ so_far.any;
+      }
+
+  -- an item of which something is kept
+  pub found_one : (pending : ℕ) (done found : Items) (passed : ℕ) (d e : Data) → AreSoFar pending done found passed
+      → kept after (after (by_position (items_len done)) pending) d ≡ Some e
+      → AreSoFar pending (joined done (item d no_items)) (joined found (joined (nulls passed) (item e no_items))) 0
+  found_one pending done found passed d e so_far keeps =
+      let os = items_inside after pending 0 done in
+      let next : items_inside after pending 0 (joined done (item d no_items)) ≡ os ++ Some e ∷ [] =
+      one_more pending 0 done d ∙ ap (λ n. os ++ kept after (after (by_position n) pending) d ∷ []) (omega arith) ∙ ap (λ o. os ++ o ∷ []) keeps in
+      record {
+        places = ap in_places next ∙ in_places-append os (Some e ∷ []) ∙ ap (λ xs. joined xs (item e no_items)) so_far.places
+            ∙ joined-joined found (nulls passed) (item e no_items) ∙ sym (joined-nil (joined found (joined (nulls passed) (item e no_items))));
+        any = ap any_kept next ∙ any_kept-some os e ∙ sym (has_joined found (nulls passed) e);
+      }
+
+  -- a member of a name of which nothing is ever kept changes nothing
+  pub passed_member : (pending : ℕ) (k : List ℕ) (d : Data) (ms : Members) → ((c : Data) → kept after (after (by_name k) pending) c ≡ None)
+      → members_inside after pending (put k d ms) ≡ members_inside after pending ms
+  passed_member pending k d no_members dropped = rw (dropped d)
+  passed_member pending k d (member l e ms) dropped = by (slice_cmp nat_cmp k l) refl (passed_member pending k d ms dropped)
+    where
+      by : (o : Ordering) → slice_cmp nat_cmp k l ≡ o → members_inside after pending (put k d ms) ≡ members_inside after pending ms
+          → members_inside after pending (match_ordering o (member k d (member l e ms)) (member l d ms) (member l e (put k d ms))) ≡ members_inside after pending (member l e ms)
+      by Less is later = rw (dropped d)
+      by Equal is later =
+          let at_l = λ (c : Data). subst (λ m. kept after (after (by_name m) pending) c ≡ None) (same_text k l is) (dropped c) in
+          ap (λ o. kept_member l o (members_inside after pending ms)) (at_l d ∙ sym (at_l e))
+      by Greater is later = ap (kept_member l (kept after (after (by_name l) pending) e)) later
+
+module _ (after : Step → ℕ → ℕ) (stays : (s : Step) (pending : ℕ) → is_whole pending ≡ true → is_whole (after s pending) ≡ true) where
+  all_whole : (pending : ℕ) (i : ℕ) (ds : Items) → is_whole pending ≡ true → in_places (items_inside after pending i ds) ≡ ds
+  all_whole pending i no_items e = refl
+  all_whole pending i (item d ds) e = rw (stays (by_position i) pending e) (ap (item d) (all_whole pending (suc i) ds e))
+
+  -- the array that is kept, when all its items are read
+  pub array_kept : (pending : ℕ) (done found : Items) (passed : ℕ) → AreSoFar after pending done found passed
+      → kept after pending (array done) ≡ (if is_whole pending then Some (array (joined found (nulls passed)))
+      else if has_items found then Some (array (joined found (nulls passed))) else None)
+  array_kept pending done found passed so_far = elim (cases_Bool (is_whole pending)) [
+    | inl e ↦ rw e (ap (λ ds. Some (array ds)) (sym (all_whole pending 0 done e) ∙ so_far.places))
+    | inr e ↦ rw (e, so_far.any, so_far.places) refl
+  ]
+
+  pub array_dropped : (pending : ℕ) (done found : Items) (passed : ℕ) → AreSoFar after pending done found passed → is_whole pending ≡ false → has_items found ≡ false
+      → kept after pending (array done) ≡ None
+  array_dropped pending done found passed so_far e f = array_kept pending done found passed so_far ∙ rw (e, f) refl
+
+  pub array_found : (pending : ℕ) (done found : Items) (passed : ℕ) → AreSoFar after pending done found passed → (is_whole pending ≡ true) ⊎ (has_items found ≡ true)
+      → kept after pending (array done) ≡ Some (array (joined found (nulls passed)))
+  array_found pending done found passed so_far (inl e) = array_kept pending done found passed so_far ∙ rw e refl
+  array_found pending done found passed so_far (inr f) = array_kept pending done found passed so_far ∙ rw f (either (is_whole pending) (array (joined found (nulls passed))))
+    where
+      either : (b : Bool) (d : Data) → (if b then Some d else Some d) ≡ Some d
+      either true d = refl
+      either false d = refl
+
+  members_whole : (pending : ℕ) (ms : Members) → is_whole pending ≡ true → members_inside after pending ms ≡ ms
+  members_whole pending no_members e = refl
+  members_whole pending (member k d ms) e = rw (stays (by_name k) pending e) (ap (member k d) (members_whole pending ms e))
+
+  pub object_dropped : (pending : ℕ) (done : Members) → members_inside after pending done ≡ no_members → is_whole pending ≡ false → kept after pending (object done) ≡ None
+  object_dropped pending done is e = rw (e, is) refl
+
+  pub object_found : (pending : ℕ) (done found : Members) → members_inside after pending done ≡ found → (is_whole pending ≡ true) ⊎ (kept_object found ≡ Some (object found))
+      → kept after pending (object done) ≡ Some (object found)
+  object_found pending done found is (inl e) = rw e (ap (λ ms. Some (object ms)) (sym (members_whole pending done e) ∙ is))
+  object_found pending done found is (inr f) = elim (cases_Bool (is_whole pending)) [
+    | inl e ↦ rw e (ap (λ ms. Some (object ms)) (sym (members_whole pending done e) ∙ is))
+    | inr e ↦ rw (e, is) f
+  ]

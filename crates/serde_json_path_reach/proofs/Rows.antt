@@ -1,0 +1,204 @@
+-- What is pending by the rows of a plan: what their segments come by is pending after each step.
+use Rattle.std.proofs.Common.{◌≡◌, ℕ, suc, ◌<◌, List, [], ◌∷◌, Bool, true, false, true≢false, Option, Some, None, ◌⊎◌, refl, sym, ap, subst, ◌∙◌, inl, inr, arith}
+use Rattle.std.specs.Prelude.{◌==◌, ◌||◌, min, max, if◌then◌else◌}
+use Rattle.std.specs.Int.{bit_at}
+use Rattle.std.specs.Int.Bits.{bit_and, bit_or}
+use Rattle.std.proofs.lemmas.Nat.Bits.{bit_at_and, bit_at_or, bit_at-zero, same_from_bits}
+use Rattle.serde_json.specs.Data.{Data, array, object, Items, no_items, item, Members, no_members, member}
+use Rattle.serde_json_path_nodes.specs.Location.{Step, by_name, by_position}
+use Rattle.serde_json_path_syntax.specs.Lists.{IsIn}
+use Rattle.serde_json_path_syntax.specs.Stages.{selectors_of, selectors_list}
+use Rattle.serde_json_path_syntax.specs.Tree.{current, Query, query, Segments, no_segments, segment, SegmentKind, descendant, Segment, long_hand, Selectors, no_selectors, selector, Selector, filter}
+use Rattle.serde_json_path_core.proofs.Words.{cases_Bool, in_append}
+use Rattle.serde_json_path_reach.specs.Inside.Bits.{meets, is_whole}
+use Rattle.serde_json_path_reach.specs.Inside.Kept.{any_kept, kept_object, inside, items_inside, members_inside, kept}
+use Rattle.serde_json_path_reach.specs.Inside.Queries.{queries_in_segment, queries_in_selectors, queries_in_selector}
+use Rattle.serde_json_path_reach.specs.Inside.Rows.{Includes, IsRight, AreRight, after, after_rows, onward, kind_of_row, segment_of_row, selectors_of_row, rest_of_row}
+use Rattle.serde_json_path_reach.specs.Inside.Steps.{any_may_admit, may_admit}
+use Rattle.serde_json_path_reach.specs.declared.row.Row.{Row}
+use Rattle.serde_json_path_reach.proofs.Pending.{Leads}
+
+-- ---- bits
+
+smaller : (x y z : ℕ) → min (max x y) z ≡ 0 → min x z ≡ 0
+smaller x y z e = omega arith
+
+smaller_right : (x y z : ℕ) → min (max x y) z ≡ 0 → min y z ≡ 0
+smaller_right x y z e = omega arith
+
+-- where no bit of a is one of c, and the bits of a are among those of b
+none_of : (a b c : ℕ) → ((i : ℕ) → min (bit_at b i) (bit_at c i) ≡ 0 → min (bit_at a i) (bit_at c i) ≡ 0) → bit_and b c ≡ 0 → bit_and a c ≡ 0
+none_of a b c among none = same_from_bits (bit_and a c) 0 (λ i.
+    bit_at_and a c i ∙ among i (sym (bit_at_and b c i) ∙ ap (λ n. bit_at n i) none ∙ bit_at-zero i) ∙ sym (bit_at-zero i))
+
+meets_more : (a b c : ℕ) → (bit_and b c ≡ 0 → bit_and a c ≡ 0) → meets a c ≡ true → meets b c ≡ true
+unfolding meets
+meets_more a b c none h = elim (cases_Bool (bit_and b c == 0)) [
+  | inl e ↦ let zero : bit_and b c ≡ 0 = grind (arith, e) in absurd (true≢false (sym (rw (none zero) at h)))
+  | inr e ↦ rw e refl
+]
+
+pub meets_left : (a b c : ℕ) → meets a c ≡ true → meets (bit_or a b) c ≡ true
+meets_left a b c h = meets_more a (bit_or a b) c (none_of a (bit_or a b) c (λ i e. smaller (bit_at a i) (bit_at b i) (bit_at c i) (ap (λ n. min n (bit_at c i)) (sym (bit_at_or a b i)) ∙ e))) h
+
+pub meets_right : (a b c : ℕ) → meets b c ≡ true → meets (bit_or a b) c ≡ true
+meets_right a b c h = meets_more b (bit_or a b) c (none_of b (bit_or a b) c (λ i e. smaller_right (bit_at a i) (bit_at b i) (bit_at c i) (ap (λ n. min n (bit_at c i)) (sym (bit_at_or a b i)) ∙ e))) h
+
+least : (x : ℕ) → min x x ≡ x
+least x = omega arith
+
+pub meets_itself : (a : ℕ) → 0 < a → meets a a ≡ true
+unfolding meets
+meets_itself a some =
+    let same : bit_and a a ≡ a = same_from_bits (bit_and a a) a (λ i. bit_at_and a a i ∙ least (bit_at a i)) in
+    let unset : (a == 0) ≡ false = grind arith in
+    rw (same, unset) refl
+
+nothing_met : (a : ℕ) → meets 0 a ≡ false
+unfolding meets
+nothing_met a = refl
+
+pub whole_one : is_whole 1 ≡ true
+unfolding meets
+whole_one = refl
+
+-- ---- what is pending
+
+pub includes_more : (rows others : List Row) (a b : ℕ) → ((row : Row) → IsIn row rows → IsIn row others) → ((m : ℕ) → meets a m ≡ true → meets b m ≡ true)
+    → (segs : Segments) → Includes rows a segs → Includes others b segs
+includes_more rows others a b among more no_segments h = more 1 h
+includes_more rows others a b among more (segment kind seg rest) (inl h) = inl (more 1 h)
+includes_more rows others a b among more (segment kind seg rest) (inr (row, i, met, is)) = inr (row, among row i, more row.bit met, is)
+
+pub includes_left : (rows : List Row) (a b : ℕ) (segs : Segments) → Includes rows a segs → Includes rows (bit_or a b) segs
+includes_left rows a b segs h = includes_more rows rows a (bit_or a b) (λ row i. i) (meets_left a b) segs h
+
+pub includes_right : (rows : List Row) (a b : ℕ) (segs : Segments) → Includes rows b segs → Includes rows (bit_or a b) segs
+includes_right rows a b segs h = includes_more rows rows b (bit_or a b) (λ row i. i) (meets_right a b) segs h
+
+all_included : (rows : List Row) (pending : ℕ) (segs : Segments) → is_whole pending ≡ true → Includes rows pending segs
+all_included rows pending no_segments h = h
+all_included rows pending (segment kind seg rest) h = inl h
+
+-- ---- after a step
+
+pub stays : (rows : List Row) (s : Step) (pending : ℕ) → is_whole pending ≡ true → is_whole (after rows s pending) ≡ true
+stays rows s pending e = rw e whole_one
+
+so_far_met : (rows : List Row) (s : Step) (pending so_far m : ℕ) → meets so_far m ≡ true → meets (after_rows rows s pending so_far) m ≡ true
+so_far_met [] s pending so_far m h = h
+so_far_met (row ∷ rows) s pending so_far m h = elim (cases_Bool (meets pending row.bit)) [
+  | inl e ↦ rw e (so_far_met rows s pending (bit_or so_far (onward row s)) m (meets_left so_far (onward row s) m h))
+  | inr e ↦ rw e (so_far_met rows s pending so_far m h)
+]
+
+row_met : (rows : List Row) (s : Step) (pending so_far m : ℕ) (row : Row) → IsIn row rows → meets pending row.bit ≡ true → meets (onward row s) m ≡ true
+    → meets (after_rows rows s pending so_far) m ≡ true
+row_met [] s pending so_far m row i met h = absurd i
+row_met (first ∷ rows) s pending so_far m row (inl is) met h =
+    let here : meets pending first.bit ≡ true = rw (← is) met in
+    rw here (so_far_met rows s pending (bit_or so_far (onward first s)) m (meets_right so_far (onward first s) m (rw (← is) h)))
+row_met (first ∷ rows) s pending so_far m row (inr i) met h =
+    row_met rows s pending (if meets pending first.bit then bit_or so_far (onward first s) else so_far) m row i met h
+
+-- where a filter asks something, its selector admits each step
+filter_admits : (sels : Selectors) (segs : Segments) (s : Step) → IsIn (query current segs) (queries_in_selectors sels) → any_may_admit (selectors_list sels) s ≡ true
+filter_admits no_selectors segs s h = absurd h
+filter_admits (selector sel sels) segs s h = elim ((in_append (query current segs) (queries_in_selector sel) (queries_in_selectors sels)).0 h) [
+  | inl g ↦ rw (by sel g)
+  | inr g ↦ let later = filter_admits sels segs s g in rw later (either (may_admit sel s))
+]
+  where
+    by : (sel : Selector) → IsIn (query current segs) (queries_in_selector sel) → may_admit sel s ≡ true
+    by (filter e) g = refl
+    by _ g = absurd g
+
+    either : (b : Bool) → (b || true) ≡ true
+    either true = refl
+    either false = refl
+
+asked_admits : (seg : Segment) (segs : Segments) (s : Step) → IsIn (query current segs) (queries_in_segment seg) → any_may_admit (selectors_of seg) s ≡ true
+asked_admits (long_hand sels) segs s h = filter_admits sels segs s h
+asked_admits _ segs s h = absurd h
+
+module _ (rows : List Row) (s : Step) (pending : ℕ) where
+  -- where not all is kept, what is pending by a row is pending after the step
+  from_row : (row : Row) (m : ℕ) → is_whole pending ≡ false → IsIn row rows → meets pending row.bit ≡ true → meets (onward row s) m ≡ true → meets (after rows s pending) m ≡ true
+  from_row row m e i met h = rw e (row_met rows s pending 0 m row i met h)
+
+  next_met : (row : Row) (m : ℕ) → any_may_admit (selectors_of_row row) s ≡ true → meets row.next m ≡ true → meets (onward row s) m ≡ true
+  next_met row m may h = rw may (meets_right row.again row.next m h)
+
+  again_met : (row : Row) (m : ℕ) → meets row.again m ≡ true → meets (onward row s) m ≡ true
+  again_met row m h = elim (cases_Bool (any_may_admit (selectors_of_row row) s)) [
+    | inl e ↦ rw e (meets_left row.again row.next m h)
+    | inr e ↦ rw e h
+  ]
+
+  -- what a row's `next` includes is pending where the row's segment may admit the step
+  from_next : (row : Row) (segs : Segments) → is_whole pending ≡ false → IsIn row rows → meets pending row.bit ≡ true → any_may_admit (selectors_of_row row) s ≡ true
+      → Includes rows row.next segs → Includes rows (after rows s pending) segs
+  from_next row segs e i met may h = includes_more rows rows row.next (after rows s pending) (λ r j. j) (λ m g. from_row row m e i met (next_met row m may g)) segs h
+
+module _ (rows : List Row) (right : AreRight rows) where
+  goes_on : (s : Step) (pending : ℕ) (kind : SegmentKind) (seg : Segment) (more : Segments) → Includes rows pending (segment kind seg more)
+      → any_may_admit (selectors_of seg) s ≡ true → Includes rows (after rows s pending) more
+  goes_on s pending kind seg more (inl whole) may = all_included rows (after rows s pending) more (stays rows s pending whole)
+  goes_on s pending kind seg more (inr (row, i, met, is)) may = elim (cases_Bool (is_whole pending)) [
+    | inl whole ↦ all_included rows (after rows s pending) more (stays rows s pending whole)
+    | inr e ↦
+        let here : segment_of_row row ≡ seg = cc in
+        let rest : rest_of_row row ≡ more = cc in
+        let may_row : any_may_admit (selectors_of_row row) s ≡ true = rw here may in
+        from_next rows s pending row more e i met may_row (rw (← rest) (right row i).next.rest)
+  ]
+
+  asks : (s : Step) (pending : ℕ) (kind : SegmentKind) (seg : Segment) (more segs : Segments) → Includes rows pending (segment kind seg more)
+      → IsIn (query current segs) (queries_in_segment seg) → Includes rows (after rows s pending) segs
+  asks s pending kind seg more segs (inl whole) j = all_included rows (after rows s pending) segs (stays rows s pending whole)
+  asks s pending kind seg more segs (inr (row, i, met, is)) j = elim (cases_Bool (is_whole pending)) [
+    | inl whole ↦ all_included rows (after rows s pending) segs (stays rows s pending whole)
+    | inr e ↦
+        let here : segment_of_row row ≡ seg = cc in
+        let asked : IsIn (query current segs) (queries_in_segment (segment_of_row row)) = rw here j in
+        from_next rows s pending row segs e i met (asked_admits (segment_of_row row) segs s asked) ((right row i).next.asked segs asked)
+  ]
+
+  again : (s : Step) (pending : ℕ) (seg : Segment) (more : Segments) → Includes rows pending (segment descendant seg more) → Includes rows (after rows s pending) (segment descendant seg more)
+  again s pending seg more (inl whole) = inl (stays rows s pending whole)
+  again s pending seg more (inr (row, i, met, is)) = elim (cases_Bool (is_whole pending)) [
+    | inl whole ↦ inl (stays rows s pending whole)
+    | inr e ↦
+        let down : kind_of_row row ≡ descendant = cc in
+        inr (row, i, from_row rows s pending row row.bit e i met (again_met rows s pending row row.bit ((right row i).again down)), is)
+  ]
+
+  pub leads : Leads (after rows) (Includes rows)
+  leads = record { ends = λ pending h. h; stays = stays rows; again = again; goes_on = goes_on; asks = asks }
+
+-- ---- nothing is kept where nothing is pending
+
+after_nothing : (rows : List Row) (s : Step) → after rows s 0 ≡ 0
+after_nothing rows s = rw (nothing_met 1) (by rows)
+  where
+    by : (rows : List Row) → after_rows rows s 0 0 ≡ 0
+    by [] = refl
+    by (row ∷ rows) = rw (nothing_met row.bit) (by rows)
+
+module _ (rows : List Row) where
+  mutual
+    nothing_inside : (d : Data) → inside (after rows) 0 d ≡ None
+    nothing_inside (array ds) = rw (nothing_in_items ds 0)
+    nothing_inside (object ms) = ap kept_object (nothing_in_members ms)
+    nothing_inside _ = refl
+
+    nothing_in_items : (ds : Items) (n : ℕ) → any_kept (items_inside (after rows) 0 n ds) ≡ false
+    nothing_in_items no_items n = refl
+    nothing_in_items (item d ds) n = rw (after_nothing rows (by_position n), nothing_met 1, nothing_inside d) (nothing_in_items ds (suc n))
+
+    nothing_in_members : (ms : Members) → members_inside (after rows) 0 ms ≡ no_members
+    nothing_in_members no_members = refl
+    nothing_in_members (member k d ms) = rw (after_nothing rows (by_name k), nothing_met 1, nothing_inside d) (nothing_in_members ms)
+
+  pub nothing_kept : (d : Data) → kept (after rows) 0 d ≡ None
+  nothing_kept d = rw (nothing_met 1) (nothing_inside d)

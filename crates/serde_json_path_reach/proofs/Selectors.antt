@@ -1,0 +1,19 @@
+-- Whether some selector of a list may admit a step, from a place in the list on.
+use Rattle.std.proofs.Common.{◌≡◌, ℕ, zero, suc, ◌<◌, ◌||◌, List, [], ◌∷◌, drop, length, true, false, Option, Some, None, refl, sym, ap, arith}
+use Rattle.std.specs.Prelude.{slice_get}
+use Rattle.serde_json_path_nodes.specs.Location.{Step}
+use Rattle.serde_json_path_syntax.specs.Tree.{Selector}
+use Rattle.serde_json_path_core.proofs.Words.{none-some, same_Some}
+use Rattle.serde_json_path_reach.specs.Inside.Steps.{any_may_admit, may_admit}
+
+pub any_here : (sels : List Selector) (n : ℕ) (sel : Selector) (s : Step) → slice_get sels n ≡ Some sel
+    → (any_may_admit (drop n sels) s ≡ (may_admit sel s || any_may_admit (drop (suc n) sels) s)) × (n < length sels)
+any_here [] n sel s e = absurd (none-some sel e)
+any_here (x ∷ sels) zero sel s e = (ap (λ (y : Selector). may_admit y s || any_may_admit sels s) (same_Some x sel e), omega arith)
+any_here (x ∷ sels) (suc n) sel s e = let later = any_here sels n sel s e in (later.0, omega (arith, later.1))
+
+pub any_past : (sels : List Selector) (n : ℕ) (s : Step) → slice_get sels n ≡ None → any_may_admit (drop n sels) s ≡ false
+any_past [] zero s e = refl
+any_past [] (suc n) s e = refl
+any_past (x ∷ sels) zero s e = absurd (none-some x (sym e))
+any_past (x ∷ sels) (suc n) s e = any_past sels n s e

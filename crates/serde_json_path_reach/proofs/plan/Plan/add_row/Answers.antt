@@ -1,0 +1,17 @@
+use Rattle.std.proofs.Common.{◌≡◌, sym, ap, ◌∙◌}
+use Rattle.serde_json_path_syntax.specs.Flat.{segment_kind_view}
+use Rattle.serde_json_path_syntax.specs.Parts.{nodes_in}
+use Rattle.serde_json_path_syntax.specs.Tree.{descendant}
+use Rattle.serde_json_path_core.proofs.Words.{common_steps}
+use Rattle.serde_json_path_reach.specs.Inside.Rows.{segment_kind_at}
+use Rattle.serde_json_path_reach.proofs.Plans.{adds_row}
+use Rattle.serde_json_path_reach.proofs.plan.Plan.add_row.Goals as goal
+use Rattle.serde_json_path_reach.proofs.plan.Plan.add_row.Goals.{in-Child, in-Descendant}
+
+pub returns : goal.returns
+returns c =
+    let again : segment_kind_at (nodes_in c.args.query.now) c.args.segment ≡ descendant → c.match-segment_kind.again ≡ c.fresh-bit.result = λ down. elim c.match-segment_kind.branch [
+      | in-Child w ↦ absurd (let e = ap segment_kind_view (sym w.in-Child.is) ∙ c.segment_kind.ensures ∙ down in cc)
+      | in-Descendant w ↦ w.again-is
+    ] in
+    adds_row c.args.self.now _ _ _ c.in_ok-push.ensures.items (ap (λ rows. rows.items) c.fresh-bit.ensures.rows) c.fresh-bit.ensures.root c.fresh-bit.ensures.some again

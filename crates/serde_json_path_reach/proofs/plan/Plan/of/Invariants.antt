@@ -1,0 +1,10 @@
+use Rattle.std.proofs.Common.{take}
+use Rattle.serde_json_path_reach.specs.Alike.{trees_of}
+use Rattle.serde_json_path_reach.specs.Inside.Rows.{AreRight, AsksAll}
+use Rattle.serde_json_path_reach.proofs.plan.Plan.of.Given as goal
+
+abbrev pub invariant-loop-path : goal.invariant-loop-path
+invariant-loop-path l = record {
+  right : AreRight l.plan.rows.items;
+  asks : AsksAll l.plan (trees_of (take l.path-index l.paths));
+}

@@ -1,0 +1,11 @@
+use Rattle.std.proofs.Common.{◌≡◌, ◌-◌, drop, length}
+use Rattle.serde_json_path_nodes.specs.Views.{step_view}
+use Rattle.serde_json_path_reach.specs.Inside.Rows.{selectors_of_row}
+use Rattle.serde_json_path_reach.specs.Inside.Steps.{any_may_admit}
+use Rattle.serde_json_path_reach.proofs.row.Row.may_admit.Given as goal
+
+abbrev pub invariant-selectors : goal.invariant-selectors
+invariant-selectors l = any_may_admit (drop l.number (selectors_of_row l.self)) (step_view l.step) ≡ any_may_admit (selectors_of_row l.self) (step_view l.step)
+
+abbrev pub decreases-selectors : goal.decreases-selectors
+decreases-selectors l = length (selectors_of_row l.self) - l.number

@@ -1,0 +1,14 @@
+-- What contracts of private functions, and proofs, cite alone.
+
+-- the queries inside a query
+pub mod Queries
+-- what is pending at a value, as bits
+pub mod Bits
+-- what of a value is kept, given what is pending there
+pub mod Kept
+-- steps that a selector may admit
+pub mod Steps
+-- the rows of a plan: what is pending, and what is after a step
+pub mod Rows
+-- values that are no arrays and no objects, by their tokens
+pub mod Leaves

@@ -1,0 +1,93 @@
+-- The rows of a plan: which segments are pending at a value, and what is pending at its children.
+use Rattle.std.specs.Prelude.{◌≡◌, ◌⊎◌, ℕ, List, [], ◌∷◌, flat_map, true, if◌then◌else◌}
+use Rattle.std.specs.Int.Bits.{bit_or}
+use Rattle.serde_json_path_nodes.specs.Location.{Step}
+use Rattle.serde_json_path_syntax.specs.Flat.{branch_at, segment_at, segment_kind_in, segments_at}
+use Rattle.serde_json_path_syntax.specs.Lists.{IsIn}
+use Rattle.serde_json_path_syntax.specs.Parts.{nodes_in, number_of}
+use Rattle.serde_json_path_syntax.specs.Stages.{selectors_of}
+use Rattle.serde_json_path_syntax.specs.Tree.{Query, query, root, current, Segments, no_segments, segment, SegmentKind, descendant, Segment, Selector}
+use Rattle.serde_json_path_reach.specs.Inside.Bits.{is_whole, meets}
+use Rattle.serde_json_path_reach.specs.Inside.Queries.{queries_of, queries_in_segment}
+use Rattle.serde_json_path_reach.specs.Inside.Steps.{any_may_admit}
+use Rattle.serde_json_path_syntax.specs.declared.node.Node.{Node}
+use Rattle.serde_json_path_syntax.specs.declared.node.Part.{Part}
+use Rattle.serde_json_path_reach.specs.declared.plan.Plan.{Plan}
+use Rattle.serde_json_path_reach.specs.declared.row.Row.{Row}
+
+-- ---- what a row stands for
+
+abbrev pub segment_kind_at : List Node → Part → SegmentKind
+segment_kind_at nodes part = segment_kind_in (branch_at nodes (number_of part))
+
+abbrev pub kind_of_row : Row → SegmentKind
+kind_of_row row = segment_kind_at (nodes_in row.query.now) row.segment
+
+abbrev pub segment_of_row : Row → Segment
+segment_of_row row = segment_at (nodes_in row.query.now) row.segment
+
+abbrev pub selectors_of_row : Row → List Selector
+selectors_of_row row = selectors_of (segment_of_row row)
+
+abbrev pub rest_of_row : Row → Segments
+rest_of_row row = segments_at (nodes_in row.query.now) row.rest.now
+
+-- the segments are pending: all is kept there, or it is one of their rows
+abbrev pub Includes : List Row → ℕ → Segments → Type 0
+Includes rows pending no_segments = is_whole pending ≡ true
+Includes rows pending (segment kind seg more) =
+    (is_whole pending ≡ true)
+    ⊎ ((row : Row) × IsIn row rows × (meets pending row.bit ≡ true) × (segment (kind_of_row row) (segment_of_row row) (rest_of_row row) ≡ segment kind seg more))
+
+-- ---- after a step
+
+-- what is pending by a row
+abbrev pub onward : Row → Step → ℕ
+onward row s = if any_may_admit (selectors_of_row row) s then bit_or row.again row.next else row.again
+
+abbrev pub after_rows : List Row → Step → ℕ → ℕ → ℕ
+after_rows [] s pending so_far = so_far
+after_rows (row ∷ rows) s pending so_far = after_rows rows s pending (if meets pending row.bit then bit_or so_far (onward row s) else so_far)
+
+-- Below a value that is kept whole all is.
+abbrev pub after : List Row → Step → ℕ → ℕ
+after rows s pending = if is_whole pending then 1 else after_rows rows s pending 0
+
+-- ---- rows that are right
+
+-- after a segment the rest is pending, and each `@` query of the segment's filters
+pub record IsNext (rows : List Row) (next : ℕ) (seg : Segment) (more : Segments) : Type 0 where
+  pub rest : Includes rows next more
+  pub asked : (segs : Segments) → IsIn (query current segs) (queries_in_segment seg) → Includes rows next segs
+
+pub record IsRight (rows : List Row) (row : Row) : Type 0 where
+  pub next : IsNext rows row.next (segment_of_row row) (rest_of_row row)
+  pub again : kind_of_row row ≡ descendant → meets row.again row.bit ≡ true
+
+abbrev pub AreRight : List Row → Type 0
+AreRight rows = (row : Row) → IsIn row rows → IsRight rows row
+
+-- among some queries each `$` query is pending at the root, and each `@` query is by `asked`
+pub record Covers (rows : List Row) (at_root asked : ℕ) (qs : List Query) : Type 0 where
+  pub dollar : (segs : Segments) → IsIn (query root segs) qs → Includes rows at_root segs
+  pub at : (segs : Segments) → IsIn (query current segs) qs → Includes rows asked segs
+
+-- what was pending still is
+pub record Grows (old new : Plan) : Type 0 where
+  pub by_rows : (pending : ℕ) (segs : Segments) → Includes old.rows.items pending segs → Includes new.rows.items pending segs
+  pub at_root : (segs : Segments) → Includes old.rows.items old.at_root segs → Includes new.rows.items new.at_root segs
+
+-- a plan grows by rows for some queries
+pub record Gains (old new : Plan) (asked : ℕ) (qs : List Query) : Type 0 where
+  pub right : AreRight old.rows.items → AreRight new.rows.items
+  pub grows : Grows old new
+  pub covers : Covers new.rows.items new.at_root asked qs
+
+-- each `$` query among the queries and in their filters is pending at the root
+abbrev pub AsksAll : Plan → List Query → Type 0
+AsksAll plan qs = (segs : Segments) → IsIn (query root segs) (flat_map queries_of qs) → Includes plan.rows.items plan.at_root segs
+
+-- a row for a segment and the rest, of which the bit is given
+abbrev pub AddsRow : Plan → Plan → SegmentKind → Segment → Segments → ℕ → ℕ → Type 0
+AddsRow old new kind seg rest next bit =
+    IsNext old.rows.items next seg rest → Gains old new 0 [] × Includes new.rows.items bit (segment kind seg rest)

@@ -1,0 +1,177 @@
+//! Reads of a text what is pending there.
+
+ghost use Rattle.std.specs.Prelude.{◌≡◌, ◌<◌, ◌++◌, length, option_map, replicate, Some, IfOk, OnOk};
+ghost use Rattle.json.specs.Json.{value, items, members};
+ghost use Rattle.serde_json.specs.Data.{Data, Items, Members, array, object, no_members};
+ghost use Rattle.serde_json.specs.Read.{of_json, of_items, of_members, converted, read as read_text};
+ghost use Rattle.serde_json.specs.View.{view};
+ghost use Rattle.serde_json.specs.declared.value.Value.TheVariants.{Null};
+ghost use Rattle.serde_json_path_reach.specs.Inside.Kept.{kept};
+ghost use Rattle.serde_json_path_reach.specs.Inside.Rows.{after};
+
+use crate::bits::is_whole;
+use crate::leaf::{leaf, pass_leaf};
+use crate::passed::pass;
+use crate::plan::Plan;
+use crate::refused::Refused;
+use json::{Reader, Scratch, Token};
+use serde_json::{Map, Value};
+use serde_json_path_core::PathElement;
+use std::alloc::Global;
+
+/// How many arrays and objects `serde_json` takes within each other.
+const MAX_DEPTH: usize = 127;
+
+/// What is kept of the document that a text is, or `None` where that is nothing.
+pub(crate) fn read_reached(
+    alloc: Global,
+    text: &str,
+    plan: &Plan<'_>,
+    pending: u64,
+) -> Result<Option<Value>, Refused>
+    ensures ok { IfOk result (λ v. (d : Data) × (read_text text.now ≡ Some d)
+        × (option_map view v ≡ kept (after plan.now.rows.items) pending d)) }
+{
+    let mut scratch = Scratch::new(alloc);
+    let mut reader = Reader::new(text, &mut scratch)?;
+    let found = read(alloc, &mut reader, MAX_DEPTH, plan, pending)?;
+    if reader.next().is_some() {
+        return Err(Refused);
+    }
+    Ok(found)
+}
+
+/// What is kept of a value.
+#[cycle(read)]
+fn read(
+    alloc: Global,
+    reader: &mut Reader<'_>,
+    depth: usize,
+    plan: &Plan<'_>,
+    pending: u64,
+) -> Result<Option<Value>, Refused>
+    ensures ok { IfOk result (λ v.
+        (d : Data) × (converted of_json (value depth reader.old) ≡ Some (d, reader.new))
+        × (option_map view v ≡ kept (after plan.now.rows.items) pending d)) }
+    ensures shorter { OnOk result (length reader.new < length reader.old) }
+{
+    if pending == 0 {
+        pass(reader, depth)?;
+        return Ok(None);
+    }
+    let token = reader.next().ok_or(Refused)?;
+    match token {
+        Token::BeginArray => {
+            if depth == 0 {
+                return Err(Refused);
+            }
+            read_items(alloc, reader, depth - 1, plan, pending)
+        }
+        Token::BeginObject => {
+            if depth == 0 {
+                return Err(Refused);
+            }
+            read_members(alloc, reader, depth - 1, plan, pending)
+        }
+        _ => {
+            if !is_whole(pending) {
+                pass_leaf(token)?;
+                return Ok(None);
+            }
+            Ok(Some(leaf(alloc, token)?))
+        }
+    }
+}
+
+/// What is kept of an array, from its first item on.
+#[cycle(read)]
+fn read_items(
+    alloc: Global,
+    reader: &mut Reader<'_>,
+    depth: usize,
+    plan: &Plan<'_>,
+    pending: u64,
+) -> Result<Option<Value>, Refused>
+    ensures ok { IfOk result (λ v.
+        (ds : Items)
+        × (converted of_items (items (value depth) (length reader.old) reader.old)
+        ≡ Some (ds, reader.new))
+        × (option_map view v ≡ kept (after plan.now.rows.items) pending (array ds))) }
+    ensures shorter { OnOk result (length reader.new < length reader.old) }
+{
+    let mut found = Vec::new(alloc);
+    let mut passed = 0usize;
+    let mut position = 0usize;
+    'items: while !reader.take_end_array() {
+        let item = read(
+            alloc,
+            reader,
+            depth,
+            plan,
+            plan.after(pending, PathElement::Index(position)),
+        )?;
+        position = position.checked_add(1).ok_or(Refused)?;
+        match item {
+            None => passed = passed.checked_add(1).ok_or(Refused)?,
+            Some(item) => {
+                push_nulls(&mut found, passed)?;
+                passed = 0;
+                found.push(item)?;
+            }
+        }
+    }
+    if found.is_empty() && !is_whole(pending) {
+        return Ok(None);
+    }
+    push_nulls(&mut found, passed)?;
+    Ok(Some(Value::Array(found)))
+}
+
+/// What is kept of an object, from its first member on.
+#[cycle(read)]
+fn read_members(
+    alloc: Global,
+    reader: &mut Reader<'_>,
+    depth: usize,
+    plan: &Plan<'_>,
+    pending: u64,
+) -> Result<Option<Value>, Refused>
+    ensures ok { IfOk result (λ v.
+        (ms : Members)
+        × (converted (λ js. of_members js no_members)
+        (members (value depth) (length reader.old) reader.old) ≡ Some (ms, reader.new))
+        × (option_map view v ≡ kept (after plan.now.rows.items) pending (object ms))) }
+    ensures shorter { OnOk result (length reader.new < length reader.old) }
+{
+    let mut found: Map<String, Value> = Map::new(alloc);
+    'members: while let Some(name) = reader.next_key()? {
+        let member = read(
+            alloc,
+            reader,
+            depth,
+            plan,
+            plan.after(pending, PathElement::Name(name)),
+        )?;
+        match member {
+            None => drop(found.remove(name)),
+            Some(member) => {
+                let key = String::from_str(alloc, name)?;
+                drop(found.insert(key, member)?);
+            }
+        }
+    }
+    if found.is_empty() && !is_whole(pending) {
+        return Ok(None);
+    }
+    Ok(Some(Value::Object(found)))
+}
+
+/// Pushes so many nulls.
+fn push_nulls(found: &mut Vec<Value>, count: usize) -> Result<(), Refused>
+    ensures ok { OnOk result (found.new.items ≡ found.old.items ++ replicate count Null) }
+{
+    for _ in 0..count {
+        found.push(Value::Null)?;
+    }
+    Ok(())
+}
