@@ -10,21 +10,22 @@ use Rattle.serde_json_path_core.proofs.Words.{in_flat_map}
 use Rattle.serde_json_path_reach.specs.Alike.{SelectAlike, trees_of}
 use Rattle.serde_json_path_reach.specs.Inside.Kept.{in_place, kept}
 use Rattle.serde_json_path_reach.specs.Inside.Queries.{queries_of, queries_in_segments}
-use Rattle.serde_json_path_reach.specs.Inside.Rows.{Includes, AreRight, AsksAll, after}
-use Rattle.serde_json_path_reach.specs.declared.plan.Plan.{Plan}
+use Rattle.serde_json_path_reach.specs.Inside.Rows.{Includes, after}
+use Rattle.serde_json_path_reach.specs.Readers.{KeepsFor}
+use Rattle.serde_json_path_reach.specs.declared.document.DocumentReader.{DocumentReader}
 use Rattle.serde_json_path_reach.proofs.Puts.{ordered_read}
 use Rattle.serde_json_path_reach.proofs.Rows.{leads}
 use Rattle.serde_json_path_reach.proofs.Same.{selects_kept}
 
 -- the queries of paths begin at the root
-all_rooted : (paths : List (Bor Checked)) (q : Query) → IsIn q (trees_of paths) → kind_of q ≡ root
+pub all_rooted : (paths : List (Bor Checked)) (q : Query) → IsIn q (trees_of paths) → kind_of q ≡ root
 all_rooted [] q h = absurd h
 all_rooted (path ∷ paths) q (inl is) = subst (λ (r : Query). kind_of r ≡ root) (sym is) path.now.rooted
 all_rooted (path ∷ paths) q (inr h) = all_rooted paths q h
 
-module _ (plan : Plan) (paths : List (Bor Checked)) (right : AreRight plan.rows.items) (asks : AsksAll plan (trees_of paths)) where
-  pending : (q : Query) (segs : Segments) → IsIn q (trees_of paths) → IsIn (query root segs) (queries_of q) → Includes plan.rows.items plan.at_root segs
-  pending q segs i j = asks segs ((in_flat_map queries_of (query root segs) (trees_of paths)).1 (q, i, j))
+module _ (reader : DocumentReader) (queries : List Query) (k : KeepsFor reader queries) where
+  pending : (q : Query) (segs : Segments) → IsIn q queries → IsIn (query root segs) (queries_of q) → Includes reader.plan.rows.items reader.plan.at_root segs
+  pending q segs i j = k.asks segs ((in_flat_map queries_of (query root segs) queries).1 (q, i, j))
 
   itself : (q : Query) → kind_of q ≡ root → IsIn (query root (segments_of q)) (queries_of q)
   itself (query kind segs) is = inl (rw is refl)
@@ -32,7 +33,7 @@ module _ (plan : Plan) (paths : List (Bor Checked)) (right : AreRight plan.rows.
   inside : (q : Query) (segs : Segments) → IsIn (query root segs) (queries_in_segments (segments_of q)) → IsIn (query root segs) (queries_of q)
   inside (query kind more) segs h = inr h
 
-  pub alike : (text : List ℕ) (document : Data) → read text ≡ Some document → SelectAlike (trees_of paths) document (in_place (kept (after plan.rows.items) plan.at_root document))
+  pub alike : (text : List ℕ) (document : Data) → read text ≡ Some document → SelectAlike queries document (in_place (kept (after reader.plan.rows.items) reader.plan.at_root document))
   alike text document is F q nodes i =
-      selects_kept (after plan.rows.items) (Includes plan.rows.items) (leads plan.rows.items right) F plan.at_root document nodes (ordered_read text document is) q
-      (pending q (segments_of q) i (itself q (all_rooted paths q i))) (λ segs j. pending q segs i (inside q segs j))
+      selects_kept (after reader.plan.rows.items) (Includes reader.plan.rows.items) (leads reader.plan.rows.items k.right) F reader.plan.at_root document nodes (ordered_read text document is) q
+      (pending q (segments_of q) i (itself q (k.rooted q i))) (λ segs j. pending q segs i (inside q segs j))

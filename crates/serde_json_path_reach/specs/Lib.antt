@@ -4,3 +4,5 @@
 pub mod Alike
 -- what contracts of private functions and proofs cite alone
 pub mod Inside
+-- what contracts see of a reader of documents
+pub mod Readers

@@ -22,4 +22,4 @@ mod refused;
 mod row;
 mod steps;
 
-pub use document::read_for;
+pub use document::{DocumentReader, read_for};

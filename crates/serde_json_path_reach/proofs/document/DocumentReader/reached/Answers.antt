@@ -4,24 +4,22 @@ use Rattle.serde_json.specs.Read.{read}
 use Rattle.serde_json.specs.View.{view}
 use Rattle.serde_json.specs.declared.value.Value.{Null, the_lemmas}
 use Rattle.serde_json_path_core.proofs.Words.{subst}
-use Rattle.serde_json_path_reach.specs.Alike.{SelectAlike, trees_of}
+use Rattle.serde_json_path_reach.specs.Alike.{SelectAlike}
 use Rattle.serde_json_path_reach.specs.Inside.Kept.{in_place}
 use Rattle.serde_json_path_reach.proofs.Documents.{alike}
-use Rattle.serde_json_path_reach.proofs.document.reached.Goals as goal
+use Rattle.serde_json_path_reach.proofs.document.DocumentReader.reached.Goals as goal
 
 pub returns-in-Some : goal.returns-in-Some
-returns-in-Some c =
+returns-in-Some c = λ qs keeps.
     let (d, e, k) = c.in_ok-document.ensures.ok in
     let text = c.in-Ok.ensures.cases in
-    let plan = c.in_ok-plan.plan in
     let shown = ap in_place (sym k ∙ ap (option_map view) c.in-Some.is) in
-    (text.1, (d, ap read (sym text.0) ∙ e, subst (SelectAlike (trees_of c.args.paths.now) d) shown (alike plan c.args.paths.now c.in_ok-plan.ensures.right c.in_ok-plan.ensures.asks c.in-Ok.text.now d e)))
+    (text.1, (d, ap read (sym text.0) ∙ e, subst (SelectAlike qs d) shown (alike c.args.self.now qs keeps c.in-Ok.text.now d e)))
 
-pub returns : goal.returns
-returns c =
+pub returns-in-None : goal.returns-in-None
+returns-in-None c = λ qs keeps.
     let (d, e, k) = c.in_ok-document.ensures.ok in
     let text = c.in-Ok.ensures.cases in
-    let plan = c.in_ok-plan.plan in
     let seen : view Null ≡ null = search (rules, the_lemmas) in
     let shown = ap in_place (sym k ∙ ap (option_map view) c.in-None.is) ∙ sym seen in
-    (text.1, (d, ap read (sym text.0) ∙ e, subst (SelectAlike (trees_of c.args.paths.now) d) shown (alike plan c.args.paths.now c.in_ok-plan.ensures.right c.in_ok-plan.ensures.asks c.in-Ok.text.now d e)))
+    (text.1, (d, ap read (sym text.0) ∙ e, subst (SelectAlike qs d) shown (alike c.args.self.now qs keeps c.in-Ok.text.now d e)))
