@@ -10,6 +10,7 @@ use jsonpath_lines::{Form, Output};
 use serde_json::Value;
 use serde_json_path::QueryError;
 use serde_json_path::functions::CachedPatterns;
+use serde_json_path_reach::DocumentReader;
 use std::alloc::{AllocError, Global};
 use std::io;
 use std::io::{BufRead, BufReader, Read, Write};
@@ -20,6 +21,8 @@ pub(crate) struct Answering<'a> {
     pub(crate) alloc: Global,
     pub(crate) paths: &'a [AskedPath],
     pub(crate) functions: CachedPatterns<'a>,
+    /// Reads of a document what the paths can reach. There is none if memory for it was refused.
+    pub(crate) reader: Option<DocumentReader<'a>>,
     pub(crate) output: Output,
     /// Whether lines begin with the file's name.
     pub(crate) names_files: bool,
@@ -81,17 +84,35 @@ impl Answering<'_> {
         Ok((text, selected))
     }
 
-    /// Answers a document: writes what each path selects, and tells what is refused.
+    /// The answer of a path of which a pattern was refused, on the whole document, so that what is told is true of that.
+    fn answer_whole_of(
+        &self,
+        path: &AskedPath,
+        head: &str,
+        bytes: &[u8],
+    ) -> Result<(String, bool), QueryError> {
+        match read_document(self.alloc, bytes) {
+            Ok(document) => self.answer_of(path, head, &document),
+            Err(_) => Err(QueryError::Memory),
+        }
+    }
+
+    /// Answers a document, or what of it the paths can reach: writes what each path selects, and tells what is refused.
     fn answer<W: Write, E: Write>(
         &self,
         name: &str,
+        bytes: &[u8],
         document: &Value,
         streams: &mut Streams<'_, W, E>,
     ) -> Result<(), Stop> {
         let mut answers = Vec::new(self.alloc);
         for (index, path) in self.paths.iter().enumerate() {
             let head = self.head(name, index.saturating_add(1))?;
-            match self.answer_of(path, head.as_str(), document) {
+            let answer = match self.answer_of(path, head.as_str(), document) {
+                Err(QueryError::Pattern) => self.answer_whole_of(path, head.as_str(), bytes),
+                answer => answer,
+            };
+            match answer {
                 Ok((text, selected)) => {
                     streams.outcome.selected = streams.outcome.selected || selected;
                     answers.push(text)?;
@@ -121,8 +142,15 @@ impl Answering<'_> {
         bytes: &[u8],
         streams: &mut Streams<'_, W, E>,
     ) -> Result<(), Stop> {
+        let reached = match &self.reader {
+            Some(reader) => reader.reach(self.alloc, bytes),
+            None => None,
+        };
+        if let Some(document) = reached {
+            return self.answer(name, bytes, &document, streams);
+        }
         let e = match read_document(self.alloc, bytes) {
-            Ok(document) => return self.answer(name, &document, streams),
+            Ok(document) => return self.answer(name, bytes, &document, streams),
             Err(e) => e,
         };
         let e = DocumentError {

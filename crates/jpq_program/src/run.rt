@@ -13,6 +13,7 @@ use crate::streams::{OUTPUT_FAILED, REFUSED, SELECTED, Stop, Streams, WRONG_USE}
 use jpq_options::options::{Color, Options, Request, read};
 use jsonpath_lines::Output;
 use serde_json_path::functions::{CachedPatterns, PatternStore};
+use serde_json_path_reach::DocumentReader;
 use std::alloc::Global;
 use std::io::Write;
 use std::slice;
@@ -76,10 +77,15 @@ fn answer_documents<I: Inputs, W: Write, E: Write>(
     streams: &mut Streams<'_, W, E>,
 ) -> Result<(), Stop> {
     let store = PatternStore::new();
+    let mut trees = Vec::new(alloc);
+    for path in paths {
+        trees.push(path.path.tree())?;
+    }
     let answering = Answering {
         alloc,
         paths,
         functions: CachedPatterns::new(alloc, &store),
+        reader: DocumentReader::new(alloc, trees.as_slice()).ok(),
         output: output_of(options),
         names_files: options.files.len() > 1,
         lines: options.lines,

@@ -67,3 +67,11 @@ pub record IsReport (form : Form) (F : FunctionSet) (path document : List ℕ) (
   pub pattern_refused : result ≡ Err (Query Pattern) → CallsByPatternOn F path document
   -- a query is refused only where the document is read
   pub query_last : (e : QueryError) → result ≡ Err (Query e) → (d : Data) × ReadsAs document d
+
+-- What a query answers on the document that the bytes are, in a form.
+pub record IsAnswer (form : Form) (F : FunctionSet) (q : tree.Query) (bytes : List ℕ) (result : Result (String Global) ReportError) : Type 0 where
+  pub lines : IfOk result (λ text. (d : Data) × (nodes : List Located) × ReadsAs bytes d × Selects F q d nodes × AreLines (compact_lines form) [] nodes (string_bytes text))
+  pub no_path : (e : ParseError) → result ≡ Err (Path e) → ⊥
+  pub not_json : result ≡ Err (Document refusal.NotJson) → (d : Data) → ReadsAs bytes d → ⊥
+  pub pattern : result ≡ Err (Query Pattern) → (d : Data) × ReadsAs bytes d × CallsByPattern F d q
+  pub last : (e : QueryError) → result ≡ Err (Query e) → (d : Data) × ReadsAs bytes d

@@ -1,6 +1,6 @@
 //! The lines of a report on a path and a document.
 
-ghost use Rattle.std.specs.Prelude.{◌≡◌, [], List, IfOk, string_bytes};
+ghost use Rattle.std.specs.Prelude.{◌≡◌, [], ◌∷◌, List, IfOk, string_bytes};
 ghost use Rattle.serde_json.specs.Data.{Data};
 ghost use Rattle.serde_json.specs.View.{view};
 ghost use Rattle.serde_json_path_nodes.specs.Location.{Located};
@@ -14,7 +14,8 @@ ghost use Rattle.serde_json_path_parser.specs.Reported.{ReportsFirst};
 ghost use Rattle.serde_json_path_parser.specs.declared.error.ParseError as path_error;
 ghost use Rattle.jsonpath_document.specs.Document.{ReadsAs};
 ghost use Rattle.jsonpath_lines.specs.Output.{AreLines, compact_lines};
-ghost use Rattle.jsonpath_program.specs.Report.{IsNoPath, CallsByPatternOn, IsReport, IsReportIn};
+ghost use Rattle.jsonpath_program.specs.Report.{IsAnswer, IsNoPath, CallsByPatternOn, IsReport, IsReportIn};
+ghost use Rattle.serde_json_path_reach.specs.Alike.{IsReadFor};
 
 use jsonpath_document::{DocumentError as ReadError, DocumentFault, read_document};
 use jsonpath_lines::{Form, Output, write_nodes};
@@ -23,6 +24,7 @@ use serde_json_path::functions::{Both, CachedPatterns, Functions, PatternStore};
 use serde_json_path::{Numbers, ParseError, QueryError};
 use serde_json_path_core::walk;
 use serde_json_path_parser::{TextSource, parse};
+use serde_json_path_reach::DocumentReader;
 use serde_json_path_syntax::Checked;
 use std::alloc::Global;
 use thiserror::Error;
@@ -74,6 +76,19 @@ fn document(alloc: Global, bytes: &[u8]) -> Result<Value, DocumentError>
     Ok(read_document(alloc, bytes)?)
 }
 
+/// Reads of a document what a path can reach.
+fn document_for(alloc: Global, bytes: &[u8], path: &Checked) -> Result<Value, DocumentError>
+    ensures ok { IfOk result (λ value. IsReadFor bytes.now (tree_of path.now ∷ []) (view value)) }
+    ensures not_json { result ≡ Err DocumentError.NotJson → (d : Data) → ReadsAs bytes.now d → ⊥ }
+{
+    if let Ok(reader) = DocumentReader::new(alloc, &[path]) {
+        if let Some(value) = reader.reach(alloc, bytes) {
+            return Ok(value);
+        }
+    }
+    document(alloc, bytes)
+}
+
 /// Room for lines, so large that the allocator maps it alone, and it grows without a copy.
 const ROOM: usize = 262_144;
 
@@ -110,6 +125,52 @@ fn selected<F: Functions + Drop>(
 {
     let walk = walk(alloc, path, document, functions)?;
     Ok(write_nodes(alloc, &Output::compact_lines(form), "", text, walk)?.text)
+}
+
+/// What a path selects from the document that the bytes are, of which what the path can reach is read.
+fn answer<F: Functions>(
+    alloc: Global,
+    form: Form,
+    path: &Checked,
+    bytes: &[u8],
+    functions: &F,
+) -> Result<String, ReportError>
+    requires { Fits (F.set functions.now) (signatures_of path.now) }
+    ensures { IsAnswer form (with_rule (rule_of path.now) (F.set functions.now)) (tree_of path.now)
+        bytes.now result }
+{
+    let text = room(alloc);
+    let value = match document_for(alloc, bytes, path) {
+        Ok(value) => value,
+        Err(e) => return Err(ReportError::Document(e)),
+    };
+    match selected(alloc, form, text, path, &value, functions) {
+        Ok(text) => Ok(text),
+        Err(QueryError::Memory) => Err(ReportError::Query(QueryError::Memory)),
+        Err(QueryError::Pattern) => answer_whole(alloc, form, path, bytes, functions),
+    }
+}
+
+/// The same of the whole document, of which it is told that a pattern is refused.
+fn answer_whole<F: Functions>(
+    alloc: Global,
+    form: Form,
+    path: &Checked,
+    bytes: &[u8],
+    functions: &F,
+) -> Result<String, ReportError>
+    requires { Fits (F.set functions.now) (signatures_of path.now) }
+    ensures { IsAnswer form (with_rule (rule_of path.now) (F.set functions.now)) (tree_of path.now)
+        bytes.now result }
+{
+    let value = match document(alloc, bytes) {
+        Ok(value) => value,
+        Err(e) => return Err(ReportError::Document(e)),
+    };
+    match selected(alloc, form, String::new(alloc), path, &value, functions) {
+        Ok(text) => Ok(text),
+        Err(e) => Err(ReportError::Query(e)),
+    }
 }
 
 /// One line for each node of the document that the path selects, in order: its normalised path, a tab, its compact JSON
@@ -189,10 +250,8 @@ pub fn report_under<F: Functions + Drop>(
         → (d : Data) × ReadsAs document.now d }
 {
     let mut source = TextSource::new(path);
-    let parsed = parse(alloc, &mut source, &functions, Numbers::Whole);
-    let path = parsed.map_err(ReportError::Path)?;
-    let text = room(alloc);
-    let value = self::document(alloc, document).map_err(ReportError::Document)?;
-    let text = selected(alloc, form, text, &path, &value, functions).map_err(ReportError::Query)?;
-    Ok(text)
+    match parse(alloc, &mut source, &functions, Numbers::Whole) {
+        Ok(path) => answer(alloc, form, &path, document, &functions),
+        Err(e) => Err(ReportError::Path(e)),
+    }
 }
