@@ -5,7 +5,7 @@ pub use Rattle.serde_json_path.specs.Paths.{IsRead, path_rule, path_signatures, 
 pub use Rattle.serde_json_path_core.specs.Inside.Words.{OnlyMemoryOrPattern, Selects, SelectsValues}
 pub use Rattle.serde_json_path_core.specs.Walks.{document_of, query_of, rest, set_of}
 pub use Rattle.serde_json_path_functions.specs.Words.{Fits, before_builtin, builtin_functions, numbers_view, whole_numbers}
-pub use Rattle.serde_json_path_nodes.specs.Words.{IfErr, IfOk, IsTrue, Some, [], length, located_nodes, max, node_values, partial_equiv_from_equiv, string, string_bytes, true, view, ◌*◌, ◌+◌, ◌-◌, ◌↔◌, ◌≡◌, ◌≤◌}
+pub use Rattle.serde_json_path_nodes.specs.Words.{IfOk, located_nodes, node_values, partial_equiv_from_equiv, string, view}
 pub use Rattle.serde_json_path_parser.specs.Errors.{is_seen_at_next, kind_of, message_of, position_of}
 pub use Rattle.serde_json_path_parser.specs.Source.{greatest_usize}
 pub use Rattle.serde_json_path_syntax.specs.SameTree.{same_query}

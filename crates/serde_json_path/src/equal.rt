@@ -1,6 +1,7 @@
 //! Equality of paths.
 
-ghost use Rattle.serde_json_path.specs.Words.{◌≡◌, ◌↔◌, IsTrue, same_query, path_tree};
+ghost use Rattle.std.specs.Prelude.{◌≡◌, ◌↔◌, IsTrue};
+ghost use Rattle.serde_json_path.specs.Words.{same_query, path_tree};
 
 use crate::path::JsonPath;
 

@@ -1,6 +1,7 @@
 //! Paths as strings of JSON documents.
 
-ghost use Rattle.serde_json_path.specs.Words.{◌≡◌, Some, IfOk, string, view};
+ghost use Rattle.std.specs.Prelude.{◌≡◌, Some, IfOk};
+ghost use Rattle.serde_json_path.specs.Words.{string, view};
 
 use crate::path::JsonPath;
 use serde_json::Value;

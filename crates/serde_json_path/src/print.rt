@@ -1,6 +1,7 @@
 //! Paths as texts.
 
-ghost use Rattle.serde_json_path.specs.Words.{◌≡◌, IfOk, Some, string_bytes, query_text, path_tree};
+ghost use Rattle.std.specs.Prelude.{◌≡◌, IfOk, Some, string_bytes};
+ghost use Rattle.serde_json_path.specs.Words.{query_text, path_tree};
 
 use crate::path::JsonPath;
 use std::alloc::{AllocError, Global};

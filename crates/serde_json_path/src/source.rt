@@ -1,6 +1,7 @@
 //! Paths from sources of their texts.
 
-ghost use Rattle.serde_json_path.specs.Words.{◌≡◌, ◌+◌, ◌-◌, ◌*◌, ◌≤◌, max, true, length, IfErr, before_builtin, numbers_view, greatest_usize, kind_of, position_of, is_seen_at_next, IsRead};
+ghost use Rattle.std.specs.Prelude.{◌≡◌, ◌+◌, ◌-◌, ◌*◌, ◌≤◌, max, true, length, IfErr};
+ghost use Rattle.serde_json_path.specs.Words.{before_builtin, numbers_view, greatest_usize, kind_of, position_of, is_seen_at_next, IsRead};
 
 use crate::path::JsonPath;
 use serde_json_path_core::Numbers;
