@@ -1,10 +1,5 @@
 -- Nodes of which each location is taken once: of their beginning, of one node more, and of those that were taken so before.
-use Rattle.jsonpath_lines.proofs.Words.{◌≡◌, ◌⊎◌, inl, inr, ℕ, Bool, true, false, ◌||◌, if◌then◌else◌, List, [], ◌∷◌, ◌++◌, Option, Some, None, length, map, take, refl, sym, ap, subst, ◌∙◌, append_assoc, append-nil, arith, take-append-le, first_places, first_places_after, is_among, Located, Step, located, location_of, AreEnough, IsExceeded, TookDistinct, up_to}
-use Rattle.std.proofs.lemmas.Bool.Decides.{nat_tests}
-use Rattle.std.proofs.lemmas.List.Folds.{list_any-append}
-use Rattle.serde_json_path_nodes.specs.Same.{same_steps, same_steps_decides}
-use Rattle.serde_json_path_nodes.specs.declared.located_node.LocatedNode.{LocatedNode}
-use Rattle.jsonpath_lines.specs.declared.distinct.DistinctNodes.{DistinctNodes}
+use Rattle.jsonpath_lines.proofs.Words.{◌≡◌, ◌⊎◌, inl, inr, ℕ, Bool, true, false, ◌||◌, if◌then◌else◌, List, [], ◌∷◌, ◌++◌, Option, Some, None, length, map, take, refl, sym, ap, subst, ◌∙◌, append_assoc, append-nil, arith, take-append-le, first_places, first_places_after, is_among, Located, Step, located, location_of, AreEnough, IsExceeded, TookDistinct, up_to, nat_tests, list_any-append, same_steps, same_steps_decides, LocatedNode, DistinctNodes}
 
 -- nodes that follow others
 after_append : (earlier : List (List Step)) (nodes later : List Located)

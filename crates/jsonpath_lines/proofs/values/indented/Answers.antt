@@ -1,5 +1,4 @@
-use Rattle.jsonpath_lines.proofs.Words.{◌∷◌, ◌++◌, [], ap, sym, subst, ◌∙◌, append_assoc, ArePrintable}
-use Rattle.json.specs.Reads.{token_of}
+use Rattle.jsonpath_lines.proofs.Words.{◌∷◌, ◌++◌, [], ap, sym, subst, ◌∙◌, append_assoc, ArePrintable, token_of}
 use Rattle.jsonpath_lines.proofs.values.indented.Goals as goal
 
 pub token-requires : goal.token-requires

@@ -1,7 +1,6 @@
 use Rattle.jsonpath_lines.proofs.Words.{◌≡◌, ◌∙◌, length, map, sym, ap, subst, refl, rules, length-map, map_push, first_places, located, IsExceeded}
 use Rattle.jsonpath_lines.proofs.EachOnce.{distinct_again, distinct_push, enough_met}
 use Rattle.jsonpath_lines.proofs.distinct.DistinctNodesSink.take.Goals as goal
-use Rattle.jsonpath_lines.proofs.distinct.DistinctNodesSink.take.Goals.{then-len-self+else-is_exceeded, else-len-self}
 
 pub returns-then-is_exceeded-clause-taken : goal.returns-then-is_exceeded-clause-taken
 returns-then-is_exceeded-clause-taken c = λ before nodes later took.
@@ -18,12 +17,12 @@ returns-clause-taken c = λ before nodes took.
     let old = c.args.self.now in
     let held = c.if-len-self.self.nodes.items in
     let same : first_places (map located held) ≡ first_places (map located old.nodes.items) = elim c.if-len-self.branch [
-      | then-len-self+else-is_exceeded w ↦ rw (w.self-is, w.distinct-nodes.ensures, w.replace.ensures.value) (distinct_again (map located old.nodes.items))
-      | else-len-self w ↦ rw w.self-is refl
+      | goal.then-len-self+else-is_exceeded w ↦ rw (w.self-is, w.distinct-nodes.ensures, w.replace.ensures.value) (distinct_again (map located old.nodes.items))
+      | goal.else-len-self w ↦ rw w.self-is refl
     ] in
     let limit : c.if-len-self.self.limit ≡ old.limit = elim c.if-len-self.branch [
-      | then-len-self+else-is_exceeded w ↦ rw w.self-is refl
-      | else-len-self w ↦ rw w.self-is refl
+      | goal.then-len-self+else-is_exceeded w ↦ rw w.self-is refl
+      | goal.else-len-self w ↦ rw w.self-is refl
     ] in
     record {
       limit = limit ∙ took.limit;
