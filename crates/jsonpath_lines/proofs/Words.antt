@@ -30,3 +30,4 @@ pub use Rattle.serde_json_path.proofs.Words.{Bool, Err, List, None, Ok, OnOk, Op
 pub use Rattle.serde_json_path_nodes.proofs.Words.{Data, Items, Located, Members, Step, array, as_i64, as_number, as_u64, boolean, cases_Bool, chars_rest, depth, first_places, first_places_after, fold-append, is_among, item, items_depth, list_any-append, located, location_of, member, members_depth, nat_tests, ne_eqb, negative, no_items, no_members, normal, null, number, object, on_ok_weaker, option_and_then, same_steps, same_steps_decides, signed_decimal, string, unsigned}
 pub use Rattle.serde_json_path_nodes.specs.declared.located_node.LocatedNode.{LocatedNode}
 pub use Rattle.serde_json_path_syntax.proofs.Words.{length-map, length-take, length-take-le, map_push, nil_from_length, take-append-le, take-map, take_all, take_more}
+pub use Rattle.std.proofs.lemmas.Grind.{common_steps}
