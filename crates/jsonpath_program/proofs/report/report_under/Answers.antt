@@ -1,12 +1,4 @@
-use Rattle.std.proofs.Common.{◌≡◌, Ok, Err, refl, ap, rules, subst}
-use Rattle.serde_json.specs.View.{view}
-use Rattle.serde_json_path_syntax.specs.Parts.{tree_of}
-use Rattle.serde_json_path_functions.specs.Functions.{with_rule}
-use Rattle.serde_json_path_core.specs.PatternCalls.{CallsByPattern}
-use Rattle.serde_json_path_core.specs.Selects.{Selects}
-use Rattle.serde_json_path_functions.specs.declared.error.QueryError.TheVariants.{Pattern}
-use Rattle.serde_json_path_parser.specs.Source.{Observed}
-use Rattle.jsonpath_program.specs.declared.report.ReportError.TheVariants.{Query}
+use Rattle.jsonpath_program.proofs.Words.{◌≡◌, Ok, Err, refl, ap, rules, subst, view, tree_of, with_rule, CallsByPattern, Selects, Pattern, Observed, Query}
 use Rattle.jsonpath_program.proofs.Runs.{ok_before, pattern_before}
 use Rattle.jsonpath_program.proofs.report.report_under.Goals as goal
 
