@@ -1,6 +1,5 @@
 -- Documents from bytes, and places in them.
-use Rattle.std.specs.Prelude.{◌≡◌, ◌==◌, ◌+◌, ◌-◌, ◌++◌, ◌&&◌, ◌||◌, not, ℕ, Bool, true, false, List, [], ◌∷◌, Some}
-use Rattle.std.specs.Prelude.{fold, length, take, drop, codes, nat_eq, nat_le, nat_lt, if◌then◌else◌}
+use Rattle.std.specs.Prelude.{◌≡◌, ◌==◌, ◌+◌, ◌-◌, ◌++◌, ◌&&◌, ◌||◌, not, ℕ, Bool, true, false, List, [], ◌∷◌, Some, fold, length, take, drop, codes, nat_eq, nat_le, nat_lt, if◌then◌else◌}
 use Rattle.std.specs.Fmt.{decimal}
 use Rattle.std.specs.List.{starts_with}
 use Rattle.std.specs.Str.{IsUtf8}
@@ -8,10 +7,7 @@ use Rattle.serde_json.specs.Data.{Data}
 use Rattle.serde_json.specs.Read.{read}
 use Rattle.jsonpath_document.specs.declared.document.DocumentError.{DocumentError}
 use Rattle.jsonpath_document.specs.declared.document.DocumentFault.{DocumentFault}
-use Rattle.jsonpath_document.specs.declared.document.DocumentFault.TheVariants.{ByteOrderMark, Empty, CutShort, Comment}
-use Rattle.jsonpath_document.specs.declared.document.DocumentFault.TheVariants.{SingleQuote, NotFinite, TrailingComma}
-use Rattle.jsonpath_document.specs.declared.document.DocumentFault.TheVariants.{NotUtf8, TooDeep, NumberOutOfRange}
-use Rattle.jsonpath_document.specs.declared.document.DocumentFault.TheVariants.{SecondDocument, NotJson, Memory}
+use Rattle.jsonpath_document.specs.declared.document.DocumentFault.TheVariants.{ByteOrderMark, Empty, CutShort, Comment, SingleQuote, NotFinite, TrailingComma, NotUtf8, TooDeep, NumberOutOfRange, SecondDocument, NotJson, Memory}
 
 -- the bytes read as this document: they are UTF-8, and its text reads as the value
 abbrev pub ReadsAs : List ℕ → Data → Type 0

@@ -1,10 +1,7 @@
 -- The array of nodes, written item by item, is its JSON.
-use Rattle.jsonpath_lines.proofs.Words.{◌≡◌, ℕ, suc, ◌≤◌, max, Bool, true, false, fold, List, [], ◌∷◌, ◌++◌, codes, Option, Some, option_map, refl, sym, ap, ap₂, subst, ◌∙◌, arith, append_assoc, append-nil, option_and_then, Token, end_object, tokens, ArePrintable, ArePrintableOrBad, ends, escape_byte, print, print_from, json_tokens, items_tokens, members_tokens, HasNumbers, ItemsHaveNumbers, print_from-append, tokens-print, ArePrintable-json_tokens, value-json_tokens, Data, Items, Members, null, boolean, number, string, array, object, no_items, item, no_members, member, depth, items_depth, members_depth, read, of_json, of_items, max_depth, blank, blank_items, blank_members, comma_if, outline, items_outline, members_outline, print-outline, tokens_from_order, Located, IsJsonOf, IsJsonIn, array_of, items_of, object_of, ArePiecesIn, IsLaidOut, IsPrintedOf, path_string, Json, Layout, Compact, Pretty, Output}
-use Rattle.std.proofs.lemmas.Grind.{fold-append}
+use Rattle.jsonpath_lines.proofs.Words.{nat_tests, common_steps, ◌≡◌, ℕ, suc, ◌≤◌, max, Bool, true, false, fold, List, [], ◌∷◌, ◌++◌, codes, Option, Some, option_map, refl, sym, ap, ap₂, subst, ◌∙◌, arith, append_assoc, append-nil, option_and_then, Token, end_object, tokens, ArePrintable, ArePrintableOrBad, ends, escape_byte, print, print_from, json_tokens, items_tokens, members_tokens, HasNumbers, ItemsHaveNumbers, print_from-append, tokens-print, ArePrintable-json_tokens, value-json_tokens, Data, Items, Members, null, boolean, number, string, array, object, no_items, item, no_members, member, depth, items_depth, members_depth, read, of_json, of_items, max_depth, blank, blank_items, blank_members, comma_if, outline, items_outline, members_outline, print-outline, tokens_from_order, Located, IsJsonOf, IsJsonIn, array_of, items_of, object_of, ArePiecesIn, IsLaidOut, IsPrintedOf, path_string, Json, Layout, Compact, Pretty, Output, fold-append, ArePrintableOrBad-tokens, value-HasNumbers, normal}
 use Rattle.json.specs.Json as json
 use Rattle.json.specs.Tree as tree
-use Rattle.json.proofs.Numbered.{ArePrintableOrBad-tokens, value-HasNumbers}
-use Rattle.serde_json_path_nodes.specs.Text.{normal}
 
 -- ---- trees of JSON
 
@@ -82,8 +79,7 @@ tree_numbers text j same =
 
 -- a value in one line, and tokens after it
 print_value : (text : List ℕ) (j : json.Json) (ts : List Token) → text ≡ print (json_tokens j) → print_from false (json_tokens j ++ ts) ≡ text ++ print_from true ts
-print_value text j ts same =
-    print_from-append false (json_tokens j) ts ∙ ap (λ (t : List ℕ). t ++ print_from (fold (λ _ u. ends u) false (json_tokens j)) ts) (sym same) ∙ ap (λ b. text ++ print_from b ts) (ended false j)
+print_value text j ts same = grind (arith, nat_tests, common_steps, print_from-append, ended)
 
 -- ---- a node as an object
 
@@ -91,9 +87,7 @@ abbrev object_tree : Located → json.Json → json.Json
 object_tree n j = json.object (json.member (codes "path") (json.string (normal n.location)) (json.member (codes "value") j json.no_members))
 
 regroup : (a p b j c rest : List ℕ) → a ++ (p ++ (b ++ (j ++ (c ++ rest)))) ≡ (a ++ (p ++ (b ++ (j ++ c)))) ++ rest
-regroup a p b j c rest =
-    sym (append_assoc a (p ++ (b ++ (j ++ c))) rest ∙ ap (λ (t : List ℕ). a ++ t) (append_assoc p (b ++ (j ++ c)) rest
-    ∙ ap (λ (t : List ℕ). p ++ t) (append_assoc b (j ++ c) rest ∙ ap (λ (t : List ℕ). b ++ t) (append_assoc j c rest))))
+regroup a p b j c rest = grind (arith, nat_tests, common_steps)
 
 print_end : (text : List ℕ) (j : json.Json) (ts : List Token) → text ≡ print (json_tokens j) → print_from false ((json_tokens j ++ end_object ∷ []) ++ ts) ≡ text ++ (codes "}" ++ print_from true ts)
 unfolding print_from
@@ -107,10 +101,7 @@ print_begun false n j ts = refl
 
 print_item : (later : Bool) (n : Located) (text it : List ℕ) (j : json.Json) (ts : List Token) → text ≡ print (json_tokens j)
     → it ≡ codes "{\"path\":" ++ (path_string n ++ (codes ",\"value\":" ++ (text ++ codes "}"))) → print_from later (json_tokens (object_tree n j) ++ ts) ≡ comma_if later ++ (it ++ print_from true ts)
-print_item later n text it j ts same is =
-    print_begun later n j ts
-    ∙ ap (λ (t : List ℕ). comma_if later ++ (codes "{\"path\":" ++ (path_string n ++ (codes ",\"value\":" ++ t)))) (print_end text j ts same)
-    ∙ ap (λ (t : List ℕ). comma_if later ++ t) (regroup (codes "{\"path\":") (path_string n) (codes ",\"value\":") text (codes "}") (print_from true ts) ∙ ap (λ (t : List ℕ). t ++ print_from true ts) (sym is))
+print_item later n text it j ts same is = grind (arith, nat_tests, common_steps, regroup, print_end, print_begun)
 
 -- ---- all nodes
 
@@ -141,8 +132,7 @@ items_in_order output head later [] pieces h = refl
 items_in_order output head later (n ∷ ns) pieces h = ap₂ (λ j js. json.item (object_tree n j) js) h.2.1.1.1.2 (items_in_order output head true ns h.1 h.3)
 
 object_read : (n : Located) (j : json.Json) → of_json j ≡ Some n.value → of_json (object_tree n j) ≡ Some (object_of n)
-object_read n j is =
-    ap (λ (o : Option Data). option_map object (option_and_then (λ d. Some (member (codes "path") (string (normal n.location)) (member (codes "value") d no_members))) o)) is
+object_read n j is = grind (arith, nat_tests, common_steps)
 
 item_read : (n : Located) (text : List ℕ) (is : IsPrintedOf n.value text) → depth n.value ≤ max_depth → of_json (object_tree n is.1.0) ≡ Some (object_of n)
 item_read n text is shallow = object_read n is.1.0 (sym (read_tree text is.1.0 n.value is.1.1 is.1.2 shallow) ∙ is.2 shallow)
@@ -161,8 +151,7 @@ items_read output head later (n ∷ ns) pieces h shallow =
 array_printed : (output : Output) (head : List ℕ) (ns : List Located) (pieces text : List ℕ) (h : ArePiecesIn Json output head false ns pieces) → text ≡ (codes "[" ++ pieces) ++ codes "]"
     → text ≡ print (json_tokens (json.array (trees output head false ns pieces h)))
 unfolding print_from
-array_printed output head ns pieces text h is =
-    is ∙ append_assoc (codes "[") pieces (codes "]") ∙ ap (λ (t : List ℕ). codes "[" ++ t) (sym (print_items output head false ns pieces h))
+array_printed output head ns pieces text h is = grind (arith, nat_tests, common_steps, print_items)
 
 array_tokens : (output : Output) (head : List ℕ) (ns : List Located) (pieces text : List ℕ) (h : ArePiecesIn Json output head false ns pieces) → text ≡ (codes "[" ++ pieces) ++ codes "]"
     → tokens text ≡ json_tokens (json.array (trees output head false ns pieces h))

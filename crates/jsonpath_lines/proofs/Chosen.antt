@@ -1,5 +1,5 @@
 -- The nodes that a walk is asked for.
-use Rattle.jsonpath_lines.proofs.Words.{◌≡◌, ◌↔◌, ◌⊎◌, inl, inr, ℕ, zero, suc, ◌+◌, ◌≤◌, Bool, true, false, List, [], ◌∷◌, ◌++◌, length, take, codes, Option, Some, None, nat_lt, string_bytes, refl, sym, ap, subst, ◌∙◌, append-nil, append_assoc, arith, length-take, take_all, take-append-le, tokens, ArePrintable, Located, first_places_after, AreLines, AreLinesIn, IsCount, IsCountIn, up_to, Appends, ArePieces, ArePiecesIn, IsClosedIn, IsPiece, FilledLines, Pushes, TookLines, asked, is_reached, leaves_out_in, limit_in, once, opening, Form, LocationAndValue, Value, Raw, Location, Pointer, Json, Count, Nothing, Output, LineWriter, Lines}
+use Rattle.jsonpath_lines.proofs.Words.{nat_tests, common_steps, ◌≡◌, ◌↔◌, ◌⊎◌, inl, inr, ℕ, zero, suc, ◌+◌, ◌≤◌, Bool, true, false, List, [], ◌∷◌, ◌++◌, length, take, codes, Option, Some, None, nat_lt, string_bytes, refl, sym, ap, subst, ◌∙◌, append_assoc, arith, length-take, take_all, take-append-le, tokens, ArePrintable, Located, first_places_after, AreLines, AreLinesIn, IsCount, IsCountIn, up_to, Appends, ArePieces, ArePiecesIn, IsClosedIn, IsPiece, FilledLines, Pushes, TookLines, asked, is_reached, leaves_out_in, limit_in, once, opening, Form, LocationAndValue, Value, Raw, Location, Pointer, Json, Count, Nothing, Output, LineWriter, Lines}
 use Rattle.jsonpath_lines.proofs.Arrays.{array_printable}
 use Rattle.jsonpath_lines.proofs.Pieces.{appended_pushed, length_further, lines_written}
 
@@ -116,7 +116,4 @@ chosen_shown output head nodes opened written shown count begun pushed closed =
 -- an array of which all but the end is written can be laid out
 pub array_begun : (output : Output) (head : List ℕ) (nodes : List Located) (opened written : List ℕ) (count : ℕ) → opened ≡ opening output.form → Pushes output head nodes opened written count
     → output.form ≡ Json → ArePrintable (tokens (written ++ codes "]"))
-array_begun output head nodes opened written count begun pushed is =
-    let shown = up_to (limit_in output.form output.most) nodes in
-    let all : written ≡ codes "[" ++ pushed.0.0 = pushed.0.2 ∙ ap (λ (t : List ℕ). t ++ pushed.0.0) (begun ∙ ap opening is) in
-    array_printable output head shown pushed.0.0 (written ++ codes "]") (subst (λ form. ArePiecesIn form output head false shown pushed.0.0) is pushed.0.1) (ap (λ (t : List ℕ). t ++ codes "]") all)
+array_begun output head nodes opened written count begun pushed is = grind (arith, nat_tests, common_steps, array_printable)

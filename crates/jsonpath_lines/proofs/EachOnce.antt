@@ -1,10 +1,5 @@
 -- Nodes of which each location is taken once: of their beginning, of one node more, and of those that were taken so before.
-use Rattle.jsonpath_lines.proofs.Words.{◌≡◌, ◌⊎◌, inl, inr, ℕ, Bool, true, false, ◌||◌, if◌then◌else◌, List, [], ◌∷◌, ◌++◌, Option, Some, None, length, map, take, refl, sym, ap, subst, ◌∙◌, append_assoc, append-nil, arith, take-append-le, first_places, first_places_after, is_among, Located, Step, located, location_of, AreEnough, IsExceeded, TookDistinct, up_to}
-use Rattle.std.proofs.lemmas.Bool.Decides.{nat_tests}
-use Rattle.std.proofs.lemmas.List.Folds.{list_any-append}
-use Rattle.serde_json_path_nodes.specs.Same.{same_steps, same_steps_decides}
-use Rattle.serde_json_path_nodes.specs.declared.located_node.LocatedNode.{LocatedNode}
-use Rattle.jsonpath_lines.specs.declared.distinct.DistinctNodes.{DistinctNodes}
+use Rattle.jsonpath_lines.proofs.Words.{common_steps, ◌≡◌, ◌⊎◌, inl, inr, ℕ, Bool, true, false, ◌||◌, if◌then◌else◌, List, [], ◌∷◌, ◌++◌, Option, Some, None, length, map, take, refl, sym, ap, subst, ◌∙◌, append_assoc, append-nil, arith, take-append-le, first_places, first_places_after, is_among, Located, Step, located, location_of, AreEnough, IsExceeded, TookDistinct, up_to, nat_tests, list_any-append, same_steps, same_steps_decides, DistinctNodes}
 
 -- nodes that follow others
 after_append : (earlier : List (List Step)) (nodes later : List Located)
@@ -33,8 +28,7 @@ adds_none location known earlier among =
 -- the locations of the nodes that are taken are those of all
 with_one : (location known : List Step) (earlier others : List (List Step))
     → is_among location ((earlier ++ known ∷ []) ++ others) ≡ ((is_among location earlier || same_steps location known) || is_among location others)
-with_one location known earlier others =
-    grind (arith, nat_tests, list_any-append (same_steps location) (earlier ++ known ∷ []) others, list_any-append (same_steps location) earlier (known ∷ []))
+with_one location known earlier others = grind (arith, nat_tests, common_steps, list_any-append)
 
 one_among : (earlier : List (List Step)) (n : Located) (nodes : List Located) (location : List Step) (among : Bool) → is_among n.location earlier ≡ among
     → is_among location ((earlier ++ n.location ∷ []) ++ map location_of (first_places_after (earlier ++ n.location ∷ []) nodes))
@@ -67,15 +61,10 @@ abbrev AreAmong : List (List Step) → List (List Step) → Type 0
 AreAmong some others = (location : List Step) → is_among location some ≡ true → is_among location others ≡ true
 
 among_more : (known : List Step) (some others : List (List Step)) → AreAmong some others → AreAmong some (others ++ known ∷ [])
-among_more known some others are location is =
-    list_any-append (same_steps location) others (known ∷ []) ∙ ap (λ b. b || is_among location (known ∷ [])) (are location is)
+among_more known some others are location is = grind (arith, nat_tests, common_steps, list_any-append)
 
 among_both : (known : List Step) (some others : List (List Step)) → AreAmong some others → AreAmong (some ++ known ∷ []) (others ++ known ∷ [])
-among_both known some others are location is =
-    let in_some = list_any-append (same_steps location) some (known ∷ []) in
-    let in_others = list_any-append (same_steps location) others (known ∷ []) in
-    let passed = are location in
-    grind (arith, nat_tests)
+among_both known some others are location is = grind (arith, nat_tests, common_steps, list_any-append)
 
 -- a location that is not among others is not among some of them
 not_among : (location : List Step) (some others : List (List Step)) → AreAmong some others → is_among location others ≡ false → is_among location some ≡ false

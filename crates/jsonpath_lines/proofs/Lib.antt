@@ -16,4 +16,4 @@ pub mod Compact
 pub mod Scalars
 pub mod Arrays
 pub mod Appended
-mod Words
+pub mod Words

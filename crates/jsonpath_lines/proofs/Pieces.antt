@@ -1,5 +1,5 @@
 -- What is shown of some nodes, with that of another node after it; the lines that the pieces make up.
-use Rattle.jsonpath_lines.proofs.Words.{◌≡◌, ℕ, ◌+◌, Bool, true, false, nat_lt, List, [], ◌∷◌, ◌++◌, length, length-append, codes, decimal, refl, sym, ap, subst, ◌∙◌, append_assoc, append-nil, arith, Located, AreLinesIn, IsLine, IsLineOfEach, array_of, end_text, Appends, ArePieces, ArePiecesIn, IsPiece, IsClosedIn, IsPieceIn, opening, Form, LocationAndValue, Value, Raw, Location, Pointer, Json, Count, Nothing, Output}
+use Rattle.jsonpath_lines.proofs.Words.{nat_tests, common_steps, ◌≡◌, ℕ, ◌+◌, Bool, true, false, nat_lt, List, [], ◌∷◌, ◌++◌, length, length-append, codes, decimal, refl, sym, ap, subst, ◌∙◌, append_assoc, append-nil, arith, Located, AreLinesIn, IsLine, IsLineOfEach, array_of, end_text, Appends, ArePieces, ArePiecesIn, IsPiece, IsClosedIn, IsPieceIn, opening, Form, LocationAndValue, Value, Raw, Location, Pointer, Json, Count, Nothing, Output}
 use Rattle.jsonpath_lines.proofs.Arrays.{array_is, json_laid_out}
 
 -- ---- one node further
@@ -27,17 +27,12 @@ pushed form output head later (m ∷ ns) pieces piece n h is =
 -- the pieces of some nodes, and that of the node after them
 pub pieces_pushed : (form : Form) (output : Output) (head : List ℕ) (ns : List Located) (pieces piece : List ℕ) (n : Located) (count : ℕ) → count ≡ length ns → ArePiecesIn form output head false ns pieces
     → IsPieceIn form output head (nat_lt 0 count) n piece → ArePiecesIn form output head false (ns ++ n ∷ []) (pieces ++ piece)
-pieces_pushed form output head ns pieces piece n count same h is =
-    pushed form output head false ns pieces piece n h (subst (λ later. IsPieceIn form output head later n piece) (ap (nat_lt 0) same ∙ later_after-length ns) is)
+pieces_pushed form output head ns pieces piece n count same h is = grind (arith, nat_tests, common_steps, later_after-length, pushed)
 
 -- the same of a text to which the pieces are appended
 pub appended_pushed : (output : Output) (head : List ℕ) (ns : List Located) (n : Located) (count : ℕ) (old text new : List ℕ) → count ≡ length ns → Appends (ArePieces output head ns) old text
     → Appends (IsPiece output head (nat_lt 0 count) n) text new → Appends (ArePieces output head (ns ++ n ∷ [])) old new
-appended_pushed output head ns n count old text new same before piece = (
-  before.0 ++ piece.0,
-  pieces_pushed output.form output head ns before.0 piece.0 n count same before.1 piece.1,
-  piece.2 ∙ ap (λ (t : List ℕ). t ++ piece.0) before.2 ∙ append_assoc old before.0 piece.0,
-)
+appended_pushed output head ns n count old text new same before piece = grind (arith, nat_tests, common_steps, pieces_pushed)
 
 -- and they are one more
 pub length_further : (ns : List Located) (n : Located) (count : ℕ) → count ≡ length ns → count + 1 ≡ length (ns ++ n ∷ [])

@@ -1,6 +1,5 @@
 -- A line so far, in colours: what has no escape is seen, and sequences are not.
-use Rattle.jsonpath_lines.proofs.Words.{◌≡◌, ℕ, Bool, false, List, [], ◌∷◌, ◌++◌, ◌==◌, if◌then◌else◌, refl, sym, ap, subst, ◌∙◌, append_assoc, append-nil, IsUnseen, plain, plain_from, HasNoEscape}
-use Rattle.std.proofs.lemmas.Bool.{ne_eqb}
+use Rattle.jsonpath_lines.proofs.Words.{◌≡◌, ℕ, Bool, false, List, [], ◌∷◌, ◌++◌, ◌==◌, if◌then◌else◌, refl, sym, ap, subst, ◌∙◌, append_assoc, append-nil, IsUnseen, plain, plain_from, HasNoEscape, ne_eqb}
 
 -- a text that has no escape is seen
 pub seen : (bytes more : List ℕ) → HasNoEscape bytes → plain (bytes ++ more) ≡ bytes ++ plain more

@@ -1,16 +1,12 @@
 -- What contracts of private functions cite alone.
 use Rattle.std.specs.Prelude.{◌≡◌, ◌≤◌, ℕ, min, Bool, true, false, List, [], ◌∷◌, ◌++◌, length, map, Option, Some, None, string_bytes, unwrap_or, nat_le, if◌then◌else◌, codes}
-use Rattle.std.specs.Fmt.{decimal}
+use Rattle.serde_json_path_nodes.specs.Words.{decimal, Located, first_places, normal, located}
 use Rattle.json.specs.Lex.{tokens}
 use Rattle.json.specs.Layout.{pretty}
 use Rattle.json.specs.Print.{print}
 use Rattle.serde_json.specs.Data.{Data, string, depth}
 use Rattle.serde_json.specs.Read.{read, max_depth}
 use Rattle.serde_json.specs.Written.{IsInOrder, comma_if, compact_text}
-use Rattle.serde_json_path_nodes.specs.Location.{Located}
-use Rattle.serde_json_path_nodes.specs.Lists.{first_places}
-use Rattle.serde_json_path_nodes.specs.Text.{normal}
-use Rattle.serde_json_path_nodes.specs.Views.{located}
 use Rattle.jsonpath_lines.specs.Output.{IsJsonIn, IsLine, end_text, up_to}
 use Rattle.jsonpath_lines.specs.Distinct.{AreEnough}
 use Rattle.jsonpath_lines.specs.Plain.{plain}

@@ -3,7 +3,9 @@
 -- Distinct: enough nodes, each location once.
 -- Plain: a line without its colours.
 -- Inside: what contracts of private functions cite alone.
+-- Words: the words of contracts, from one place.
 pub mod Output
 pub mod Distinct
 pub mod Plain
 pub mod Inside
+pub mod Words

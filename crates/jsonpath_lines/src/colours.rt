@@ -1,8 +1,7 @@
 //! Lines in the colours of a terminal.
 
 ghost use Rattle.std.specs.Prelude.{◌≡◌, IfOk, OnOk, string_bytes};
-ghost use Rattle.jsonpath_lines.specs.Plain.{plain, HasNoEscape};
-ghost use Rattle.jsonpath_lines.specs.Inside.{Appends, IsUnseen};
+ghost use Rattle.jsonpath_lines.specs.Words.{plain, HasNoEscape, Appends, IsUnseen};
 
 use crate::forms::Form;
 use std::alloc::{AllocError, Global};

@@ -1,11 +1,7 @@
 //! The nodes of a walk, each location once.
 
 ghost use Rattle.std.specs.Prelude.{◌≡◌, IfOk, map, true};
-ghost use Rattle.serde_json_path_nodes.specs.Lists.{first_places};
-ghost use Rattle.serde_json_path_nodes.specs.Views.{located};
-ghost use Rattle.serde_json_path_core.specs.Selects.{OnlyMemoryOrPattern};
-ghost use Rattle.serde_json_path_core.specs.Walks.{document_of, query_of, rest, set_of};
-ghost use Rattle.jsonpath_lines.specs.Distinct.{AreEnough, IsExceeded};
+ghost use Rattle.jsonpath_lines.specs.Words.{first_places, located, OnlyMemoryOrPattern, document_of, query_of, rest, set_of, AreEnough, IsExceeded};
 
 use serde_json_path::functions::Functions;
 use serde_json_path::{LocatedNode, LocatedNodeList, QueryError, Sink, Taken, Walk};

@@ -57,8 +57,7 @@ pub struct Output {
 }
 
 impl LineEnd {
-    ghost use Rattle.std.specs.Char.{encode_utf8};
-    ghost use Rattle.jsonpath_lines.specs.Output.{end_text};
+    ghost use Rattle.jsonpath_lines.specs.Words.{encode_utf8, end_text};
 
     /// The end as a character.
     #[inline(always)]
@@ -73,8 +72,7 @@ impl LineEnd {
 }
 
 impl Output {
-    ghost use Rattle.jsonpath_lines.specs.Inside.{leaves_out_in, limit_in};
-    ghost use Rattle.jsonpath_lines.specs.Output.{compact_lines};
+    ghost use Rattle.jsonpath_lines.specs.Words.{leaves_out_in, limit_in, compact_lines};
 
     /// A compact line in a form for each node, ended by a line feed, as `jsonpath` writes them.
     pub fn compact_lines(form: Form) -> Output

@@ -1,12 +1,7 @@
 //! The lines of nodes, one after the other.
 
 ghost use Rattle.std.specs.Prelude.{◌≡◌, ◌++◌, codes, IfOk, OnOk, string_bytes};
-ghost use Rattle.json.specs.Lex.{tokens};
-ghost use Rattle.json.specs.Print.{ArePrintable};
-ghost use Rattle.serde_json.specs.Written.{comma_if};
-ghost use Rattle.serde_json_path_nodes.specs.Views.{located};
-ghost use Rattle.jsonpath_lines.specs.Output.{IsLine, IsText};
-ghost use Rattle.jsonpath_lines.specs.Inside.{Appends, IsArrayLine, IsClosedIn, IsLaidOut, IsPiece, opening};
+ghost use Rattle.jsonpath_lines.specs.Words.{tokens, ArePrintable, comma_if, located, IsLine, IsText, Appends, IsArrayLine, IsClosedIn, IsLaidOut, IsPiece, opening};
 
 use crate::forms::{Form, Layout, Output};
 use crate::values::{indented, push_item, push_json};

@@ -1,12 +1,7 @@
 //! The text of the nodes of a walk.
 
 ghost use Rattle.std.specs.Prelude.{◌≡◌, ◌⊎◌, [], map, IfOk, IfErr, OnOk, string_bytes};
-ghost use Rattle.serde_json_path_nodes.specs.Views.{located};
-ghost use Rattle.serde_json_path_nodes.specs.Lists.{first_places};
-ghost use Rattle.serde_json_path_core.specs.Selects.{OnlyMemoryOrPattern};
-ghost use Rattle.serde_json_path_core.specs.Walks.{rest, query_of, set_of, document_of};
-ghost use Rattle.jsonpath_lines.specs.Output.{AreLines, IsCount, up_to};
-ghost use Rattle.jsonpath_lines.specs.Inside.{Appends, ArePieces, Pushes, asked, is_reached};
+ghost use Rattle.jsonpath_lines.specs.Words.{located, first_places, OnlyMemoryOrPattern, rest, query_of, set_of, document_of, AreLines, IsCount, up_to, Appends, ArePieces, Pushes, asked, is_reached};
 
 use crate::distinct::distinct_nodes;
 use crate::forms::Output;

@@ -1,12 +1,7 @@
 //! The JSON of values, appended to a text.
 
 ghost use Rattle.std.specs.Prelude.{◌≡◌, ◌++◌, IfOk, OnOk, string_bytes};
-ghost use Rattle.std.specs.Str.{IsUtf8};
-ghost use Rattle.json.specs.Lex.{tokens};
-ghost use Rattle.json.specs.Print.{ArePrintable};
-ghost use Rattle.serde_json.specs.View.{view};
-ghost use Rattle.serde_json_path_nodes.specs.Views.{located};
-ghost use Rattle.jsonpath_lines.specs.Inside.{Appends, IsIndented, IsItem, IsLaid, path_string};
+ghost use Rattle.jsonpath_lines.specs.Words.{IsUtf8, tokens, ArePrintable, view, located, Appends, IsIndented, IsItem, IsLaid, path_string};
 
 use crate::forms::Layout;
 use itoa::Buffer;

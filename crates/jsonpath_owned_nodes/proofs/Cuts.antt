@@ -1,6 +1,5 @@
 -- Lists that stand one after the other, each up to its end.
-use Rattle.std.proofs.Common.{◌≡◌, ℕ, zero, suc, ◌-◌, ◌≤◌, ◌<◌, List, [], ◌∷◌, ◌++◌, length, take, drop, get_or, Some, refl, sym, ap, ◌∙◌, arith, length-drop, slice_range, slice_get}
-use Rattle.jsonpath_owned_nodes.proofs.Words.{take-append-le, drop-append-le, drop_all, length_push, slice_get_past, take_all, length-take-le, take-append-drop, cut, last_end, AreEnds}
+use Rattle.jsonpath_owned_nodes.proofs.Words.{◌≡◌, ℕ, zero, suc, ◌-◌, ◌≤◌, ◌<◌, List, [], ◌∷◌, ◌++◌, length, take, drop, get_or, Some, refl, sym, ap, ◌∙◌, arith, length-drop, slice_range, slice_get, take-append-le, drop-append-le, drop_all, length_push, slice_get_past, take_all, length-take-le, take-append-drop, cut, last_end, AreEnds}
 
 -- there are as many lists as ends
 pub length_cut : {T : Type 0} (start : ℕ) (ends : List ℕ) (items : List T) → length (cut start ends items) ≡ length ends

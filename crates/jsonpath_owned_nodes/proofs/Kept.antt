@@ -1,6 +1,5 @@
 -- What a list keeps of its nodes, read from its parts.
-use Rattle.std.proofs.Common.{◌≡◌, ℕ, suc, ◌+◌, ◌<◌, String, string_bytes, List, [], ◌∷◌, ◌++◌, length, map, drop, get_or, Option, Bor, Some, None, ◌⊎◌, inl, inr, zero, refl, sym, ap, ◌∙◌, arith, slice_get, option_and_then}
-use Rattle.jsonpath_owned_nodes.proofs.Words.{take_all, option_copied, IsGetResult, slice_get_past, slice_get_read, map-append, append_assoc, drop_all, drop_more, length_push, All-head, All-tail, All-push, All-weaker, All, Data, Step, child_at, at, step_in, IsStored, IsLocation, nodes_in, AreParts, NodeInfo, StoredStep, BeginsWith}
+use Rattle.jsonpath_owned_nodes.proofs.Words.{◌≡◌, ℕ, suc, ◌+◌, ◌<◌, String, string_bytes, List, [], ◌∷◌, ◌++◌, length, map, drop, get_or, Option, Bor, Some, None, ◌⊎◌, inl, inr, zero, refl, sym, ap, ◌∙◌, arith, slice_get, option_and_then, take_all, option_copied, IsGetResult, slice_get_past, slice_get_read, map-append, append_assoc, drop_all, drop_more, length_push, All-head, All-tail, All-push, All-weaker, All, Data, Step, child_at, at, step_in, IsStored, IsLocation, nodes_in, AreParts, NodeInfo, StoredStep, BeginsWith}
 use Rattle.jsonpath_owned_nodes.proofs.Names.{text_grew, Grew, steps_kept, all_kept}
 
 -- there are as many nodes as parts

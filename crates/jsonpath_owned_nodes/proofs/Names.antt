@@ -1,6 +1,5 @@
 -- Names in a text that all of them share, and that grows.
-use Rattle.std.proofs.Common.{◌≡◌, ℕ, String, string_bytes, ◌≤◌, List, [], ◌∷◌, ◌++◌, length, take, map, refl, ap, ◌∙◌, arith, length-append}
-use Rattle.jsonpath_owned_nodes.proofs.Words.{append_assoc, All-head, All-tail, All-weaker, IsCharBoundary-end, IsCharBoundary-from_take, IsUtf8-take, take-append-le, IsUtf8-string_bytes, All, IsUtf8, IsCharBoundary, by_name, step_in, IsStored, BeginsWith, StoredStep, Name, Index}
+use Rattle.jsonpath_owned_nodes.proofs.Words.{◌≡◌, ℕ, String, string_bytes, ◌≤◌, List, [], ◌∷◌, ◌++◌, length, take, map, refl, ap, ◌∙◌, arith, length-append, append_assoc, All-head, All-tail, All-weaker, IsCharBoundary-end, IsCharBoundary-from_take, IsUtf8-take, take-append-le, IsUtf8-string_bytes, All, IsUtf8, IsCharBoundary, by_name, step_in, IsStored, BeginsWith, StoredStep, Name, Index}
 use Rattle.jsonpath_owned_nodes.proofs.Cuts.{slice_range-more}
 
 -- a text that went on after another

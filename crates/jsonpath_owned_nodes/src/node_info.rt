@@ -1,8 +1,7 @@
 //! What is known of a node without its document.
 
 ghost use Rattle.std.specs.Prelude.{◌≡◌};
-ghost use Rattle.serde_json.specs.View.{view, number_view};
-ghost use Rattle.jsonpath_owned_nodes.specs.Info.{info_of, info_of_number};
+ghost use Rattle.jsonpath_owned_nodes.specs.Words.{view, number_view, info_of, info_of_number};
 
 use serde_json::{Number, Value};
 

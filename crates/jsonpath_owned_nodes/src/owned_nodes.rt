@@ -1,8 +1,7 @@
 //! Nodes that outlive their document.
 
-ghost use Rattle.std.specs.Prelude.{◌≡◌, ◌++◌, ◌∷◌, [], ◌==◌, length, slice_get, IfOk, OnOk, OnErr};
-ghost use Rattle.std.specs.Prelude.{option_map, option_and_then};
-ghost use Rattle.serde_json.specs.View.{view};
+ghost use Rattle.std.specs.Prelude.{◌≡◌, ◌++◌, ◌∷◌, [], ◌==◌, length, slice_get, IfOk, OnOk, OnErr, option_map, option_and_then};
+ghost use Rattle.jsonpath_owned_nodes.specs.Words.{view};
 
 use crate::node_info::NodeInfo;
 use crate::runs::Runs;
@@ -42,8 +41,7 @@ impl Model for OwnedNodes {
 
 #[tactic(auto, using(crate::proofs::Kept::of_nodes))]
 impl OwnedNodes {
-    ghost use Rattle.serde_json_path_nodes.specs.Views.{located};
-    ghost use Rattle.jsonpath_owned_nodes.specs.Kept.{kept, known_of, location_of, value_in};
+    ghost use Rattle.jsonpath_owned_nodes.specs.Words.{located, kept, known_of, location_of, value_in};
 
     /// A list of no nodes. Takes no memory.
     pub fn new(alloc: Global) -> OwnedNodes

@@ -1,7 +1,6 @@
 //! Lists that stand one after the other in one vector.
 
-ghost use Rattle.std.specs.Prelude.{◌≡◌, ◌≤◌, ◌++◌, ◌∷◌, [], length, slice_get, slice_index};
-ghost use Rattle.std.specs.Prelude.{option_map, is_ok, if◌then◌else◌};
+ghost use Rattle.std.specs.Prelude.{◌≡◌, ◌≤◌, ◌++◌, ◌∷◌, [], length, slice_get, slice_index, option_map, is_ok, if◌then◌else◌};
 
 use std::alloc::{AllocError, Global};
 use std::marker::Model;

@@ -1,10 +1,7 @@
 //! Locations that are stored, and the way down them.
 
-ghost use Rattle.std.specs.Prelude.{◌≡◌, ◌++◌, ◌∷◌, [], List, OnOk, OnErr, string_bytes};
-ghost use Rattle.std.specs.Prelude.{option_map};
-ghost use Rattle.serde_json.specs.View.{view};
-ghost use Rattle.serde_json_path_nodes.specs.Location.{child_at};
-ghost use Rattle.jsonpath_owned_nodes.specs.Inside.Stored.{BeginsWith, IsLocation, IsStored, step_in};
+ghost use Rattle.std.specs.Prelude.{◌≡◌, ◌++◌, ◌∷◌, [], List, OnOk, OnErr, string_bytes, option_map};
+ghost use Rattle.jsonpath_owned_nodes.specs.Words.{view, child_at, BeginsWith, IsLocation, IsStored, step_in};
 ghost use Rattle.jsonpath_owned_nodes.specs.declared.stored_step.StoredStep.{StoredStep};
 
 use crate::runs::Runs;

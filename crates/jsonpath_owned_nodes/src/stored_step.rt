@@ -1,8 +1,7 @@
 //! The steps of a location that borrows nothing.
 
 ghost use Rattle.std.specs.Prelude.{◌≡◌, IfOk, string_bytes};
-ghost use Rattle.serde_json_path_nodes.specs.Views.{step_view};
-ghost use Rattle.jsonpath_owned_nodes.specs.Inside.Stored.{BeginsWith, IsStored, step_in};
+ghost use Rattle.jsonpath_owned_nodes.specs.Words.{step_view, BeginsWith, IsStored, step_in};
 
 use serde_json_path_nodes::PathElement;
 use std::alloc::AllocError;

@@ -1,7 +1,5 @@
 -- What a write leaves of a text, and the beginnings of texts that were appended.
-use Rattle.std.proofs.Common.{◌≡◌, ℕ, ◌-◌, List, ◌++◌, length, take, drop, Option, sym, ap, ◌∙◌, append_assoc, take-append-drop}
-use Rattle.std.proofs.lemmas.List.{take_rest}
-use Rattle.jsonpath_program.specs.Run.{AppendsBeginning}
+use Rattle.jsonpath_program.proofs.Words.{◌≡◌, ℕ, ◌-◌, List, ◌++◌, length, take, drop, Option, sym, ap, ◌∙◌, append_assoc, take-append-drop, take_rest, AppendsBeginning}
 
 pub split_further : (text begun rest : List ℕ) (n : ℕ) → text ≡ begun ++ rest → text ≡ (begun ++ take n rest) ++ take (length rest - n) (drop n rest)
 split_further text begun rest n e =

@@ -1,18 +1,5 @@
 -- What the steps of a run show of its words, its input, its refusals and their lines; and what an Ok after `map_err` was before it.
-use Rattle.std.proofs.Common.{◌≡◌, ℕ, ◌<◌, ◌≤◌, false, List, [], ◌∷◌, ◌++◌, length, get_or, codes, Option, Some, None, Result, Ok, Err, String, string_bytes, Global, refl, sym, ap, subst, ◌∙◌, arith}
-use Rattle.std.specs.Prelude.{IfSome, OnOk, MatchResult, IsErrAnd, is_err}
-use Rattle.std.specs.Fmt.{decimal, digits}
-use Rattle.serde_json_path_functions.specs.Patterns.{builtin_functions}
-use Rattle.serde_json_path_functions.specs.declared.error.QueryError.{QueryError}
-use Rattle.serde_json_path_functions.specs.declared.error.QueryError.TheVariants.{Pattern}
-use Rattle.serde_json_path_parser.specs.Errors.{kind_of, position_of, message}
-use Rattle.serde_json_path_parser.specs.declared.error.ParseError.{ParseError}
-use Rattle.serde_json_path_parser.specs.declared.error.ParseErrorKind.TheVariants.{NoMemory}
-use Rattle.jsonpath_program.specs.declared.report.DocumentError.{DocumentError}
-use Rattle.jsonpath_program.specs.declared.report.ReportError.{ReportError}
-use Rattle.jsonpath_program.specs.declared.report.ReportError.TheVariants.{Path, Document, Query}
-use Rattle.jsonpath_program.specs.Report.{IsReportOf}
-use Rattle.jsonpath_program.specs.Run.{status_of, line_of, IsOneWord, IsReportOfRun}
+use Rattle.jsonpath_program.proofs.Words.{◌≡◌, ℕ, ◌<◌, ◌≤◌, false, List, [], ◌∷◌, ◌++◌, length, get_or, codes, Option, Some, None, Result, Ok, Err, String, string_bytes, Global, refl, sym, ap, subst, ◌∙◌, arith, IfSome, OnOk, MatchResult, IsErrAnd, is_err, decimal, digits, builtin_functions, QueryError, Pattern, kind_of, position_of, message, ParseError, NoMemory, DocumentError, ReportError, Path, Document, Query, IsReportOf, status_of, line_of, IsOneWord, IsReportOfRun}
 
 pub one_word : (words : List (String Global)) (word : String Global) (text : List ℕ) → 1 ≤ length words → length words < 2 → word ≡ get_or words 0 word → text ≡ string_bytes word → IsOneWord words text
 one_word [] word text low high is e = absurd (omega arith)

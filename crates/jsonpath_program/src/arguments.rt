@@ -1,8 +1,7 @@
 //! The program's words.
 
 ghost use Rattle.std.specs.Prelude.{◌≡◌, List, IfOk, drop, String};
-ghost use Rattle.std.specs.Iterator.{Drains, IsFinite};
-ghost use Rattle.std.specs.declared.alloc.Global.{Global};
+ghost use Rattle.jsonpath_program.specs.Words.{Drains, IsFinite, Global};
 
 use std::alloc::{AllocError, Global};
 

@@ -1,21 +1,8 @@
 //! The lines of a report on a path and a document.
 
 ghost use Rattle.std.specs.Prelude.{◌≡◌, [], ◌∷◌, List, IfOk, string_bytes};
-ghost use Rattle.serde_json.specs.Data.{Data};
-ghost use Rattle.serde_json.specs.View.{view};
-ghost use Rattle.serde_json_path_nodes.specs.Location.{Located};
-ghost use Rattle.serde_json_path_functions.specs.Functions.{Fits, whole_numbers, with_rule};
-ghost use Rattle.serde_json_path_functions.specs.Patterns.{before_builtin};
-ghost use Rattle.serde_json_path_core.specs.Selects.{OnlyMemoryOrPattern, Selects};
-ghost use Rattle.serde_json_path.specs.Paths.{path_view};
-ghost use Rattle.serde_json_path_syntax.specs.Parts.{rule_of, signatures_of, tree_of};
-ghost use Rattle.serde_json_path_parser.specs.Parse.{IsParseOf};
-ghost use Rattle.serde_json_path_parser.specs.Reported.{ReportsFirst};
+ghost use Rattle.jsonpath_program.specs.Words.{Data, view, Located, Fits, whole_numbers, with_rule, before_builtin, OnlyMemoryOrPattern, Selects, path_view, rule_of, signatures_of, tree_of, IsParseOf, ReportsFirst, ReadsAs, IsReadFor, AreLines, compact_lines, IsAnswer, IsNoPath, CallsByPatternOn, IsReport, IsReportIn};
 ghost use Rattle.serde_json_path_parser.specs.declared.error.ParseError as path_error;
-ghost use Rattle.jsonpath_document.specs.Document.{ReadsAs};
-ghost use Rattle.jsonpath_lines.specs.Output.{AreLines, compact_lines};
-ghost use Rattle.jsonpath_program.specs.Report.{IsAnswer, IsNoPath, CallsByPatternOn, IsReport, IsReportIn};
-ghost use Rattle.serde_json_path_reach.specs.Alike.{IsReadFor};
 
 use jsonpath_document::{DocumentError as ReadError, DocumentFault, read_document};
 use jsonpath_lines::{Form, Output, write_nodes};

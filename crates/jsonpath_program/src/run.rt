@@ -1,16 +1,8 @@
 //! The program over a reader and two writers.
 
 ghost use Rattle.std.specs.Prelude.{◌≡◌, ◌≢◌, ◌↔◌, ◌⊎◌, ℕ, List, length, codes, OnOk};
-ghost use Rattle.std.specs.Io.KnownBytes.{Appends, IsAtEnd};
-ghost use Rattle.serde_json_path_functions.specs.Functions.{whole_numbers};
-ghost use Rattle.serde_json_path_functions.specs.Patterns.{builtin_functions};
-ghost use Rattle.serde_json_path.specs.Paths.{path_view};
-ghost use Rattle.serde_json_path_parser.specs.Errors.{kind_of, position_of};
-ghost use Rattle.serde_json_path_parser.specs.Parse.{IsParseOf};
-ghost use Rattle.serde_json_path_parser.specs.Reported.{ReportsFirst};
+ghost use Rattle.jsonpath_program.specs.Words.{Appends, IsAtEnd, whole_numbers, builtin_functions, path_view, kind_of, position_of, IsParseOf, ReportsFirst, IsNoPath, status_of, line_of, IsStatus, IsDocumentLine, IsQueryLine, IsOneWord, IsReportOfRun, MayBeDocument, AppendsBeginning};
 ghost use Rattle.serde_json_path_parser.specs.declared.error.ParseError as path_error;
-ghost use Rattle.jsonpath_program.specs.Report.{IsNoPath};
-ghost use Rattle.jsonpath_program.specs.Run.{status_of, line_of, IsStatus, IsDocumentLine, IsQueryLine, IsOneWord, IsReportOfRun, MayBeDocument, AppendsBeginning};
 
 use crate::report::{DocumentError, ReportError, report_under};
 use jsonpath_lines::Form;

@@ -1,6 +1,5 @@
 -- What the pointer of a nullable box owns is nothing or a box's. Assumes `Logic`.
-use Rattle.std.proofs.Common.{◌≡◌, ℕ, List, ◌∷◌, refl, Option, None, Some}
-use Rattle.nullable_box.proofs.Words.{Ura, ftrue, ffalse, ent, guard, guard_i, via, snd∗, never_e, Logic, sem, Item, Goal, Seq, given, ‵, ◌$◌, drop, use1, learn, fact_use, lone, RattleType, Ptr, block_ptr, null_ptr, Testable, box_owns, points_to, ghosts, Global, dealloc_token-Testable, held, bare}
+use Rattle.nullable_box.proofs.Words.{◌≡◌, ℕ, List, ◌∷◌, refl, Option, None, Some, Ura, ftrue, ffalse, ent, guard, guard_i, via, snd∗, never_e, Logic, sem, Item, Goal, Seq, given, ‵, ◌$◌, drop, use1, learn, fact_use, lone, RattleType, Ptr, block_ptr, null_ptr, Testable, box_owns, points_to, ghosts, Global, dealloc_token-Testable, held, bare}
 
 module _ (R : RattleType) {M : Type 1} {𝓤 : Ura M} where
   -- a box's pointer may be compared with null

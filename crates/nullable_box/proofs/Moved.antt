@@ -1,6 +1,5 @@
 -- A function that moves what one pointer owns from a struct into another is proved once, for all structs. Assumes `Logic`.
-use Rattle.std.proofs.Common.{◌≡◌, List, [], ◌∷◌, ◌++◌, refl, sym, subst, lit<, Option}
-use Rattle.nullable_box.proofs.Words.{T, true, ◌&&◌, Ura, Sym, Fn, Callee, Ty, copy, place, field, local, value_local, assign, rv_opd, aggregate, seq, return, ty_ptr, ty_struct, tcons, tnil, Val, has_ty, WT, SProp, emp, ent, id⊢, Fml, ftrue, fsep, Model, WpFn, Closed, Logic, ‵, raw, ◌⊛◌, ◌$◌, ◌∵◌, !, qed, by, keep, drop, split, fsplit, fjoin, rewrite, suffices, use0, stop, fld, of_opd, no_more, and_then, returns, enter, alloc_all, pass_all, free_all, look_at, get, get_in, sets, agg, sub, whole, fact, fact_i, Running, MachineTables, tables, yes, Last, left, rest, RattleType, owns, Ptr, block_ptr, null_ptr, ptr_val, Signature, types_at, plain, nothing, Ended, Clauses, closing, Meets, Stays, stay_dropped, walk_of, Goes-dropped, proved_at, leaves, held}
+use Rattle.nullable_box.proofs.Words.{◌≡◌, List, [], ◌∷◌, ◌++◌, refl, sym, subst, lit<, Option, T, true, ◌&&◌, Ura, Sym, Fn, Callee, Ty, copy, place, field, local, value_local, assign, rv_opd, aggregate, seq, return, ty_ptr, ty_struct, tcons, tnil, Val, has_ty, WT, SProp, emp, ent, id⊢, Fml, ftrue, fsep, Model, WpFn, Closed, Logic, ‵, raw, ◌⊛◌, ◌$◌, ◌∵◌, !, qed, by, keep, drop, split, fsplit, fjoin, rewrite, suffices, use0, stop, fld, of_opd, no_more, and_then, returns, enter, alloc_all, pass_all, free_all, look_at, get, get_in, sets, agg, sub, whole, fact, fact_i, Running, MachineTables, tables, yes, Last, left, rest, RattleType, owns, Ptr, block_ptr, null_ptr, ptr_val, Signature, types_at, plain, nothing, Ended, Clauses, closing, Meets, Stays, stay_dropped, walk_of, Goes-dropped, proved_at, leaves, held}
 use Rattle.nullable_box.specs.contracts.nullable_box.NullableBox as nullable
 use Rattle.nullable_box.proofs.Owners.{single, OnePtr, owner_in, owner_out}
 

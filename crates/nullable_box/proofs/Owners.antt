@@ -1,6 +1,5 @@
 -- Structs that own memory by a pointer: their machine values, and how they are made and taken apart. Assumes `Logic`.
-use Rattle.std.proofs.Common.{◌≡◌, ℕ, List, [], ◌∷◌, ◌++◌, refl, subst}
-use Rattle.nullable_box.proofs.Words.{T, true, ◌&&◌, Ura, impl, tnil, dnil, Val, vptr, vstruct, vcons, vnil, of_list, has_ty, WT, Fml, fsep, never, fst∗, Logic, sem, Item, Goal, Seq, Step, step, ‵, ◌$◌, move, drop, fsplit, fjoin, fpick, fpack, feq_i, feq_l, RattleType, Valss, lone, Ptr, RawPtr, block_ptr, null_ptr, ptr_val, in_a_block, nothing, layout, Laws, Struct, within, shape, Ghosts, Al, handle_tells, Good, box_owns, and_tt, bare}
+use Rattle.nullable_box.proofs.Words.{◌≡◌, ℕ, List, [], ◌∷◌, ◌++◌, refl, subst, T, true, ◌&&◌, Ura, impl, tnil, dnil, Val, vptr, vstruct, vcons, vnil, of_list, has_ty, WT, Fml, fsep, never, fst∗, Logic, sem, Item, Goal, Seq, Step, step, ‵, ◌$◌, move, drop, fsplit, fjoin, fpick, fpack, feq_i, feq_l, RattleType, Valss, lone, Ptr, RawPtr, block_ptr, null_ptr, ptr_val, in_a_block, nothing, layout, Laws, Struct, within, shape, Ghosts, Al, handle_tells, Good, box_owns, and_tt, bare}
 use Rattle.nullable_box.specs.contracts.LooseBox as loose
 
 -- the machine values of structs of one field and of two

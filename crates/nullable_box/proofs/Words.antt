@@ -6,6 +6,7 @@ pub use Rattle.core.proofs.cell.Inside.{Good}
 pub use Rattle.core.proofs.option.Made.{Some-of, none_of}
 pub use Rattle.core.specs.declared.alloc.Allocator.{Ghosts}
 pub use Rattle.nullable_box.specs.Held.{held}
+pub use Rattle.std.proofs.Common.{List, None, Option, Some, [], ap, lit<, refl, subst, sym, ℕ, ◌++◌, ◌∙◌, ◌∷◌, ◌≡◌}
 pub use Rattle.std.proofs.GlobalToken.{dealloc_token-Testable}
 pub use Rattle.std.proofs.raw_atomic.Walks.{leaves, proved_at}
 pub use Rattle.std.specs.Box.Ownership.{box_owns}

@@ -1,24 +1,5 @@
 -- The normalised path of a location is accepted, with a tree that goes down its steps and selects the node there alone.
-use Rattle.std.proofs.Common.{◌≡◌, ℕ, List, [], ◌∷◌, ◌++◌, map, flat_map, Option, Some, option_map, option_to_list, refl, sym, ap, subst, ◌∙◌, append_assoc, codes, append-nil, arith}
-use Rattle.std.proofs.lemmas.Option.{none-some, option_and_then_some, same_Some}
-use Rattle.serde_json.specs.Data.{Data, array}
-use Rattle.serde_json_path_nodes.specs.Location.{Step, by_name, by_position, child_at, at, Located, IsProper}
-use Rattle.serde_json_path_syntax.specs.Tree.{query, root, long_hand, no_selectors, selector, Segments, child, segment}
-use Rattle.serde_json_path_syntax.specs.Typing.{AreTypedSegments}
-use Rattle.serde_json_path_syntax.specs.Depth.{segments_depth}
-use Rattle.serde_json_path_core.specs.Meaning.{IsResult}
-use Rattle.serde_json_path_core.specs.Inside.Computed.{chosen, itself, placed, results_from}
-use Rattle.serde_json_path_core.proofs.Meaning.Derived.{computed_result}
-use Rattle.serde_json_path_functions.specs.Functions.{Numbers, Signature, FunctionSet}
-use Rattle.serde_json_path_syntax.specs.Calls.{calls_in_segments}
-use Rattle.serde_json_path.specs.Laws.{selector_to, segments_to, ArePositionsWritten}
-use Rattle.std.specs.Str.{chars}
-use Rattle.std.proofs.lemmas.Str.{chars-encodes}
-use Rattle.serde_json_path_nodes.specs.Text.{normal_step, normal}
-use Rattle.serde_json_path_parser.specs.Grammar.{ReadSegments, ReadsSelector}
-use Rattle.serde_json_path_parser.specs.Accepted.{IsAccepted}
-use Rattle.serde_json_path_parser.proofs.Printing.QuotedTexts.{Spelt, spell_both, spell_sign, spelt_nothing, quoted_spelt}
-use Rattle.serde_json_path_parser.proofs.Printing.Literals.{position_spelt}
+use Rattle.serde_json_path.proofs.Words.{◌≡◌, ℕ, List, [], ◌∷◌, ◌++◌, map, flat_map, Option, Some, option_map, option_to_list, refl, sym, ap, subst, ◌∙◌, append_assoc, codes, append-nil, arith, none-some, option_and_then_some, same_Some, Data, array, Step, by_name, by_position, child_at, at, Located, IsProper, query, root, long_hand, no_selectors, selector, Segments, child, segment, AreTypedSegments, segments_depth, IsResult, chosen, itself, placed, results_from, computed_result, Numbers, Signature, FunctionSet, calls_in_segments, selector_to, segments_to, ArePositionsWritten, chars, chars-encodes, normal_step, normal, ReadSegments, ReadsSelector, IsAccepted, Spelt, spell_both, spell_sign, spelt_nothing, quoted_spelt, position_spelt}
 
 -- ---- what the tree is
 

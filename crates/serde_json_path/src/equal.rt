@@ -1,16 +1,14 @@
 //! Equality of paths.
 
 ghost use Rattle.std.specs.Prelude.{◌≡◌, ◌↔◌, IsTrue};
-ghost use Rattle.serde_json_path_syntax.specs.SameTree.{same_query};
-ghost use Rattle.serde_json_path.specs.Paths.{path_tree};
+ghost use Rattle.serde_json_path.specs.Words.{same_query, path_tree};
 
 use crate::path::JsonPath;
 
 /// Two paths are equal where their trees are: `$["a"]` equals `$[ 'a' ]`, and neither equals `$.a`. The signatures that
 /// they keep are not compared.
 impl PartialEq for JsonPath {
-    ghost use Rattle.std.specs.Cmp.{partial_equiv_from_equiv};
-    ghost use Rattle.serde_json_path.specs.Inside.SamePaths.{same_paths-equiv};
+    ghost use Rattle.serde_json_path.specs.Words.{partial_equiv_from_equiv, same_paths-equiv};
 
     ghost eq = { λ mine theirs. same_query (path_tree mine) (path_tree theirs) };
 

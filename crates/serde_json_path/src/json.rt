@@ -1,8 +1,7 @@
 //! Paths as strings of JSON documents.
 
 ghost use Rattle.std.specs.Prelude.{◌≡◌, Some, IfOk};
-ghost use Rattle.serde_json.specs.Data.{string};
-ghost use Rattle.serde_json.specs.View.{view};
+ghost use Rattle.serde_json_path.specs.Words.{string, view};
 
 use crate::path::JsonPath;
 use serde_json::Value;
@@ -37,9 +36,7 @@ impl fmt::Display for FromJsonError {
 impl Error for FromJsonError {}
 
 impl JsonPath {
-    ghost use Rattle.serde_json_path.specs.FromJson.{IsReadFrom};
-    ghost use Rattle.serde_json_path.specs.Paths.{path_tree};
-    ghost use Rattle.serde_json_path_syntax.specs.Text.{query_text};
+    ghost use Rattle.serde_json_path.specs.Words.{IsReadFrom, path_tree, query_text};
 
     /// Reads a path from a JSON string, whose text is parsed as `parse` does (RFC 9535, section 2.1).
     ///

@@ -1,16 +1,7 @@
 //! Paths.
 
 ghost use Rattle.std.specs.Prelude.{◌≡◌, [], IfOk, IfErr, IsTrue, ◌↔◌};
-ghost use Rattle.serde_json.specs.View.{view};
-ghost use Rattle.serde_json_path_nodes.specs.Views.{located_nodes, node_values};
-ghost use Rattle.serde_json_path_syntax.specs.Tree.{query, root, no_segments};
-ghost use Rattle.serde_json_path_syntax.specs.Parts.{tree_of, signatures_of, rule_of};
-ghost use Rattle.serde_json_path_core.specs.Selects.{OnlyMemoryOrPattern, Selects, SelectsValues};
-ghost use Rattle.serde_json_path_core.specs.Walks.{rest, query_of, set_of, document_of};
-ghost use Rattle.serde_json_path_functions.specs.Functions.{Fits, whole_numbers};
-ghost use Rattle.serde_json_path_functions.specs.Patterns.{before_builtin, builtin_functions};
-ghost use Rattle.serde_json_path_functions.specs.Terms.{numbers_view};
-ghost use Rattle.serde_json_path_functions.specs.declared.error.QueryError.TheVariants.{Memory};
+ghost use Rattle.serde_json_path.specs.Words.{view, located_nodes, node_values, query, root, no_segments, tree_of, signatures_of, rule_of, OnlyMemoryOrPattern, Selects, SelectsValues, rest, query_of, set_of, document_of, Fits, whole_numbers, before_builtin, builtin_functions, numbers_view, Memory};
 
 use crate::source::parse_source;
 use serde_json::Value;

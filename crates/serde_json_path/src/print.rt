@@ -1,8 +1,7 @@
 //! Paths as texts.
 
 ghost use Rattle.std.specs.Prelude.{◌≡◌, IfOk, Some, string_bytes};
-ghost use Rattle.serde_json_path_syntax.specs.Text.{query_text};
-ghost use Rattle.serde_json_path.specs.Paths.{path_tree};
+ghost use Rattle.serde_json_path.specs.Words.{query_text, path_tree};
 
 use crate::path::JsonPath;
 use std::alloc::{AllocError, Global};

@@ -1,11 +1,7 @@
 //! Paths from sources of their texts.
 
 ghost use Rattle.std.specs.Prelude.{◌≡◌, ◌+◌, ◌-◌, ◌*◌, ◌≤◌, max, true, length, IfErr};
-ghost use Rattle.serde_json_path_functions.specs.Patterns.{before_builtin};
-ghost use Rattle.serde_json_path_functions.specs.Terms.{numbers_view};
-ghost use Rattle.serde_json_path_parser.specs.Source.{greatest_usize};
-ghost use Rattle.serde_json_path_parser.specs.Errors.{kind_of, position_of, is_seen_at_next};
-ghost use Rattle.serde_json_path.specs.Paths.{IsRead};
+ghost use Rattle.serde_json_path.specs.Words.{before_builtin, numbers_view, greatest_usize, kind_of, position_of, is_seen_at_next, IsRead};
 
 use crate::path::JsonPath;
 use serde_json_path_core::Numbers;

@@ -1,5 +1,5 @@
 -- The parts of a sound query are sound.
-use Rattle.serde_json_path_core.proofs.Words.{◌≡◌, ℕ, zero, suc, ◌<◌, ◌≤◌, ◌&&◌, List, [], ◌∷◌, ◌++◌, Bool, true, length, get_or, slice_get, Option, Some, refl, sym, subst, arith, ap, ◌∙◌, none-some, same_Some, Query, query, Segments, segments_of, Segment, dot_name, dot_wildcard, long_hand, Selectors, no_selectors, selector, Selector, name, wildcard, Operator, LogicalOr, no_or, or, no_and, and, Basic, relation, Operand, Call, call, FunctionSet, Signature, Kind, Fits, IsTyped, AreTypedSegments, IsTypedSegment, AreTypedSelectors, IsTypedSelector, IsTypedOr, IsTypedAnd, IsTypedBasic, IsTypedComparable, IsTypedCall, AreTypedArguments, arguments_of, calls_of, calls_in_segments, calls_in_segment, calls_in_selectors, calls_in_selector, calls_in_or, calls_in_and, calls_in_basic, calls_in_operand, calls_from, calls_in_arguments, calls_in_argument, name_of, IsIn, parts_bound, EndsIn, Branch, argument_in, arguments_in, branch_in, branches_named, segment_in, segments_in, and_in, ors_in, basic_in, ands_in, selectors_list, selectors_of, params_of, each_is, is_segment, is_and, is_basic, is_argument, one_of, and_parts, ∥∥₁_elim, AreCallsOf, IsSound, Part, ∥∥₁_map₂, fits_each, found_in, in_from, signature_in, typed_recovered, typed_by_names}
+use Rattle.serde_json_path_core.proofs.Words.{nat_tests, common_steps, ◌≡◌, ℕ, zero, suc, ◌<◌, ◌≤◌, ◌&&◌, List, [], ◌∷◌, ◌++◌, Bool, true, length, get_or, slice_get, Option, Some, sym, subst, arith, ap, ◌∙◌, none-some, same_Some, Query, query, Segments, segments_of, Segment, dot_name, dot_wildcard, long_hand, Selectors, no_selectors, selector, Selector, name, wildcard, Operator, LogicalOr, no_or, or, no_and, and, Basic, relation, Operand, Call, call, FunctionSet, Signature, Kind, Fits, IsTyped, AreTypedSegments, IsTypedSegment, AreTypedSelectors, IsTypedSelector, IsTypedOr, IsTypedAnd, IsTypedBasic, IsTypedComparable, IsTypedCall, AreTypedArguments, arguments_of, calls_of, calls_in_segments, calls_in_segment, calls_in_selectors, calls_in_selector, calls_in_or, calls_in_and, calls_in_basic, calls_in_operand, calls_from, calls_in_arguments, calls_in_argument, name_of, IsIn, parts_bound, EndsIn, Branch, argument_in, arguments_in, branch_in, branches_named, segment_in, segments_in, and_in, ors_in, basic_in, ands_in, selectors_list, selectors_of, params_of, each_is, is_segment, is_and, is_basic, is_argument, one_of, and_parts, ∥∥₁_elim, AreCallsOf, IsSound, Part, ∥∥₁_map₂, fits_each, found_in, in_from, signature_in, typed_recovered, typed_by_names}
 use Rattle.serde_json_path_syntax.proofs.Names.Once.{of_both}
 use mathlib.Core.List.{is_set}
 use mathlib.Core.Sum.{⊎_set}
@@ -30,11 +30,7 @@ AreArgumentsIn q args = (each_is is_argument args ≡ true) × AreCallsOf q (cal
 -- those of the first argument, and of the others
 pub next-argument : (q : Query) (ps : List Branch) (parts : List Part) (part : Part) (more : List Part) → parts ≡ part ∷ more → AreArgumentsIn q (branches_named ps parts)
     → ((is_argument (branch_in ps part.number) ≡ true) × AreCallsOf q (calls_in_argument (argument_in (branch_in ps part.number)))) × AreArgumentsIn q (branches_named ps more)
-next-argument q ps parts part more e each =
-    let s = subst (λ list. AreArgumentsIn q (branches_named ps list)) e each in
-    let kinds = and_parts (is_argument (branch_in ps part.number)) (each_is is_argument (branches_named ps more)) s.0 in
-    let calls = both-calls q _ _ s.1 in
-    ((kinds.0, calls.0), (kinds.1, calls.1))
+next-argument q ps parts part more e each = grind (arith, nat_tests, common_steps, and_parts, both-calls)
 
 -- ---- parts
 
@@ -64,10 +60,7 @@ module _ (F : FunctionSet) (q : Query) where
   -- what is so of the first of several branches and of the others
   first_of : {T U : Type 0} (is : Branch → Bool) (p : Branch) (more : List Branch) (xs ys : List Call) → (is p && each_is is more ≡ true) × ((T × U) × AreCallsOf q (xs ++ ys))
       → ((is p ≡ true) × (T × AreCallsOf q xs)) × ((each_is is more ≡ true) × (U × AreCallsOf q ys))
-  first_of is p more xs ys s =
-      let kinds = and_parts (is p) (each_is is more) s.0 in
-      let calls = both-calls q xs ys s.1.1 in
-      ((kinds.0, (s.1.0.0, calls.0)), (kinds.1, (s.1.0.1, calls.1)))
+  first_of is p more xs ys s = grind (arith, nat_tests, common_steps, and_parts, both-calls)
 
   first_segment : (p : Branch) (more : List Branch) → AreSegments (p ∷ more) → IsSegment p × AreSegments more
   first_segment p more s = first_of is_segment p more _ _ s
@@ -96,19 +89,12 @@ module _ (F : FunctionSet) (q : Query) where
   -- both sides of a comparison
   pub sound-relation : (x : Operand) (op : Operator) (y : Operand) (b : Basic) → b ≡ relation x op y
       → IsSound F q IsTypedBasic calls_in_basic b → IsSound F q IsTypedComparable calls_in_operand x × IsSound F q IsTypedComparable calls_in_operand y
-  sound-relation x op y b is sound =
-      let s = subst (IsSound F q IsTypedBasic calls_in_basic) is sound in
-      let sides = both-calls q (calls_in_operand x) (calls_in_operand y) s.1 in
-      ((s.0.0, sides.0), (s.0.1, sides.1))
+  sound-relation x op y b is sound = grind (arith, nat_tests, common_steps, both-calls)
 
   -- the same of an expression that consists of it
   pub sound-sides : (e : LogicalOr) (x : Operand) (op : Operator) (y : Operand) → e ≡ or (and (relation x op y) no_and) no_or
       → IsSound F q IsTypedOr calls_in_or e → IsSound F q IsTypedComparable calls_in_operand x × IsSound F q IsTypedComparable calls_in_operand y
-  sound-sides e x op y is sound =
-      let s = subst (IsSound F q IsTypedOr calls_in_or) is sound in
-      let in_and = (both-calls q (calls_in_and (and (relation x op y) no_and)) (calls_in_or no_or) s.1).0 in
-      let in_basic = (both-calls q (calls_in_basic (relation x op y)) (calls_in_and no_and) in_and).0 in
-      sound-relation x op y (relation x op y) refl (s.0.0.0, in_basic)
+  sound-sides e x op y is sound = grind (arith, nat_tests, common_steps, both-calls, sound-relation)
 
   sound-bracketed : (sels : Selectors) (n : ℕ) (sel : Selector) → slice_get (selectors_list sels) n ≡ Some sel
       → IsSound F q AreTypedSelectors calls_in_selectors sels → IsSound F q IsTypedSelector calls_in_selector sel

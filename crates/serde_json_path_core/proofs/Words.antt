@@ -22,7 +22,8 @@ pub use Rattle.serde_json_path_syntax.proofs.Names.Once.{fits_each, found_in, in
 pub use Rattle.serde_json_path_syntax.proofs.Tree.NamedParts.{below_length, one_is, one_of, past_length, within_bound, within_get}
 pub use Rattle.serde_json_path_syntax.proofs.Typing.TypedByNames.{typed_by_names}
 pub use Rattle.serde_json_path_syntax.proofs.Typing.Typings.{typed_recovered}
-pub use Rattle.serde_json_path_syntax.proofs.Words.{QueryError, Bor, Branch, Gives, IsFinite, IsIn, IsInOrder, MayRefuse, all_finite, arguments_of, calls_from, calls_in_and, calls_in_argument, calls_in_arguments, calls_in_basic, calls_in_operand, calls_in_or, calls_in_segment, calls_in_segments, calls_in_selector, calls_in_selectors, calls_of, document_number, integer, literal_double, literal_number, name_of, signature_in}
+pub use Rattle.serde_json_path_syntax.proofs.Words.{Bor, Branch, Gives, IsFinite, IsIn, IsInOrder, MayRefuse, QueryError, all_finite, arguments_of, calls_from, calls_in_and, calls_in_argument, calls_in_arguments, calls_in_basic, calls_in_operand, calls_in_or, calls_in_segment, calls_in_segments, calls_in_selector, calls_in_selectors, calls_of, document_number, integer, literal_double, literal_number, name_of, signature_in}
+pub use Rattle.serde_json_path_syntax.specs.declared.node.Part.{Part}
 pub use Rattle.serde_json_path_syntax.specs.declared.selector_ref.SelectorRef.{SelectorRef}
 pub use Rattle.serde_json_path_syntax.specs.declared.selector_ref.SelectorRef.TheVariants.{Filter}
 pub use Rattle.std.proofs.Common.{Equal, Err, Global, Greater, IfErr, IfOk, Less, List, MatchOption, None, Ok, Option, Ordering, Result, SFits, Some, String, [], ap, append_assoc, arith, bytes_eq, chars, cond, drop, false, flat_map, get_or, inl, inr, is_eq, le-div_iff_mul-le, length, length-append, map, max, min, mul-lt-mul_of_pos_right, nat_abs, nat_cmp, neg_ℤ, negsuc, option_and_then, option_map, option_to_list, pos, refl, rules, set, slice_get, slice_index_or, string_bytes, string_cmp, subst, suc, suc-mul, sym, take, true, true≢false, unwrap_or, w64, zero, ℕ, ℤ, ◌&&◌, ◌*◌, ◌++◌, ◌+◌, ◌-◌, ◌<◌, ◌^◌, ◌||◌, ◌↔◌, ◌∙◌, ◌∷◌, ◌≡◌, ◌≤◌, ◌⊎◌}
@@ -33,4 +34,3 @@ pub use Rattle.std.proofs.lemmas.Map.Text.{is_eq-slice_cmp}
 pub use Rattle.std.proofs.lemmas.Simd.{map-map}
 pub use Rattle.std.specs.BTreeMap.{insert_entry, is_at}
 pub use Rattle.std.specs.Map.{keys_of, lookup}
-pub use Rattle.serde_json_path_syntax.specs.declared.node.Part.{Part}

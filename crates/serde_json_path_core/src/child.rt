@@ -1,6 +1,7 @@
 //! Single children of a value.
 
-ghost use Rattle.serde_json_path_core.specs.Inside.Words.{◌≡◌, option_map, array, object, view, items_view, members_view, by_name, child_by, item_at, position_in, child_view};
+ghost use Rattle.std.specs.Prelude.{◌≡◌, option_map};
+ghost use Rattle.serde_json_path_core.specs.Inside.Words.{array, object, view, items_view, members_view, by_name, child_by, item_at, position_in, child_view};
 
 use serde_json::{Map, Value};
 use serde_json_path_nodes::PathElement;

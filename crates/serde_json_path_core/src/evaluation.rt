@@ -10,7 +10,8 @@ pub(crate) mod slice_positions;
 pub(crate) mod stack;
 pub(crate) mod walks;
 
-ghost use Rattle.serde_json_path_core.specs.Inside.Words.{◌≡◌, IfOk, IfErr, view, located_nodes, node_values, Fits, with_rule, start_of, query_kind_view, OnlyMemoryOrPattern, Selects, SelectsValues, rest, document_of, rule_of, signatures_of, tree_of, Memory};
+ghost use Rattle.std.specs.Prelude.{◌≡◌, IfOk, IfErr};
+ghost use Rattle.serde_json_path_core.specs.Inside.Words.{view, located_nodes, node_values, Fits, with_rule, start_of, query_kind_view, OnlyMemoryOrPattern, Selects, SelectsValues, rest, document_of, rule_of, signatures_of, tree_of, Memory};
 ghost use Rattle.serde_json_path_core.specs.Walks.{query_of, set_of};
 
 use crate::evaluation::frame::first_frames;

@@ -1,6 +1,7 @@
 //! Laws of what queries mean. Each is the contract of a function with an empty body.
 
-ghost use Rattle.serde_json_path_core.specs.Inside.Words.{◌≡◌, List, Data, Located, Query, segments_of, FunctionSet, Triple, Before, IsResult, DescendantsInDocumentOrder, EachDocumentHasAHeight, EqualityIsAnEquivalence, EveryQueryHasAResult, LastSegmentSelectsAtEach, LessOrEqualIsEither, NotEqualNegatesEqual, OrderIsTotal, SingularQuerySelectsAtMostOne};
+ghost use Rattle.std.specs.Prelude.{◌≡◌, List};
+ghost use Rattle.serde_json_path_core.specs.Inside.Words.{Data, Located, Query, segments_of, FunctionSet, Triple, Before, IsResult, DescendantsInDocumentOrder, EachDocumentHasAHeight, EqualityIsAnEquivalence, EveryQueryHasAResult, LastSegmentSelectsAtEach, LessOrEqualIsEither, NotEqualNegatesEqual, OrderIsTotal, SingularQuerySelectsAtMostOne};
 
 /// Of two derivations of one query, at most one comes before the other (RFC 9535, sections 2.5.1.2 and 2.5.2.2).
 #[tactic(auto, using(crate::proofs::Meaning::Order::before_once))]

@@ -1,6 +1,7 @@
 //! The built-in functions (RFC 9535, sections 2.4.4 to 2.4.8).
 
-ghost use Rattle.serde_json_path_functions.specs.Words.{◌≡◌, [], ◌∷◌, length, map, is_some, IfOk, IfSome, Err, chars, value, logical, of_logical, kind_of_term, Takes, Gives, plain_signature, plain_meaning, counted, length_of, value_of_one, MayRefuse, pattern_meaning, builtin_functions, term_view, value_view, nodes_view, matching_view, name_of};
+ghost use Rattle.std.specs.Prelude.{◌≡◌, [], ◌∷◌, length, map, is_some, IfOk, IfSome, Err};
+ghost use Rattle.serde_json_path_functions.specs.Words.{chars, value, logical, of_logical, kind_of_term, Takes, Gives, plain_signature, plain_meaning, counted, length_of, value_of_one, MayRefuse, pattern_meaning, builtin_functions, term_view, value_view, nodes_view, matching_view, name_of};
 ghost use Rattle.serde_json_path_functions.specs.Functions as spec;
 ghost use Rattle.serde_json_path_functions.specs.declared.error.QueryError.TheVariants.{Pattern};
 

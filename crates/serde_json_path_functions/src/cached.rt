@@ -1,6 +1,7 @@
 //! The built-in functions, which keep the patterns that they read.
 
-ghost use Rattle.serde_json_path_functions.specs.Words.{◌≡◌, IfOk, IfSome, Err, IsReadable, builtin_functions, matching_view, IsOf};
+ghost use Rattle.std.specs.Prelude.{◌≡◌, IfOk, IfSome, Err};
+ghost use Rattle.serde_json_path_functions.specs.Words.{IsReadable, builtin_functions, matching_view, IsOf};
 ghost use Rattle.serde_json_path_functions.specs.Patterns as spec;
 ghost use Rattle.serde_json_path_functions.specs.declared.error.QueryError.TheVariants.{Pattern};
 

@@ -1,6 +1,7 @@
 //! Why a query is refused.
 
-ghost use Rattle.serde_json_path_functions.specs.Words.{◌≡◌, Some, query_error_text};
+ghost use Rattle.std.specs.Prelude.{◌≡◌, Some};
+ghost use Rattle.serde_json_path_functions.specs.Errors.{query_error_text};
 ghost use Rattle.serde_json_path_functions.specs.declared.error.QueryError.TheVariants.{Memory};
 
 use std::alloc::{AllocError, AllocFailed};

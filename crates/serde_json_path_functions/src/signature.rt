@@ -21,7 +21,8 @@ pub struct Signature {
 }
 
 impl Signature {
-    ghost use Rattle.serde_json_path_functions.specs.Words.{◌≡◌, ◌<◌, ◌↔◌, length, map, IfSome, IsNone, IsTrue, kind_view, signature_view};
+    ghost use Rattle.std.specs.Prelude.{◌≡◌, ◌<◌, ◌↔◌, length, map, IfSome, IsNone, IsTrue};
+    ghost use Rattle.serde_json_path_functions.specs.Terms.{kind_view, signature_view};
 
     /// The signature of these parameters and this result; `None` for more than eight parameters.
     pub fn new(params: &[FunctionArgType], result_type: FunctionArgType) -> Option<Signature>

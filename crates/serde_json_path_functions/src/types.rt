@@ -1,6 +1,7 @@
 //! Arguments and answers of functions.
 
-ghost use Rattle.serde_json_path_functions.specs.Words.{◌≡◌, ◌==◌, Bool, false, None, length, map, option_map, slice_get, view, node_view, nodes_view, truth_view, value_view};
+ghost use Rattle.std.specs.Prelude.{◌≡◌, ◌==◌, Bool, false, None, length, map, option_map, slice_get};
+ghost use Rattle.serde_json_path_functions.specs.Words.{view, node_view, nodes_view, truth_view, value_view};
 
 use serde_json::Value;
 

@@ -10,8 +10,8 @@ pub use Rattle.serde_json_path_nodes.specs.Text.{escape_of, in_pointer, in_quote
 pub use Rattle.serde_json_path_nodes.specs.Views.{located, located_nodes, located_nodes_left, location_of, node_value, node_values, node_values_left, step_view, value_of}
 pub use Rattle.std.specs.Cmp.{partial_equiv_from_equiv}
 pub use Rattle.std.specs.Fmt.{HasWritten, IsPlainFormatter, WritesOnOk, decimal}
-pub use Rattle.std.specs.Iterator.{Drains, IsFinite, UpTo, YieldsFirstBy, YieldsFirstRef, at_most, item_count}
+pub use Rattle.std.specs.Iterator.{Drains, IsFinite, YieldsFirstBy, item_count}
 pub use Rattle.std.specs.List.{flat_map, sum_by}
 pub use Rattle.std.specs.Option.{option_copied}
-pub use Rattle.std.specs.Prelude.{Err, IfErr, IfNone, IfOk, IfSome, IsSome, IsTrue, List, MatchOption, None, Ok, OnErr, OnOk, Some, String, [], codes, drop, false, if◌then◌else◌, int_lt, is_ok, length, map, max, option_and_then, option_map, option_to_list, pos, slice_get, slice_index, string_bytes, take, true, ℕ, ⊤, ◌*◌, ◌++◌, ◌+ℤ◌, ◌+◌, ◌-ℤ◌, ◌-◌, ◌/◌, ◌<◌, ◌==◌, ◌^◌, ◌||◌, ◌↔◌, ◌∷◌, ◌≡◌, ◌≢◌, ◌≤◌, ◌⊎◌}
+pub use Rattle.std.specs.Prelude.{IfOk, List, Some, map, string_bytes, true, ℕ}
 pub use Rattle.std.specs.Str.{IsCharBoundary, IsUtf8, NonePass, chars}

@@ -1,6 +1,7 @@
 //! The errors of a list that has too many nodes, or none.
 
-ghost use Rattle.serde_json_path_nodes.specs.Words.{Some, ◌++◌, codes, decimal};
+ghost use Rattle.std.specs.Prelude.{Some, ◌++◌, codes};
+ghost use Rattle.std.specs.Fmt.{decimal};
 
 use std::error::Error;
 use std::fmt;

@@ -1,6 +1,7 @@
 //! Characters between single quotes.
 
-ghost use Rattle.serde_json_path_nodes.specs.Words.{◌≡◌, option_copied, escape_of};
+ghost use Rattle.std.specs.Prelude.{◌≡◌};
+ghost use Rattle.serde_json_path_nodes.specs.Words.{option_copied, escape_of};
 
 /// The escape of a character between single quotes, as in a normalised path (RFC 9535, section 2.7); `None` for a
 /// character that is printed as it is.

@@ -1,6 +1,7 @@
 //! Iterators over locations and lists. Each knows exactly how many items remain.
 
-ghost use Rattle.serde_json_path_nodes.specs.Words.{◌≡◌, ◌≤◌, length, map, IfSome, YieldsFirstRef, UpTo, at_most, item_count};
+ghost use Rattle.std.specs.Prelude.{◌≡◌, ◌≤◌, length, map, IfSome};
+ghost use Rattle.std.specs.Iterator.{YieldsFirstRef, UpTo, at_most, item_count};
 
 use crate::located_node::LocatedNode;
 use crate::normalized_path::NormalizedPath;

@@ -1,6 +1,7 @@
 //! A node with its location.
 
-ghost use Rattle.serde_json_path_nodes.specs.Words.{◌≡◌, map, view};
+ghost use Rattle.std.specs.Prelude.{◌≡◌, map};
+ghost use Rattle.serde_json.specs.View.{view};
 
 use crate::normalized_path::NormalizedPath;
 use crate::path_element::PathElement;

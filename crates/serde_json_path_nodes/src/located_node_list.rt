@@ -1,6 +1,7 @@
 //! Nodes with their locations.
 
-ghost use Rattle.serde_json_path_nodes.specs.Words.{◌≡◌, ◌==◌, length, map, option_map, IfOk, IfErr, located, location_of, first_places, AreNumbered};
+ghost use Rattle.std.specs.Prelude.{◌≡◌, ◌==◌, length, map, option_map, IfOk, IfErr};
+ghost use Rattle.serde_json_path_nodes.specs.Words.{located, location_of, first_places, AreNumbered};
 
 use crate::error::{AtMostOneError, ExactlyOneError};
 use crate::iterators::{LocatedNodes, Locations, Nodes};
@@ -15,7 +16,8 @@ pub struct LocatedNodeList<'b> {
 }
 
 impl<'b> From<Vec<LocatedNode<'b>>> for LocatedNodeList<'b> {
-    ghost use Rattle.serde_json_path_nodes.specs.Words.{◌≡◌, map, located, located_nodes};
+    ghost use Rattle.std.specs.Prelude.{◌≡◌, map};
+    ghost use Rattle.serde_json_path_nodes.specs.Views.{located, located_nodes};
 
     ghost from_gives = { λ nodes list. located_nodes list ≡ map located nodes.items };
 

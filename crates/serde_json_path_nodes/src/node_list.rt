@@ -13,7 +13,8 @@ pub struct NodeList<'b> {
 }
 
 impl<'b> From<Vec<&'b Value>> for NodeList<'b> {
-    ghost use Rattle.serde_json_path_nodes.specs.Words.{◌≡◌, map, node_value, node_values};
+    ghost use Rattle.std.specs.Prelude.{◌≡◌, map};
+    ghost use Rattle.serde_json_path_nodes.specs.Views.{node_value, node_values};
 
     ghost from_gives = { λ nodes list. node_values list ≡ map node_value nodes.items };
 

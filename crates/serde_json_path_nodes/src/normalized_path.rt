@@ -1,6 +1,7 @@
 //! Locations, as normalised paths.
 
-ghost use Rattle.serde_json_path_nodes.specs.Words.{◌≡◌, ◌==◌, ◌↔◌, ◌++◌, length, map, slice_get, option_map, Some, IfOk, OnOk, IsTrue, string_bytes, flat_map, normal, pointer, in_pointer};
+ghost use Rattle.std.specs.Prelude.{◌≡◌, ◌==◌, ◌↔◌, ◌++◌, length, map, slice_get, option_map, Some, IfOk, OnOk, IsTrue, string_bytes};
+ghost use Rattle.serde_json_path_nodes.specs.Words.{flat_map, normal, pointer, in_pointer};
 
 use crate::iterators::PathElements;
 use crate::path_element::PathElement;

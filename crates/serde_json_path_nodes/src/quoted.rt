@@ -1,6 +1,7 @@
 //! Texts as paths write them.
 
-ghost use Rattle.serde_json_path_nodes.specs.Words.{◌≡◌, ◌++◌, OnOk, Some, string_bytes, take, WritesOnOk, flat_map, chars, IsCharBoundary, NonePass, in_quotes, is_escaped, quoted};
+ghost use Rattle.std.specs.Prelude.{◌≡◌, ◌++◌, OnOk, Some, string_bytes, take};
+ghost use Rattle.serde_json_path_nodes.specs.Words.{WritesOnOk, flat_map, chars, IsCharBoundary, NonePass, in_quotes, is_escaped, quoted};
 
 use crate::escape::escaped;
 use std::alloc::AllocError;

@@ -2,7 +2,7 @@
 pub use Rattle.serde_json.specs.Find.{of_integer}
 pub use Rattle.serde_json_path_functions.specs.Words.{Fits, FunctionSet, Kind, Signature, kind_view, numbers_view, of_logical, of_nodes, of_value, signature_view, whole_numbers}
 pub use Rattle.serde_json_path_functions.specs.declared.error.QueryError.TheVariants.{Memory}
-pub use Rattle.serde_json_path_nodes.specs.Words.{HasWritten, IfOk, IfSome, IsPlainFormatter, IsSome, IsTrue, List, OnErr, OnOk, Some, WritesOnOk, [], codes, decimal, if◌then◌else◌, is_ok, length, map, number, option_map, partial_equiv_from_equiv, slice_get, string_bytes, true, view, ℕ, ◌++◌, ◌/◌, ◌<◌, ◌^◌, ◌↔◌, ◌∷◌, ◌≡◌, ◌≤◌}
+pub use Rattle.serde_json_path_nodes.specs.Words.{HasWritten, IfOk, IsPlainFormatter, List, Some, WritesOnOk, decimal, map, number, partial_equiv_from_equiv, string_bytes, true, view, ℕ}
 pub use Rattle.serde_json_path_numbers.specs.Numbers.{literal_held, literal_number}
 pub use Rattle.serde_json_path_numbers.specs.Views.{exact_view}
 pub use Rattle.serde_json_path_syntax.specs.Branch.{Branch, a_basic, a_call, a_query, a_segment, a_selector, an_and, an_operand, an_or}

@@ -16,7 +16,8 @@ pub(crate) struct Arena {
 }
 
 impl Arena {
-    ghost use Rattle.serde_json_path_syntax.specs.Words.{ℕ, List, true, Some, ◌≡◌, ◌<◌, ◌≤◌, ◌++◌, ◌∷◌, [], IfOk, OnErr, OnOk, length, slice_get, NamesBelow, called_by, calls_among, part_query, branch_at, branch_of, branches, segments_at, Signature, AreOfKind, IsOfKind, fits, is_query, is_segment, IsIn, parts_bound, segments_of};
+    ghost use Rattle.std.specs.Prelude.{ℕ, List, true, Some, ◌≡◌, ◌<◌, ◌≤◌, ◌++◌, ◌∷◌, [], IfOk, OnErr, OnOk, length, slice_get};
+    ghost use Rattle.serde_json_path_syntax.specs.Words.{NamesBelow, called_by, calls_among, part_query, branch_at, branch_of, branches, segments_at, Signature, AreOfKind, IsOfKind, fits, is_query, is_segment, IsIn, parts_bound, segments_of};
 
     /// No nodes. Takes no memory.
     pub(crate) fn new(alloc: Global) -> Arena

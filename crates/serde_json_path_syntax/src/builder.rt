@@ -26,7 +26,8 @@ pub struct SyntaxBuilder {
 }
 
 impl SyntaxBuilder {
-    ghost use Rattle.serde_json_path_syntax.specs.Words.{true, Some, ◌≡◌, ◌↔◌, ◌++◌, ◌∷◌, [], IfOk, OnErr, OnOk, IsTrue, string_bytes, length, literal_view, operator_view, a_query, a_segment, a_selector, an_or, an_and, a_basic, an_operand, a_call, argument_branch, IsOptionalInteger, IsSeenAs, result_of_call, result_of_operand, called_by, query_kind_view, segment_kind_view, NamesBelow, parts_in, branch_of, branches, fits, slice_view, HasNoParts, IsPart, ArePartsOf, AreSelectorsOf, AreOrPartsOf, AreAndPartsOf, AreArgumentsOf, KeepsParts, KeepsTrees, calls_in, tree_of, rule_of, signatures_of, whole_numbers, MayFinish, each_once, signature_view};
+    ghost use Rattle.std.specs.Prelude.{true, Some, ◌≡◌, ◌↔◌, ◌++◌, ◌∷◌, [], IfOk, OnErr, OnOk, IsTrue, string_bytes, length};
+    ghost use Rattle.serde_json_path_syntax.specs.Words.{literal_view, operator_view, a_query, a_segment, a_selector, an_or, an_and, a_basic, an_operand, a_call, argument_branch, IsOptionalInteger, IsSeenAs, result_of_call, result_of_operand, called_by, query_kind_view, segment_kind_view, NamesBelow, parts_in, branch_of, branches, fits, slice_view, HasNoParts, IsPart, ArePartsOf, AreSelectorsOf, AreOrPartsOf, AreAndPartsOf, AreArgumentsOf, KeepsParts, KeepsTrees, calls_in, tree_of, rule_of, signatures_of, whole_numbers, MayFinish, each_once, signature_view};
     ghost use Rattle.serde_json_path_syntax.specs.Tree as tree;
 
     /// A builder with no parts. Takes no memory.

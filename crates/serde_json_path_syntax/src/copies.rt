@@ -1,6 +1,7 @@
 //! Copies of nodes. An error comes only where memory is refused.
 
-ghost use Rattle.serde_json_path_syntax.specs.Words.{◌≡◌, IfOk, AreCopies, IsCopy};
+ghost use Rattle.std.specs.Prelude.{◌≡◌, IfOk};
+ghost use Rattle.serde_json_path_syntax.specs.Words.{AreCopies, IsCopy};
 
 use crate::literal::LiteralValue;
 use crate::node::Node;

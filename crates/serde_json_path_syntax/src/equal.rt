@@ -1,6 +1,7 @@
 //! Equality of finished queries.
 
-ghost use Rattle.serde_json_path_syntax.specs.Words.{◌≡◌, ◌<◌, ◌≤◌, ◌↔◌, IsTrue, true, length, pointwise, basic_of, basic_parts, operand_of, operand_parts, held_view, branch_at, branches, branches_named, segment_of, segment_parts, selector_of, selector_parts, basic_fits, operand_fits, literal_fits, segment_fits, selector_fits, parts_bound, nodes_in, number_of, tree_of, slice_view};
+ghost use Rattle.std.specs.Prelude.{◌≡◌, ◌<◌, ◌≤◌, ◌↔◌, IsTrue, true, length};
+ghost use Rattle.serde_json_path_syntax.specs.Words.{pointwise, basic_of, basic_parts, operand_of, operand_parts, held_view, branch_at, branches, branches_named, segment_of, segment_parts, selector_of, selector_parts, basic_fits, operand_fits, literal_fits, segment_fits, selector_fits, parts_bound, nodes_in, number_of, tree_of, slice_view};
 ghost use Rattle.serde_json_path_syntax.specs.SameTree as trees;
 
 use crate::checked::Checked;

@@ -33,7 +33,8 @@ pub struct NumberLiteral {
 }
 
 impl NumberLiteral {
-    ghost use Rattle.serde_json_path_syntax.specs.Words.{◌↔◌, IsSome, IfSome, literal_held, literal_number, exact_view, number_amount, whole_amount};
+    ghost use Rattle.std.specs.Prelude.{◌↔◌, IsSome, IfSome};
+    ghost use Rattle.serde_json_path_syntax.specs.Words.{literal_held, literal_number, exact_view, number_amount, whole_amount};
 
     /// The number of that many billionths, or `None` if it is out of range.
     pub fn from_billionths(billionths: i128) -> Option<NumberLiteral>
@@ -110,7 +111,8 @@ pub enum Literal {
 }
 
 impl Literal {
-    ghost use Rattle.serde_json_path_syntax.specs.Words.{◌≡◌, IfOk, true, held_view, literal_fits, literal_view};
+    ghost use Rattle.std.specs.Prelude.{◌≡◌, IfOk, true};
+    ghost use Rattle.serde_json_path_syntax.specs.Words.{held_view, literal_fits, literal_view};
 
     /// The literal as a tree holds it. An error comes only where memory is refused.
     pub(crate) fn held(self, alloc: Global) -> Result<LiteralValue, AllocError>
@@ -166,7 +168,8 @@ pub enum LiteralValue {
 }
 
 impl LiteralValue {
-    ghost use Rattle.serde_json_path_syntax.specs.Words.{◌≡◌, IfOk, held_view, literal_fits};
+    ghost use Rattle.std.specs.Prelude.{◌≡◌, IfOk};
+    ghost use Rattle.serde_json_path_syntax.specs.Words.{held_view, literal_fits};
 
     /// A copy of the literal. An error comes only where memory is refused.
     pub(crate) fn try_clone(&self) -> Result<LiteralValue, AllocError>

@@ -1,6 +1,7 @@
 //! Comparison operators (RFC 9535, section 2.3.5.1).
 
-ghost use Rattle.serde_json_path_syntax.specs.Words.{◌≡◌, ◌++◌, codes, operator_view, operator_text};
+ghost use Rattle.std.specs.Prelude.{◌≡◌, ◌++◌, codes};
+ghost use Rattle.serde_json_path_syntax.specs.Words.{operator_view, operator_text};
 
 /// How the two sides of a comparison are compared.
 #[derive(Clone, Copy, Debug, PartialEq, Eq)]

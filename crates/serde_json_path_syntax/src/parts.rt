@@ -1,6 +1,7 @@
 //! Parts in order.
 
-ghost use Rattle.serde_json_path_syntax.specs.Words.{◌≡◌, ◌++◌, ◌∷◌, [], ◌↔◌, if◌then◌else◌, is_ok, IsTrue, parts_in};
+ghost use Rattle.std.specs.Prelude.{◌≡◌, ◌++◌, ◌∷◌, [], ◌↔◌, if◌then◌else◌, is_ok, IsTrue};
+ghost use Rattle.serde_json_path_syntax.specs.Words.{parts_in};
 
 use crate::node::Part;
 use std::alloc::{AllocError, Global};

@@ -1,6 +1,7 @@
 //! Printed paths: a query as the text that is read back as it.
 
-ghost use Rattle.serde_json_path_syntax.specs.Words.{◌≡◌, ◌<◌, ◌≤◌, ◌++◌, Some, codes, length, map, option_map, true, WritesOnOk, AreOfKind, IsOfKind, basic_of, basic_parts, operand_of, operand_parts, branch_at, branches, branches_named, segments_at, basic_fits, operand_fits, is_segment, is_selector, parts_bound, nodes_in, number_of, tree_of, basic_text, operand_text, joined, branch_text, query_kind_text, query_text, segments_text, sign_text, opening_text, query_kind_view};
+ghost use Rattle.std.specs.Prelude.{◌≡◌, ◌<◌, ◌≤◌, ◌++◌, Some, codes, length, map, option_map, true};
+ghost use Rattle.serde_json_path_syntax.specs.Words.{WritesOnOk, AreOfKind, IsOfKind, basic_of, basic_parts, operand_of, operand_parts, branch_at, branches, branches_named, segments_at, basic_fits, operand_fits, is_segment, is_selector, parts_bound, nodes_in, number_of, tree_of, basic_text, operand_text, joined, branch_text, query_kind_text, query_text, segments_text, sign_text, opening_text, query_kind_view};
 
 mod literals;
 mod openings;

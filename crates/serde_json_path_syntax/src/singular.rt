@@ -1,6 +1,7 @@
 //! Singular queries (RFC 9535, section 2.3.5.1).
 
-ghost use Rattle.serde_json_path_syntax.specs.Words.{◌<◌, ◌≤◌, ◌↔◌, IsTrue, [], ◌∷◌, length, IsOfKind, is_query, part_query, branches, segment_parts, segment_of, segments_at, selector_at, parts_bound};
+ghost use Rattle.std.specs.Prelude.{◌<◌, ◌≤◌, ◌↔◌, IsTrue, [], ◌∷◌, length};
+ghost use Rattle.serde_json_path_syntax.specs.Words.{IsOfKind, is_query, part_query, branches, segment_parts, segment_of, segments_at, selector_at, parts_bound};
 ghost use Rattle.serde_json_path_syntax.specs.Tree as tree;
 
 use crate::arena::Arena;

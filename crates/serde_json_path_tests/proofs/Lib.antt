@@ -1,1 +1,2 @@
 mod Trees
+mod Words

@@ -1,13 +1,6 @@
 -- Hand-made trees that may be finished without signatures.
-use Rattle.std.proofs.Common.{◌≡◌, ◌≤◌, ℕ, List, [], refl, sym, subst}
-use Rattle.std.specs.Prelude.{Option}
-use Rattle.serde_json_path_functions.specs.Functions.{Signature}
+use Rattle.serde_json_path_tests.proofs.Words.{◌≡◌, ◌≤◌, ℕ, List, [], refl, sym, subst, Option, Signature, AreTypedSegments, segments_depth, calls_in_segments, names_of, IsIn, MayFinish, signature_in, deepest}
 use Rattle.serde_json_path_syntax.specs.Tree as tree
-use Rattle.serde_json_path_syntax.specs.Typing.{AreTypedSegments}
-use Rattle.serde_json_path_syntax.specs.Depth.{segments_depth}
-use Rattle.serde_json_path_syntax.specs.Calls.{calls_in_segments, names_of}
-use Rattle.serde_json_path_syntax.specs.Lists.{IsIn}
-use Rattle.serde_json_path_syntax.specs.Used.{MayFinish, signature_in, deepest}
 
 -- a query that calls nothing may be finished by a builder that has made no call
 pub finished_without_calls : (calls : List (List ℕ × Signature)) (segs : tree.Segments) → calls ≡ []

@@ -1,8 +1,7 @@
 -- Locations whose names stand in one text that all of them share.
 use Rattle.std.specs.Prelude.{◌≡◌, ℕ, ◌≤◌, List, [], ◌∷◌, ◌++◌, length, map, slice_range}
 use Rattle.std.specs.List.{All}
-use Rattle.std.specs.Str.{IsCharBoundary}
-use Rattle.serde_json_path_nodes.specs.Location.{Step, by_name, by_position}
+use Rattle.serde_json_path_nodes.specs.Words.{IsCharBoundary, Step, by_name, by_position}
 use Rattle.jsonpath_owned_nodes.specs.Kept.{KeptNode}
 use Rattle.jsonpath_owned_nodes.specs.declared.node_info.NodeInfo.{NodeInfo}
 use Rattle.jsonpath_owned_nodes.specs.declared.stored_step.StoredStep.{StoredStep}

@@ -1,4 +1,4 @@
-use Rattle.serde_json_path_core.proofs.Words.{◌≡◌, ◌+◌, length, map, take, [], drop, option_map, get_or, true, false, MatchOption, None, refl, sym, subst, ap, ◌∙◌, arith, ◌∷◌, ◌++◌, ◌⊎◌, inl, inr, rules, append_assoc, Option, Some, List, slice_get, ◌<◌, slice_get_within, get_or_default, map-append, common_steps, option_map_or, length-set, ∥∥₁_map, iter_rest, Data, view, Located, node_value, Passes, child, descendant, cursor_left, segment_kind_view, segment_in, segments_at, branch_at, basic_at, operand_at, call_at, part_query, branches, operator_view, term_view, StandsIn, Sound, IsTypedAnd, AreTypedArguments, calls_in_and, name_of, arguments_of, nodes_of, top_of, frame_view, frames_view, admitted, rest_of, work, IsStack, IsStackIn, IsInside, selector_view, stage_at, stages_at, child_view, values_from, Bor, Value, IsIn, within_get, within_bound, below_length, past_length, signatures_of, params_of, Step, EndsIn, AllStandIn, FunctionSet, LogicalOr, filter, or_at, kind_view, query_of, set_of, Child}
+use Rattle.serde_json_path_core.proofs.Words.{nat_tests, ◌≡◌, ◌+◌, length, map, take, [], drop, option_map, get_or, true, false, MatchOption, None, refl, sym, subst, ap, ◌∙◌, arith, ◌∷◌, ◌++◌, ◌⊎◌, inl, inr, rules, append_assoc, Option, Some, List, slice_get, slice_get_within, get_or_default, map-append, common_steps, length-set, ∥∥₁_map, iter_rest, Data, view, Located, node_value, Passes, child, descendant, cursor_left, segment_kind_view, segment_in, segments_at, branch_at, basic_at, operand_at, call_at, branches, operator_view, term_view, StandsIn, Sound, IsTypedAnd, AreTypedArguments, calls_in_and, name_of, arguments_of, nodes_of, top_of, frame_view, frames_view, admitted, rest_of, IsStack, IsStackIn, IsInside, selector_view, stage_at, stages_at, child_view, IsIn, within_get, within_bound, below_length, past_length, signatures_of, params_of, Step, EndsIn, AllStandIn, FunctionSet, LogicalOr, filter, or_at, kind_view, query_of, set_of, Child}
 use Rattle.serde_json_path_core.specs.Inside.Evaluates.{IsKept}
 use Rattle.serde_json_path_core.specs.Inside.Computed as computed
 use Rattle.serde_json_path_core.specs.Inside.Rest as advances
@@ -22,9 +22,7 @@ at_work g t c = sym (ap (option_map (selector_view (nodes_of c.args.scope.now)))
 
 -- no selector is left
 none_at_work : (g : _) (t : _) (c : evaluation::frame::Frame::next_arrival-In_default g t) → drop c.loop-selector_ref.self.selector (stage_at (nodes_of c.args.scope.now) c.args.segment).selectors ≡ []
-none_at_work g t c =
-    let stage = stage_at (nodes_of c.args.scope.now) c.args.segment in
-    drop-none stage.selectors c.loop-selector_ref.self.selector (missing (selector_view (nodes_of c.args.scope.now)) c.selector_ref.result _ c.in_default.not-Some c.selector_ref.ensures.selector_ref)
+none_at_work g t c = grind (arith, nat_tests, common_steps, drop-none, missing)
 
 -- the selector at work passes children that it does not admit
 skipped : (g : _) (t : _) (c : evaluation::frame::Frame::next_arrival-After-next_admitted g t) → slice_get (stage_at (nodes_of c.args.scope.now) c.args.segment).selectors c.loop-selector_ref.self.selector ≡ Some (selector_view (nodes_of c.args.scope.now) c.in-Some.selector_ref)
@@ -133,17 +131,10 @@ evaluation::frame::next_passing-compares-requires g t c =
     search rules
 
 pub evaluation::frame::next_passing-returns-then-branch-clause-found : goal.evaluation::frame::next_passing-returns-then-branch-clause-found
-evaluation::frame::next_passing-returns-then-branch-clause-found g t c =
-    let scope = c.args.scope.now in
-    let e = or_at (nodes_of scope) c.args.test in
-    let child = child_view c.in-Some-peek.child in
-    at_child (set_of scope) (top_of scope) e (cursor_left c.loop-child.cursor) child c.peek-then-branch.result c.in-Some-peek.ensures (search rules) c.peek-then-branch.ensures
+evaluation::frame::next_passing-returns-then-branch-clause-found g t c = grind (arith, nat_tests, common_steps, at_child)
 
 pub evaluation::frame::next_passing-loop-child-smaller : goal.evaluation::frame::next_passing-loop-child-smaller
-evaluation::frame::next_passing-loop-child-smaller g t c =
-    let all = ap length c.in-Some-peek.ensures in
-    let fewer = ap length c.pass.ensures in
-    omega arith
+evaluation::frame::next_passing-loop-child-smaller g t c = grind (arith, nat_tests, common_steps)
 
 pub evaluation::frame::next_passing-loop-child-preserved : goal.evaluation::frame::next_passing-loop-child-preserved
 evaluation::frame::next_passing-loop-child-preserved g t c =
@@ -152,17 +143,10 @@ evaluation::frame::next_passing-loop-child-preserved g t c =
     skips_another (set_of scope) (top_of scope) e _ _ _ (child_view c.in-Some-peek.child) c.loop-child.invariant c.in-Some-peek.ensures (search rules) c.pass.ensures
 
 pub evaluation::frame::next_holding-returns-then-branch-clause-found : goal.evaluation::frame::next_holding-returns-then-branch-clause-found
-evaluation::frame::next_holding-returns-then-branch-clause-found g t c =
-    let scope = c.args.scope.now in
-    let e = or_at (nodes_of scope) c.args.test in
-    let child = child_view c.in-Some.child in
-    at_child (set_of scope) (top_of scope) e (cursor_left c.loop-child.cursor) child c.peek-then-branch.result c.in-Some.ensures (search rules) c.peek-then-branch.ensures
+evaluation::frame::next_holding-returns-then-branch-clause-found g t c = grind (arith, nat_tests, common_steps, at_child)
 
 pub evaluation::frame::next_holding-loop-child-smaller : goal.evaluation::frame::next_holding-loop-child-smaller
-evaluation::frame::next_holding-loop-child-smaller g t c =
-    let all = ap length c.in-Some.ensures in
-    let fewer = ap length c.pass.ensures in
-    omega arith
+evaluation::frame::next_holding-loop-child-smaller g t c = grind (arith, nat_tests, common_steps)
 
 pub evaluation::frame::next_holding-loop-child-preserved : goal.evaluation::frame::next_holding-loop-child-preserved
 evaluation::frame::next_holding-loop-child-preserved g t c =
@@ -278,18 +262,10 @@ filter::query::first_from-find_next-requires g t c =
     search rules
 
 pub filter::query::first_from-returns-in-Some : goal.filter::query::first_from-returns-in-Some
-filter::query::first_from-returns-in-Some g t c =
-    let scope = c.args.scope.now in
-    let begins = rest-started (set_of scope) (top_of scope) (segments_at (nodes_of scope) c.args.segments.now) (view c.args.value.now) _ c.in_ok-frames.ensures in
-    let at = found-some _ _ c.in_ok-found.field-0 c.in-Some.found c.in-Some.is c.in_ok-found.ensures.found in
-    record { means = rw (sym begins, c.find_next.ensures.kept.0, at.1.0) refl; refused = search rules }
+filter::query::first_from-returns-in-Some g t c = grind (arith, nat_tests, common_steps, found-some, rest-started)
 
 pub filter::query::first_from-returns : goal.filter::query::first_from-returns
-filter::query::first_from-returns g t c =
-    let scope = c.args.scope.now in
-    let begins = rest-started (set_of scope) (top_of scope) (segments_at (nodes_of scope) c.args.segments.now) (view c.args.value.now) _ c.in_ok-frames.ensures in
-    let none = found-none _ _ c.in_ok-found.field-0 c.in-None.is c.in_ok-found.ensures.found in
-    record { means = rw (sym begins, c.find_next.ensures.kept.0, none) refl; refused = search rules }
+filter::query::first_from-returns g t c = grind (arith, nat_tests, common_steps, found-none, rest-started)
 
 pub filter::query::all_from-values-init : goal.filter::query::all_from-values-init
 filter::query::all_from-values-init g t c =
@@ -308,14 +284,7 @@ pub filter::query::all_from-pass_node-requires : goal.filter::query::all_from-pa
 filter::query::all_from-pass_node-requires g t c = (found-some _ _ c.in_ok-node.field-0 c.in-Some.node c.in-Some.is c.in_ok-node.ensures.found).0
 
 pub filter::query::all_from-values-smaller : goal.filter::query::all_from-values-smaller
-filter::query::all_from-values-smaller g t c =
-    let scope = c.args.scope.now in
-    let all = stages_at (nodes_of scope) c.args.segments.now in
-    let node = c.in-Some.node in
-    let at = found-some _ _ c.in_ok-node.field-0 node c.in-Some.is c.in_ok-node.ensures.found in
-    let fewer = subst (λ left. work all left < work all (frames_view c.find_next.new.frames.items)) (sym c.pass_node.ensures) at.1.1 in
-    let less = c.find_next.ensures.kept.1 in
-    omega arith
+filter::query::all_from-values-smaller g t c = grind (arith, nat_tests, common_steps, found-some)
 
 pub filter::query::all_from-values-preserved : goal.filter::query::all_from-values-preserved
 filter::query::all_from-values-preserved g t c =
@@ -334,16 +303,7 @@ filter::query::all_from-values-preserved g t c =
     }
 
 pub filter::query::first-returns-in-None : goal.filter::query::first-returns-in-None
-filter::query::first-returns-in-None g t c =
-    let scope = c.args.scope.now in
-    let reached = c.reached-reached.result in
-    let below : Option (Bor Value) → List Data = λ o. option_map_or (λ (v : Bor Value). values_from (set_of scope) (top_of scope) (segments_at (nodes_of scope) reached.segments.now) (view v.now)) o [] in
-    record {
-      means =
-          sym (first-of-values (computed.results (set_of scope) (top_of scope) (part_query (nodes_of scope) c.args.query) (view c.args.current.now))
-          ∙ ap (λ vs. slice_get vs 0) (c.reached-reached.ensures.selects ∙ ap below c.in-None.is));
-      refused = search rules;
-    }
+filter::query::first-returns-in-None g t c = grind (arith, nat_tests, common_steps, first-of-values)
 
 -- ---- logical expressions and calls
 
@@ -393,27 +353,13 @@ filter::call::answer-loop-argument-init g t c =
     }
 
 pub filter::call::answer-argument_as-requires : goal.filter::call::answer-argument_as-requires
-filter::call::answer-argument_as-requires g t c =
-    let scope = c.args.scope.now in
-    let next = next-argument (query_of scope) (branches (nodes_of scope)) (iter_rest c.loop-argument.argument-iterator.a) c.in-Some.argument.now (iter_rest c.next.new.self.a) (search rules) (c.loop-argument.invariant.are, c.loop-argument.invariant.sound.1) in
-    search rules
+filter::call::answer-argument_as-requires g t c = grind (arith, nat_tests, common_steps, next-argument)
 
 pub filter::call::answer-loop-argument-preserved : goal.filter::call::answer-loop-argument-preserved
-filter::call::answer-loop-argument-preserved g t c =
-    let scope = c.args.scope.now in
-    let next = next-argument (query_of scope) (branches (nodes_of scope)) (iter_rest c.loop-argument.argument-iterator.a) c.in-Some.argument.now (iter_rest c.next.new.self.a) (search rules) (c.loop-argument.invariant.are, c.loop-argument.invariant.sound.1) in
-    record {
-      below = grind (arith, common_steps);
-      are = next.1.0;
-      sound = (grind (arith, common_steps), next.1.1);
-      typed = grind (arith, common_steps);
-      means = grind (arith, common_steps);
-    }
+filter::call::answer-loop-argument-preserved g t c = grind (arith, nat_tests, common_steps, next-argument)
 
 pub filter::call::answer-returns-clause-kind : goal.filter::call::answer-returns-clause-kind
-filter::call::answer-returns-clause-kind g t c =
-    let scope = c.args.scope.now in
-    answered-kind (set_of scope) (call_at (nodes_of scope) c.args.call) c.called_name-name.result.now c.call.result c.called_name-name.ensures c.call.ensures.typed_answer
+filter::call::answer-returns-clause-kind g t c = grind (arith, nat_tests, common_steps, answered-kind)
 
 pub filter::call::answer-returns-clause-computes : goal.filter::call::answer-returns-clause-computes
 filter::call::answer-returns-clause-computes g t c =

@@ -1,21 +1,14 @@
 -- The computed children of a value are those that a step leads to, in document order.
-use Rattle.serde_json_path_core.proofs.Words.{◌≡◌, ℕ, zero, suc, ◌+◌, ◌<◌, ◌≤◌, ℤ, List, Ordering, Less, Equal, Greater, nat_cmp, is_eq, false, bytes_eq, Option, Some, ◌↔◌, inl, inr, refl, sym, ap, subst, ◌∙◌, arith, true≢false, option_to_list, ◌-◌, pos, negsuc, None, option_map, option_and_then, slice_cmp, ordering_reverse, match_ordering, nat_list_cmp_total, tied_itself, is_eq-slice_cmp, none-some, option_and_then_some, same_Some, bytes_eq-Decides, Data, array, object, Items, no_items, item, Members, no_members, member, put, get_item, get_member, get_member-put, get_member-put_other, Step, by_name, by_position, child_at, StepBefore, IsIn, IsInOrder, SelectsIndex, IsPositionOf, child_by, item_at, position_in, children, items_from, members_all, in_order, cases_Bool, in_option, nat_lt, ints, items_len}
+use Rattle.serde_json_path_core.proofs.Words.{nat_tests, common_steps, ◌≡◌, ℕ, zero, suc, ◌+◌, ◌<◌, ◌≤◌, ℤ, List, Ordering, Less, Equal, Greater, nat_cmp, is_eq, false, bytes_eq, Option, Some, ◌↔◌, inl, inr, refl, sym, ap, subst, ◌∙◌, arith, true≢false, option_to_list, ◌-◌, pos, negsuc, option_map, option_and_then, slice_cmp, ordering_reverse, match_ordering, nat_list_cmp_total, tied_itself, is_eq-slice_cmp, none-some, option_and_then_some, same_Some, bytes_eq-Decides, Data, array, object, Items, no_items, item, Members, no_members, member, put, get_item, get_member, get_member-put, get_member-put_other, Step, by_name, by_position, child_at, StepBefore, IsIn, IsInOrder, SelectsIndex, IsPositionOf, child_by, item_at, position_in, children, items_from, members_all, in_order, cases_Bool, in_option, nat_lt, ints, items_len}
 
 -- ---- the child at a step, and the item of an index
 
 -- the child at a step, with that step
 by_step : (v : Data) (s t : Step) (c : Data) → child_by v s ≡ Some (t, c) → (t ≡ s) × (child_at v s ≡ Some c)
-by_step v s t c e = elim (child_at v s) as (λ o. ◌≡◌ {A = Option (Step × Data)} (option_map (λ d. (s, d)) o) (Some (t, c)) → (t ≡ s) × (o ≡ Some c)) [
-  | None ↦ λ f. absurd (none-some (t, c) f)
-  | Some d ↦ λ f. let same = same_Some {A = Step × Data} (s, d) (t, c) f in (sym (ap (λ (x : Step × Data). x.0) same), ap (λ (x : Step × Data). Some x.1) same)
-] e
+by_step v s t c e = grind (arith, nat_tests, common_steps, none-some, same_Some)
 
 pub in_child_by : (v : Data) (s : Step) (c : Step × Data) → IsIn c (option_to_list (child_by v s)) ↔ ((c.0 ≡ s) × (child_at v c.0 ≡ Some c.1))
-in_child_by v s c =
-    let here = in_option c (child_by v s) in (
-      λ h. let b = by_step v s c.0 c.1 (here.0 h) in (b.0, ap (child_at v) b.0 ∙ b.1),
-      λ h. here.1 (ap (child_by v) (sym h.0) ∙ ap (option_map (λ d. (c.0, d))) h.1),
-    )
+in_child_by v s c = grind (arith, nat_tests, common_steps, in_option, by_step)
 
 -- the position that an index means is the one that it selects
 selects_index : (i : ℤ) (len p : ℕ) → (position_in i len ≡ Some p) ↔ SelectsIndex i len p

@@ -1,5 +1,5 @@
 -- The computed ends are those of the derivations, and the computed tests hold where the defined ones do.
-use Rattle.serde_json_path_core.proofs.Words.{◌≡◌, ℕ, zero, suc, List, [], ◌∷◌, ◌++◌, map, ◌↔◌, inl, inr, Bool, true, false, ◌&&◌, Option, Some, None, option_and_then, option_to_list, refl, sym, ap, subst, ◌∙◌, true≢false, append_assoc, Numbers, value, always, never, Decides, AllZip, Decides-and, Decides-or, Decides-not, same_from_decides, same_Some, none-some, Data, Step, by_name, child_at, at, Located, QueryKind, Query, query, SegmentKind, child, descendant, Segments, no_segments, segment, Segment, dot_name, dot_wildcard, long_hand, Selectors, no_selectors, selector, Selector, name, wildcard, index, slice, filter, LogicalOr, no_or, or, LogicalAnd, no_and, and, Basic, paren, relation, test, Operator, Operand, literal, queried, called, Call, call, Arguments, no_arguments, argument, Argument, operand, logical_argument, Kind, of_value, of_nodes, of_logical, Term, nodes, FunctionSet, Compared, Compares, literal_compared, value_compared, Triple, location_of, start_of, BelongsTo, Before, IsIn, MayDescend, Derives, AdmitsIn, AdmitsBy, Admits, Holds, HoldsAll, HoldsBasic, HoldsTest, NotIf, Exists, IsResult, IsComparedAs, Answers, AreArguments, IsArgument, AnswersYes, IsTruthOf, first_value, params_of, child_by, itself, children, results, selected, is_true, all_true, basic_true, test_true, not_if, compare_sides, compared, answer, arguments, argument_as, are_taken, is_answered, is_taken, is_given, operand_as, IsTakenAs, answer_holds, answer_compared, is_nonempty, in_append, in_map, map_in, in_flat_map, in_keep, in_order-map, logical}
+use Rattle.serde_json_path_core.proofs.Words.{arith, nat_tests, common_steps, ◌≡◌, ℕ, zero, suc, List, [], ◌∷◌, ◌++◌, map, ◌↔◌, inl, inr, Bool, true, false, ◌&&◌, Option, Some, None, option_and_then, refl, sym, ap, subst, ◌∙◌, true≢false, Numbers, value, always, never, Decides, AllZip, Decides-and, Decides-or, Decides-not, same_from_decides, same_Some, none-some, Data, Step, by_name, child_at, at, Located, QueryKind, Query, query, SegmentKind, child, descendant, Segments, no_segments, segment, Segment, dot_name, dot_wildcard, long_hand, Selectors, no_selectors, selector, Selector, name, wildcard, index, slice, filter, LogicalOr, no_or, or, LogicalAnd, no_and, and, Basic, paren, relation, test, Operator, Operand, literal, queried, called, Call, call, Arguments, no_arguments, argument, Argument, operand, logical_argument, Kind, of_value, of_nodes, of_logical, Term, nodes, FunctionSet, Compared, Compares, literal_compared, value_compared, Triple, location_of, start_of, BelongsTo, Before, IsIn, MayDescend, Derives, AdmitsIn, AdmitsBy, Admits, Holds, HoldsAll, HoldsBasic, HoldsTest, NotIf, Exists, IsResult, IsComparedAs, Answers, AreArguments, IsArgument, AnswersYes, IsTruthOf, first_value, params_of, itself, children, results, selected, is_true, all_true, basic_true, test_true, not_if, compare_sides, compared, answer, arguments, argument_as, are_taken, is_answered, is_taken, is_given, operand_as, IsTakenAs, answer_holds, answer_compared, is_nonempty, in_append, in_map, map_in, in_flat_map, in_keep, in_order-map, logical}
 use Rattle.serde_json_path_core.proofs.Meaning.ChildSteps.{in_children, in_child_by, in_item_at}
 use Rattle.serde_json_path_core.proofs.Meaning.Comparisons.{Decides-compare}
 use Rattle.serde_json_path_core.proofs.Meaning.Descents.{in_descents}
@@ -20,9 +20,7 @@ at-append v (s ∷ ls) ms =
 -- what stands below a child of a value below v
 at_below : (v : Data) (down : List Step) (d : Data) (s : Step) (c : Data) (rest : List Step)
     → at v down ≡ Some d → child_at d s ≡ Some c → at v ((down ++ s ∷ []) ++ rest) ≡ at c rest
-at_below v down d s c rest p q =
-    ap (at v) (append_assoc down (s ∷ []) rest) ∙ at-append v down (s ∷ rest) ∙ ap (option_and_then (λ x. at x (s ∷ rest))) p
-    ∙ ap (option_and_then (λ x. at x rest)) q
+at_below v down d s c rest p q = grind (arith, nat_tests, common_steps, at-append)
 
 -- the values at which selectors are applied are those that the segment may descend to
 in_levels : (kind : SegmentKind) (v : Data) (m : Located) → IsIn m (levels kind v) ↔ (MayDescend kind m.location × (at v m.location ≡ Some m.value))
@@ -86,11 +84,7 @@ answer_test false a A f = (λ e. absurd (true≢false (sym e ∙ ap answer_holds
 -- an answer as an argument of type Logical
 answer_logical : (there : Bool) (a : Term) (A : Term → Type 0) → IsAnswer there a A → (t : Term)
     → ((u : Term) × A u × IsTruthOf (AnswersYes u) t) ↔ ((there ≡ true) × (t ≡ logical (answer_holds a)))
-answer_logical there a A f t =
-    let d = truth_of (AnswersYes a) (answer_holds a) t (yes_decides a) in (
-      λ h. let g = (f.1 h.0).0 h.1 in (g.0, d.0 (subst (λ u. IsTruthOf (AnswersYes u) t) g.1 h.2)),
-      λ e. (a, (f.1 a).1 (e.0, refl), d.1 e.1),
-    )
+answer_logical there a A f t = grind (arith, nat_tests, common_steps, yes_decides, truth_of)
 
 -- an argument that is no call
 plainly : {P Q : Type 0} → P ↔ Q → P ↔ ((true ≡ true) × Q)
@@ -174,10 +168,7 @@ module _ (F : FunctionSet) (top : Data) where
           (inr ((in_map later t (picks_by F top more down v)).1 (u, (are_picks down v u).1 (d, a, c), λ i. (record { descent = t.0.descent; number = e i; step = t.0.step }, t.1))))
 
   dot_name_step : (k : List ℕ) → ArePicks (dot_name k)
-  dot_name_step k down v t =
-      let i = in_triples down (option_to_list (child_by v (by_name k))) t in
-      let c = in_child_by v (by_name k) (t.0.step, t.1) in
-      (λ h. let j = i.0 h in let b = c.0 j.2 in (j.0, (j.1, b.0), b.1), λ h. i.1 (h.0, h.1.0, c.1 (h.1.1, h.2)))
+  dot_name_step k down v t = grind (arith, nat_tests, common_steps, in_child_by, in_triples)
 
   dot_wildcard_step : ArePicks dot_wildcard
   dot_wildcard_step down v t =
@@ -218,8 +209,7 @@ module _ (F : FunctionSet) (top : Data) where
   -- what a query's result gives
   result_gives : (q : Query) → IsQueryRight q → (v : Data) (A : Type 0) (f : List Located → A) (x : A)
       → ((ns : List Located) × IsResult F top q v ns × (x ≡ f ns)) ↔ (x ≡ f (results F top q v))
-  result_gives q right v A f x =
-      (λ h. h.2 ∙ ap f (result_once F top q v h.0 (results F top q v) h.1 (right v)), λ e. (results F top q v, right v, e))
+  result_gives q right v A f x = grind (arith, nat_tests, common_steps, result_once)
 
   -- what is negated is decided by the opposite
   Decides-not_if : {P : Type 0} (negated b : Bool) → Decides b P → Decides (not_if negated b) (NotIf negated P)

@@ -1,5 +1,5 @@
 -- Derivations are in an order: never do two stand before each other, and a list in that order is fixed by its members.
-use Rattle.serde_json_path_core.proofs.Words.{◌≡◌, ℕ, zero, suc, ◌<◌, List, [], ◌∷◌, ◌⊎◌, inl, inr, Less, Greater, refl, sym, ap, subst, ◌∙◌, arith, AllZip, same_Some, ordering_reverse, nat_list_cmp_total, ints, Data, Step, by_name, by_position, at, StepBefore, DescentBefore, Located, Query, query, Segments, segment, Segment, long_hand, Selectors, no_selectors, selector, Selector, slice, FunctionSet, Triple, start_of, BelongsTo, SelectedBefore, SelectedBeforeBy, SelectedBeforeIn, TripleBefore, Before, IsIn, IsInOrder, IsResult}
+use Rattle.serde_json_path_core.proofs.Words.{nat_tests, common_steps, ◌≡◌, ℕ, zero, suc, ◌<◌, List, [], ◌∷◌, ◌⊎◌, inl, inr, Less, Greater, refl, sym, ap, subst, ◌∙◌, arith, AllZip, same_Some, ordering_reverse, nat_list_cmp_total, ints, Data, Step, by_name, by_position, StepBefore, DescentBefore, Located, Query, query, Segments, segment, Segment, long_hand, Selectors, no_selectors, selector, Selector, slice, FunctionSet, Triple, start_of, BelongsTo, SelectedBefore, SelectedBeforeBy, SelectedBeforeIn, TripleBefore, Before, IsIn, IsInOrder, IsResult}
 
 -- ---- never both
 
@@ -77,10 +77,7 @@ in_order_total R (z ∷ zs) x y o (inr h) (inr g) = in_order_total R zs x y o.1 
 -- ---- results
 
 same_pair : (start : Data) (xs : List Triple) (n m : Located) → BelongsTo start xs n → BelongsTo start xs m → n ≡ m
-same_pair start xs n m h g =
-    let l : n.location ≡ m.location = h.0 ∙ sym g.0 in
-    let v = same_Some n.value m.value (sym h.1 ∙ ap (at start) l ∙ g.1) in
-    λ i. record { location = l i; value = v i }
+same_pair start xs n m h g = grind (arith, nat_tests, common_steps, same_Some)
 
 same_pairs : (start : Data) (ds : List (List Triple)) (ns ms : List Located) → AllZip (BelongsTo start) ds ns → AllZip (BelongsTo start) ds ms → ns ≡ ms
 same_pairs start [] [] [] h g = refl

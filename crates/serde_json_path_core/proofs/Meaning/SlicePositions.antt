@@ -1,5 +1,5 @@
 -- The computed children of a slice are those at the positions that it selects, in its order.
-use Rattle.serde_json_path_core.proofs.Words.{◌≡◌, ℕ, zero, suc, ◌+◌, ◌-◌, ◌*◌, ◌<◌, ◌≤◌, ℤ, pos, negsuc, neg_ℤ, nat_abs, [], ◌∷◌, ◌↔◌, inl, inr, Bool, true, false, Option, Some, unwrap_or, refl, sym, ap, subst, ◌∙◌, arith, suc-mul, le-div_iff_mul-le, mul-lt-mul_of_pos_right, ◌<ℤ◌, ◌≤ℤ◌, ◌+ℤ◌, ◌-ℤ◌, ◌*ℤ◌, option_map_or, ints, clamps, same_Some, none-some, Data, array, Items, no_items, item, get_item, Step, by_position, child_at, items_len, Slice, slice, step_of, from_end, bound_of, SelectsPosition, IsIn, IsInOrder, SelectedBefore, IsPositionOf, SlicePositions, count_within, strided, rising, falling, positions_by, sliced, next_position, int_max, int_min, pos-*ℤ-pos, pos-*ℤ-negsuc}
+use Rattle.serde_json_path_core.proofs.Words.{nat_tests, common_steps, ◌≡◌, ℕ, zero, suc, ◌+◌, ◌-◌, ◌*◌, ◌<◌, ◌≤◌, ℤ, pos, negsuc, neg_ℤ, nat_abs, [], ◌∷◌, ◌↔◌, inl, inr, Bool, true, false, Option, Some, refl, sym, ap, subst, ◌∙◌, arith, suc-mul, le-div_iff_mul-le, mul-lt-mul_of_pos_right, ◌<ℤ◌, ◌≤ℤ◌, ◌+ℤ◌, ◌-ℤ◌, ◌*ℤ◌, option_map_or, ints, clamps, same_Some, none-some, Data, array, Items, no_items, item, get_item, Step, by_position, child_at, items_len, Slice, slice, step_of, bound_of, SelectsPosition, IsIn, IsInOrder, SelectedBefore, IsPositionOf, SlicePositions, count_within, strided, rising, falling, positions_by, sliced, next_position, int_max, int_min, pos-*ℤ-pos, pos-*ℤ-negsuc}
 
 -- ---- items at positions
 
@@ -31,8 +31,7 @@ IsPlaced count upwards first stride items c =
 pub next_strided : (count : ℕ) (upwards : Bool) (first stride : ℕ) (items : Items) (o : Option Data) → get_item first items ≡ o
     → strided (suc count) upwards first stride items
     ≡ option_map_or (λ d. (by_position first, d) ∷ strided count upwards (next_position upwards first stride) stride items) o []
-next_strided count upwards first stride items o e =
-    ap (λ x. option_map_or (λ d. (by_position first, d) ∷ strided count upwards (next_position upwards first stride) stride items) x []) e
+next_strided count upwards first stride items o e = grind (arith, nat_tests, common_steps)
 
 -- the items there are those at these positions
 in_strided : (count : ℕ) (upwards : Bool) (first stride : ℕ) (items : Items) → ((j : ℕ) → j < count → frame upwards first stride j < items_len items)
@@ -87,8 +86,7 @@ cut_counted : (len : ℕ) (x : ℤ) → let z = int_min (pos len) (int_max (pos 
 cut_counted len x = counted (int_min (pos len) (int_max (pos 0) x)) len (omega (arith, ints, clamps)) (omega (arith, ints, clamps))
 
 last_counted : (len : ℕ) (x : ℤ) → let z = int_min (pos len -ℤ pos 1) (int_max (pos 0 -ℤ pos 1) x) +ℤ pos 1 in (pos (nat_abs z) ≡ z) × (nat_abs z ≤ len)
-last_counted len x =
-    counted (int_min (pos len -ℤ pos 1) (int_max (pos 0 -ℤ pos 1) x) +ℤ pos 1) len (omega (arith, ints, clamps)) (omega (arith, ints, clamps))
+last_counted len x = grind (arith, nat_tests, common_steps, clamps, counted)
 
 module _ (s : Slice) (len k : ℕ) where
   -- where rising positions begin (RFC 9535, section 2.3.4.2.2)
@@ -100,10 +98,7 @@ module _ (s : Slice) (len k : ℕ) where
   high = bound_of (pos len) s.end (pos len) (pos 0) (pos len)
 
   rising_bounds : (pos (nat_abs low) ≡ low) × (pos (nat_abs high) ≡ high) × (nat_abs high ≤ len)
-  rising_bounds =
-      let start = cut_counted len (from_end (pos len) (unwrap_or s.start (pos 0))) in
-      let end = cut_counted len (from_end (pos len) (unwrap_or s.end (pos len))) in
-      (start.0, end.0, end.1)
+  rising_bounds = grind (arith, nat_tests, common_steps, cut_counted)
 
   -- a position that is so many steps above the start and below the end
   rising_at : (p n : ℕ) → step_of s ≡ pos (suc k)
@@ -132,10 +127,7 @@ module _ (s : Slice) (len k : ℕ) where
   bottom = bound_of (pos len) s.end ((pos 0 -ℤ pos len) -ℤ pos 1) (pos 0 -ℤ pos 1) last
 
   falling_bounds : (pos (nat_abs (top +ℤ pos 1)) ≡ (top +ℤ pos 1)) × (pos (nat_abs (bottom +ℤ pos 1)) ≡ (bottom +ℤ pos 1)) × (nat_abs (top +ℤ pos 1) ≤ len)
-  falling_bounds =
-      let start = last_counted len (from_end (pos len) (unwrap_or s.start last)) in
-      let end = last_counted len (from_end (pos len) (unwrap_or s.end ((pos 0 -ℤ pos len) -ℤ pos 1))) in
-      (start.0, end.0, start.1)
+  falling_bounds = grind (arith, nat_tests, common_steps, last_counted)
 
   -- a position that is so many steps below the start and above the end
   falling_at : (p n : ℕ) → step_of s ≡ negsuc k

@@ -1,5 +1,5 @@
 -- What the code looks up: names of a map in order, operands, and known cases.
-use Rattle.serde_json_path_core.proofs.Words.{◌≡◌, Option, Some, None, MatchOption, Result, Ok, Err, IfErr, subst, List, ◌∷◌, Bool, true, false, ap, [], String, Global, Less, string_cmp, string_bytes, ◌<◌, ◌≤◌, length, slice_index_or, ◌&&◌, ◌||◌, refl, ◌∙◌, arith, ℕ, get_or, ℤ, option_and_then, option_map, Equal, nat_cmp, is_eq, sym, AllByRecursion, keys_of, members_view, Entry, in_order, Data, FunctionSet, LogicalOr, no_or, or, no_and, and, relation, Operand, Operator, and_in, ands_in, basic_in, ors_in, branch_in, branches_named, Branch, Part, compare_sides, compared, is_true, slice_cmp, is_at, lookup, is_eq-slice_cmp, bytes_eq-Decides, object, array, view, items_view, Value, view-lookup, get_item_within, get_item_past, items_len-items_view, Step, by_name, by_position, child_by, item_at, position_in, IsStrictlySortedBy}
+use Rattle.serde_json_path_core.proofs.Words.{nat_tests, common_steps, ◌≡◌, Option, Some, None, MatchOption, Result, Ok, Err, IfErr, subst, List, ◌∷◌, Bool, true, false, ap, [], String, Global, Less, string_cmp, string_bytes, ◌<◌, ◌≤◌, length, slice_index_or, ◌&&◌, ◌||◌, refl, ◌∙◌, arith, ℕ, get_or, ℤ, option_and_then, option_map, Equal, nat_cmp, is_eq, sym, AllByRecursion, keys_of, members_view, Entry, in_order, Data, FunctionSet, LogicalOr, no_or, or, no_and, and, relation, Operand, Operator, and_in, ands_in, basic_in, ors_in, branch_in, branches_named, Branch, Part, compare_sides, compared, is_true, slice_cmp, is_at, lookup, is_eq-slice_cmp, bytes_eq-Decides, object, array, view, items_view, Value, view-lookup, get_item_within, get_item_past, items_len-items_view, Step, by_name, by_position, child_by, item_at, position_in, IsStrictlySortedBy}
 use Rattle.serde_json_path_core.proofs.Meaning.ChildSteps.{IsBelow, AreRising, in_order-rising}
 
 -- ---- what is so of an option whose case is known
@@ -40,9 +40,7 @@ pub one-comparison : (ps : List Branch) (e : LogicalOr) (ors ands : List Part) (
     → 1 ≤ length ors → length ors < 2 → 1 ≤ length ands → length ands < 2
     → e ≡ ors_in (branches_named ps ors) → and_in (branch_in ps (slice_index_or ors 0 d).number) ≡ ands_in (branches_named ps ands)
     → basic_in (branch_in ps (slice_index_or ands 0 d).number) ≡ relation x op y → e ≡ or (and (relation x op y) no_and) no_or
-one-comparison ps e ors ands d x op y some_or one_or some_and one_and is_or is_and is_basic =
-    is_or ∙ ap (λ parts. ors_in (branches_named ps parts)) (single ors d some_or one_or)
-    ∙ ap (λ a. or a no_or) (is_and ∙ ap (λ parts. ands_in (branches_named ps parts)) (single ands d some_and one_and) ∙ ap (λ b. and b no_and) is_basic)
+one-comparison ps e ors ands d x op y some_or one_or some_and one_and is_or is_and is_basic = grind (arith, nat_tests, common_steps, single)
 
 alone : (b : Bool) → ((b && true) || false) ≡ b
 alone true = refl
@@ -77,8 +75,7 @@ item_found vs z o p v s e less is =
 
 pub item_past : (vs : List Value) (z : ℤ) (o : Option ℕ) (p : ℕ) → o ≡ Some p → o ≡ position_in z (length vs) → length vs ≤ p → None ≡ item_at (array (items_view vs)) z
 unfolding reached
-item_past vs z o p s e less =
-    ap (option_map (λ d. (by_position p, d))) (get_item_past vs p less) ∙ sym (ap (option_and_then (reached vs)) s) ∙ item_at-is vs z o e
+item_past vs z o p s e less = grind (arith, nat_tests, common_steps, get_item_past, reached, item_at-is)
 
 pub member_found : (name key : List ℕ) (es : List Entry) (v : Value) → slice_cmp nat_cmp name key ≡ Equal
     → Some v ≡ lookup (is_at (λ k. slice_cmp nat_cmp name (string_bytes k))) es → Some (by_name key, view v) ≡ child_by (object (members_view es)) (by_name name)

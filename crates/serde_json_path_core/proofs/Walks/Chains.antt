@@ -1,5 +1,5 @@
 -- Chains of frames in a document, and where they stand.
-use Rattle.serde_json_path_core.proofs.Words.{◌≡◌, ℕ, ◌+◌, ◌<◌, ◌≤◌, List, [], ◌∷◌, ◌++◌, length, Some, None, refl, sym, ap, subst, ◌∙◌, arith, inr, Data, Step, child_at, Stage, AreChildrenOf, Frame, begun, entered, IsAtChild, IsAtStart, IsOfValue, IsChain, IsStack, IsSameFrame, ∥∥₁_map, ∥∥₁_elim, ∥∥₁_prop, at, QueryKind, root, current, IsIn, start_of, StandsIn, EndsIn, IsStackIn, IsInside, AllStandIn, in_append}
+use Rattle.serde_json_path_core.proofs.Words.{nat_tests, common_steps, ◌≡◌, ℕ, ◌+◌, ◌<◌, ◌≤◌, List, [], ◌∷◌, ◌++◌, length, Some, None, refl, sym, ap, subst, ◌∙◌, arith, inr, Data, Step, child_at, Stage, AreChildrenOf, Frame, begun, entered, IsAtChild, IsAtStart, IsOfValue, IsChain, IsStack, IsSameFrame, ∥∥₁_map, ∥∥₁_elim, ∥∥₁_prop, at, QueryKind, root, current, IsIn, start_of, StandsIn, EndsIn, IsStackIn, IsInside, AllStandIn, in_append}
 use Rattle.serde_json_path_core.proofs.Walks.Heights.{height, height-child_at}
 use Rattle.serde_json_path_core.proofs.Walks.Frames.{opened-of}
 use Rattle.serde_json_path_core.proofs.Meaning.Derived.{at-append}
@@ -42,8 +42,7 @@ stack-held start ps p m h same = chain-held (IsAtStart start) ps p m (λ at. (sa
 -- the same, and a frame at a child of it is put above
 pub stack-moved : (start : Data) (ps : List Frame) (p m q : Frame) (s : Step) → IsStack start (ps ++ p ∷ []) → IsSameFrame p m → q.step ≡ Some s → child_at p.value s ≡ Some q.value → IsOfValue q
     → IsStack start ((ps ++ m ∷ []) ++ q ∷ [])
-stack-moved start ps p m q s h same step leads left =
-    chain-above (IsAtStart start) ps m q (stack-held start ps p m h same) (s, step, ap (λ w. child_at w s) same.1 ∙ leads) left
+stack-moved start ps p m q s h same step leads left = grind (arith, nat_tests, common_steps, chain-above, stack-held)
 
 -- a frame where a walk begins is a stack
 pub stack-started : (all : List Stage) (start : Data) (ps : List Frame) → ps ≡ entered None 0 all start ∷ [] → IsStack start ps

@@ -1,5 +1,5 @@
 -- Frames of a walk: their arrivals, and what they pass.
-use Rattle.serde_json_path_core.proofs.Words.{◌≡◌, ℕ, ◌+◌, List, [], ◌∷◌, ◌++◌, map, flat_map, refl, ap, ◌∙◌, sym, append_assoc, drop, Some, inl, inr, subst, map-append, Data, Step, SegmentKind, child, descendant, Selector, candidates, lower, opened, arrivals, child_at, FunctionSet, name, wildcard, index, slice, Stage, AreChildrenOf, Frame, admitted, unfiltered, EndsIn, Skips, IsAtAdmitted, Passes, IsDone, IsAtArrival, by_name, in_append}
+use Rattle.serde_json_path_core.proofs.Words.{arith, nat_tests, common_steps, ◌≡◌, ℕ, ◌+◌, List, [], ◌∷◌, ◌++◌, map, flat_map, refl, ap, ◌∙◌, sym, append_assoc, drop, Some, inl, inr, subst, map-append, Data, Step, SegmentKind, child, descendant, Selector, candidates, lower, opened, arrivals, child_at, FunctionSet, name, wildcard, index, slice, Stage, AreChildrenOf, Frame, admitted, unfiltered, EndsIn, Skips, IsAtAdmitted, Passes, IsDone, IsAtArrival, by_name, in_append}
 use Rattle.serde_json_path_core.proofs.Meaning.ChildSteps.{in_children, in_child_by, in_item_at}
 use Rattle.serde_json_path_core.proofs.Meaning.SlicePositions.{in_sliced}
 
@@ -24,27 +24,21 @@ module _ (admit : Selector → List (Step × Data) → List (Step × Data)) (num
   -- the selector at work passes some that it admits
   pub skips_over : (sels : List Selector) (sel : Selector) (more : List Selector) (cs ds front : List (Step × Data))
       → sels ≡ sel ∷ more → admit sel cs ≡ front ++ admit sel ds → arrivals admit number kind sels cs v ≡ map onward front ++ arrivals admit number kind sels ds v
-  skips_over sels sel more cs ds front e a =
-      rw (e, a, append_assoc front (admit sel ds) (all_of more), map-append onward front (admit sel ds ++ all_of more))
-      (append_assoc (map onward front) (map onward (admit sel ds ++ all_of more)) (map downward (lower kind v)))
+  skips_over sels sel more cs ds front e a = grind (arith, nat_tests, common_steps, map-append)
 
   -- the next selector begins, past what this one still admits
   pub turns_over : (sels : List Selector) (sel : Selector) (more : List Selector) (cs ds : List (Step × Data))
       → sels ≡ sel ∷ more → ds ≡ opened kind more v → arrivals admit number kind sels cs v ≡ map onward (admit sel cs) ++ arrivals admit number kind more ds v
-  turns_over sels sel more cs ds e d =
-      rw (e, d, map-append onward (admit sel cs) (all_of more), sym (next_opened more))
-      (append_assoc (map onward (admit sel cs)) (map onward (all_of more)) (map downward (lower kind v)))
+  turns_over sels sel more cs ds e d = grind (arith, nat_tests, common_steps, map-append, next_opened)
 
   -- after the last selector, a child to go down to
   pub goes_down : (sels : List Selector) (cs ds : List (Step × Data)) (c : Step × Data)
       → kind ≡ descendant → sels ≡ [] → cs ≡ c ∷ ds → arrivals admit number kind sels cs v ≡ downward c ∷ arrivals admit number kind sels ds v
-  goes_down sels cs ds c k e a =
-      rw (k, e, a) refl
+  goes_down sels cs ds c k e a = grind (arith, nat_tests, common_steps)
 
   -- after the last selector there is nothing left
   pub is_done : (sels : List Selector) (cs : List (Step × Data)) → sels ≡ [] → (kind ≡ descendant → cs ≡ []) → arrivals admit number kind sels cs v ≡ []
-  is_done sels cs e h =
-      rw e (elim kind as (λ k. (k ≡ descendant → cs ≡ []) → arrivals admit number k [] cs v ≡ []) [ child ↦ λ g. refl | descendant ↦ λ g. ap (map downward) (g refl) ] h)
+  is_done sels cs e h = grind (arith, nat_tests, common_steps)
 
 -- ---- ends of lists
 

@@ -1,5 +1,5 @@
 -- A query goes down by segments that select one child at most: the values that it selects stay.
-use Rattle.serde_json_path_core.proofs.Words.{IfSome, option_map_or, append-nil, drop_more, length-drop, take-append-drop, take_all, flat_map-map, map-map, Data, Step, Located, FunctionSet, Query, query, kind_of, segments_of, Segments, no_segments, segment, SegmentKind, child, descendant, Segment, Selector, stage_at, stage_of, Stage, branch_at, segment_in, segment_kind_in, segments_at, Node, Part, flat_map-same, map-flat_map, chosen, descents, itself, placed, reached, results, results_from, start_of, beneath, first_value, admitted, candidates, AreChildrenOf, EndsIn, IsIn, child_at, SelectOnly, candidate_values, single_view, values_from, dot_name, index, long_hand, name, no_selectors, selector, are_singular, is_single, ◌≡◌, ℕ, ◌+◌, ◌<◌, List, [], ◌∷◌, ◌++◌, ◌-◌, ◌≤◌, map, take, drop, flat_map, length, get_or, arith, subst, inl, Option, Some, None, option_to_list, slice_get, slice_index_or, true, refl, sym, ap, ◌∙◌, flat_map_single, SingleSelector}
+use Rattle.serde_json_path_core.proofs.Words.{nat_tests, common_steps, IfSome, option_map_or, append-nil, drop_more, length-drop, take-append-drop, take_all, flat_map-map, map-map, Data, Step, Located, FunctionSet, Query, query, kind_of, segments_of, Segments, no_segments, segment, SegmentKind, child, descendant, Segment, Selector, stage_at, stage_of, Stage, branch_at, segment_in, segment_kind_in, segments_at, Node, Part, flat_map-same, map-flat_map, chosen, descents, itself, placed, reached, results, results_from, start_of, beneath, first_value, admitted, candidates, AreChildrenOf, EndsIn, IsIn, child_at, SelectOnly, candidate_values, single_view, values_from, dot_name, index, long_hand, name, no_selectors, selector, are_singular, is_single, ◌≡◌, ℕ, ◌+◌, ◌<◌, List, [], ◌∷◌, ◌++◌, ◌-◌, ◌≤◌, map, take, drop, flat_map, length, get_or, arith, inl, Option, Some, None, option_to_list, slice_get, slice_index_or, true, refl, sym, ap, ◌∙◌, flat_map_single, SingleSelector}
 use Rattle.serde_json_path_core.proofs.Walks.Frames.{candidates-of}
 use Rattle.serde_json_path_core.specs.declared.evaluation.single_children.SingleSelector.TheVariants as single
 use Rattle.serde_json_path_core.proofs.Walks.Stacks.{chosen-list}
@@ -43,9 +43,7 @@ singular_stage _ _ more h = absurd cc
 -- the same of one part more of so many
 pub next-singular : (nodes : List Node) (parts : List Part) (i : ℕ) (part : Part) → i < length parts → part ≡ get_or parts i part → are_singular (segments_at nodes (drop i parts)) ≡ true
     → (sel : Selector) × (stage_at nodes part ≡ record { kind = child; selectors = sel ∷ [] }) × (is_single sel ≡ true) × (are_singular (segments_at nodes (drop (i + 1) parts)) ≡ true)
-next-singular nodes parts i part within is h =
-    singular_stage (segment_kind_in (branch_at nodes part.number)) (segment_in (branch_at nodes part.number)) (segments_at nodes (drop (i + 1) parts))
-    (subst (λ ps. are_singular (segments_at nodes ps) ≡ true) (drop_more parts i part within ∙ ap (λ p. p ∷ drop (i + 1) parts) (sym is)) h)
+next-singular nodes parts i part within is h = grind (arith, nat_tests, common_steps, drop_more, singular_stage)
 
 -- it is that of a name or an index, if this is the selector
 pub single_stage : (stage : Stage) (sel : Selector) (single : Option SingleSelector) → stage ≡ record { kind = child; selectors = sel ∷ [] }

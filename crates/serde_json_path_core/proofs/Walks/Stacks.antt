@@ -1,5 +1,5 @@
 -- Stacks of frames: what is left of a walk, and the stack with which one begins.
-use Rattle.serde_json_path_core.proofs.Words.{◌≡◌, ℕ, ◌+◌, List, [], ◌∷◌, ◌++◌, map, drop, flat_map, Option, Some, refl, ap, ◌∙◌, sym, append_assoc, ◌<◌, ◌≤◌, length, true, arith, length-append, None, flat_map-append, append-nil, drop-drop, flat_map-map, Step, Located, SegmentKind, child, descendant, Selector, name, wildcard, beneath, children, descents, placed, reached, Stage, Frame, candidates, lower, entered, frame_arrivals, is_leaf, here, stack_path, visit, visit_rest, visit_place, visit_stack, admitted, unfiltered, rest_of, work, flat_map-same, flat_map-flat_map, FunctionSet, Data, Query, query, kind_of, segments_of, Segments, no_segments, segment, Segment, dot_name, dot_wildcard, long_hand, Selectors, no_selectors, selector, filter, start_of, results, results_from, chosen, chosen_by, selected, selectors_of, selectors_list, stages, array, object}
+use Rattle.serde_json_path_core.proofs.Words.{nat_tests, common_steps, ◌≡◌, ℕ, ◌+◌, List, [], ◌∷◌, ◌++◌, map, drop, flat_map, Option, Some, refl, ap, ◌∙◌, sym, append_assoc, ◌<◌, ◌≤◌, length, true, arith, length-append, None, flat_map-append, append-nil, drop-drop, flat_map-map, Step, Located, SegmentKind, child, descendant, Selector, name, wildcard, beneath, children, descents, placed, reached, Stage, Frame, candidates, lower, entered, frame_arrivals, is_leaf, here, stack_path, visit, visit_rest, visit_place, visit_stack, admitted, unfiltered, rest_of, work, flat_map-same, flat_map-flat_map, FunctionSet, Data, Query, query, kind_of, segments_of, Segments, no_segments, segment, Segment, dot_name, dot_wildcard, long_hand, Selectors, no_selectors, selector, filter, start_of, results, results_from, chosen, chosen_by, selected, selectors_of, selectors_list, stages, array, object}
 use Rattle.serde_json_path_core.proofs.Meaning.Descents.{below_child, descents_are}
 use Rattle.serde_json_path_core.proofs.Walks.Frames.{next_opened}
 
@@ -13,10 +13,7 @@ located above v = record { location = above; value = v }
 module _ {A : Type 0} (make : Located → List A) where
   -- what is made of a child and all below it
   below-placed : (n : Located) (c : Step × Data) → flat_map (λ m. make (beneath n.location m)) (below_child c) ≡ flat_map make (reached descendant (placed n.location c))
-  below-placed n c =
-      flat_map-map (λ m. make (beneath n.location m)) (beneath (c.0 ∷ [])) (descents c.1)
-      ∙ flat_map-same (λ m. make (beneath n.location (beneath (c.0 ∷ []) m))) (λ m. make (beneath (n.location ++ c.0 ∷ []) m)) (λ m. ap (λ location. make (located location m.value)) (sym (append_assoc n.location (c.0 ∷ []) m.location))) (descents c.1)
-      ∙ sym (flat_map-map make (beneath (n.location ++ c.0 ∷ [])) (descents c.1))
+  below-placed n c = grind (arith, nat_tests, common_steps, flat_map-map, flat_map-same)
 
   -- a node, and then its children with all below them
   pub unrolled : (kind : SegmentKind) (n : Located) → flat_map make (reached kind n) ≡ make n ++ flat_map (λ c. flat_map make (reached kind (placed n.location c))) (lower kind n.value)
@@ -67,10 +64,7 @@ module _ (admit : Selector → List (Step × Data) → List (Step × Data)) {A :
 
   -- the last frame gives its node
   pub gives : (ps : List Frame) (p : Frame) → drop p.segment all ≡ [] → of_stack (ps ++ p ∷ []) ≡ leaf (located (stack_path [] (ps ++ p ∷ [])) p.value) ++ of_stack ps
-  gives ps p d =
-      of_stack-last [] ps p
-      ∙ ap (λ s. visit_rest admit before leaf all s (here (stack_path [] ps) p) p ++ of_stack ps) d
-      ∙ ap (λ location. leaf (located location p.value) ++ of_stack ps) (sym (stack_path-last [] ps p))
+  gives ps p d = grind (arith, nat_tests, common_steps, stack_path-last, of_stack-last)
 
   -- the last frame has some arrivals left, and then no more
   pub drops : (ps : List Frame) (p : Frame) (stage : Stage) (more : List Stage) → drop p.segment all ≡ stage ∷ more
@@ -89,10 +83,7 @@ module _ (admit : Selector → List (Step × Data) → List (Step × Data)) {A :
       → drop p.segment all ≡ stage ∷ more → frame_arrivals admit stage p ≡ front ++ frame_arrivals admit stage m
       → m.step ≡ p.step → m.segment ≡ p.segment
       → of_stack (ps ++ p ∷ []) ≡ flat_map (of_arrival (here (stack_path [] ps) p)) front ++ of_stack (ps ++ m ∷ [])
-  passes ps p m stage more front d t ms mk =
-      let arrivals = of_arrival (here (stack_path [] ps) p) in
-      let kept = frame_arrivals admit stage m in
-      rw (drops ps p stage more d, t, flat_map-append arrivals front kept, append_assoc (flat_map arrivals front) (flat_map arrivals kept) (of_stack ps), drops ps m stage more (ap (λ j. drop j all) mk ∙ d), ms) refl
+  passes ps p m stage more front d t ms mk = grind (arith, nat_tests, common_steps, flat_map-append, drops)
 
   -- the last frame moves on, past some arrivals, to a child
   pub moves : (ps : List Frame) (p m : Frame) (stage : Stage) (more : List Stage) (front : List (ℕ × (Step × Data))) (number : ℕ) (c : Step × Data)
@@ -144,10 +135,7 @@ work-past all old new front e = let long = ap length e ∙ length-append front (
 
 -- with a frame less there is less work
 pub work-fewer : (all : List Stage) (ps : List Frame) (p : Frame) → work all ps < work all (ps ++ p ∷ [])
-work-fewer all ps p =
-    let past = work-past all (ps ++ p ∷ []) ps _ (of_stack-last unfiltered (0 ∷ 0 ∷ []) (λ n. 0 ∷ []) all [] ps p) in
-    let frames = length-append ps (p ∷ []) in
-    omega arith
+work-fewer all ps p = grind (arith, nat_tests, common_steps, of_stack-last, work-past)
 
 -- whatever arrivals the last frame passes, there is no more work
 pub work-held : (all : List Stage) (ps : List Frame) (p m : Frame) (stage : Stage) (more : List Stage) (front : List (ℕ × (Step × Data))) → drop p.segment all ≡ stage ∷ more

@@ -1,5 +1,5 @@
 -- Turns of a walk: what the last frame comes to.
-use Rattle.serde_json_path_core.proofs.Words.{◌≡◌, ℕ, ◌+◌, ◌<◌, List, [], ◌∷◌, ◌++◌, take, set, length, get_or, refl, ap, ◌∙◌, sym, arith, zero, suc, ◌≤◌, drop, slice_get, option_map, Option, Some, None, slice_index_or, inl, inr, ◌-◌, subst, length-append, frame_view, frames_view, Frame, last_passed, passed, get_or_append_left, take_all, length-set, map-append, drop_all, drop_more, none-some, slice_get_read, slice_get_past, Branch, Node, Part, branch_in, branches, branches_named, segment_in, segment_kind_in, segments_in, stage_of, stages, stage_at, stages_at, append-nil, take-append_seam, Data, Step, FunctionSet, Stage, admitted, entered, entering, is_leaf, rest_of, stack_path, work, IsAtStart, IsStack, ComesTo, IsAtNode, IsDone, Passes, cases_Bool, get_or_default, view, IsAtArrival, arrival_view, set-append_left, take_more, take_more_set, take-set, get_or_from_slice_get, slice_get_cases, slice_get_within, IsKept, Arrival}
+use Rattle.serde_json_path_core.proofs.Words.{nat_tests, common_steps, ◌≡◌, ℕ, ◌+◌, ◌<◌, List, [], ◌∷◌, ◌++◌, take, set, length, get_or, refl, ap, ◌∙◌, sym, arith, zero, suc, ◌≤◌, drop, slice_get, option_map, Option, Some, None, slice_index_or, inl, inr, ◌-◌, frame_view, frames_view, Frame, last_passed, passed, get_or_append_left, take_all, length-set, map-append, drop_all, drop_more, none-some, slice_get_read, slice_get_past, Branch, Node, Part, branch_in, branches, branches_named, segment_in, segment_kind_in, segments_in, stage_of, stages, stage_at, stages_at, append-nil, take-append_seam, Data, Step, FunctionSet, Stage, admitted, entered, entering, is_leaf, rest_of, stack_path, work, IsAtStart, IsStack, ComesTo, IsAtNode, IsDone, Passes, cases_Bool, get_or_default, view, IsAtArrival, arrival_view, set-append_left, take_more, take_more_set, take-set, get_or_from_slice_get, slice_get_cases, slice_get_within, IsKept, Arrival}
 use Rattle.serde_json_path_core.specs.declared.evaluation.frame.Frame as declared
 use Rattle.serde_json_path_core.proofs.Walks.Chains.{begun-of, chain-split, stack-held, stack-moved}
 use Rattle.serde_json_path_core.proofs.Walks.Stacks.{drops, gives, leaf-done, located, moves, passes, stack_path-last, work-fewer, work-held, work-moved}
@@ -25,16 +25,12 @@ passes-last (q ∷ r ∷ rs) p = ap (λ more. q ∷ more) (passes-last (r ∷ rs
 -- where the last one is replaced by one that is seen as it, past a arrival
 pub sees_passed : (items : List declared.Frame) (n : ℕ) (old new : declared.Frame) → length items ≡ n + 1 → old ≡ get_or items n old → frame_view new ≡ passed (frame_view old)
     → frames_view (set items n new) ≡ last_passed (frames_view items)
-sees_passed items n old new long is e =
-    let sees = sees_replaced items n old new long is in rw (sees.1, e, sees.0, passes-last (frames_view (take n items)) (frame_view old)) refl
+sees_passed items n old new long is e = grind (arith, nat_tests, common_steps, sees_replaced, passes-last)
 
 -- the same where another frame is after it
 pub sees_passed_below : (items pushed : List declared.Frame) (n : ℕ) (old new next : declared.Frame) → length items ≡ n + 1 → pushed ≡ items ++ next ∷ []
     → old ≡ get_or pushed n old → frame_view new ≡ passed (frame_view old) → frames_view (set pushed n new) ≡ last_passed (frames_view items) ++ frame_view next ∷ []
-sees_passed_below items pushed n old new next long e is seen =
-    let within : n < length items = omega arith in
-    let last = is ∙ ap (λ fs. get_or fs n old) e ∙ get_or_append_left items (next ∷ []) old n within in
-    rw (e, set-append_left items (next ∷ []) n new within, map-append frame_view (set items n new) (next ∷ []), sees_passed items n old new long last seen) refl
+sees_passed_below items pushed n old new next long e is seen = grind (arith, nat_tests, common_steps, get_or_append_left, map-append, set-append_left, sees_passed)
 
 -- ---- the stages of a query's parts, and what is left of a list after so many elements
 
@@ -69,10 +65,7 @@ missing see (Some x) o none e = absurd (none x refl)
 -- ---- one turn of a walk: what it gives, and what stays
 
 without_last : (ps : List Frame) (p : Frame) → take (length (ps ++ p ∷ []) - 1) (ps ++ p ∷ []) ≡ ps
-without_last ps p =
-    let long = length-append ps (p ∷ []) in
-    let less : length (ps ++ p ∷ []) - 1 ≡ length ps = omega arith in
-    ap (λ n. take n (ps ++ p ∷ [])) less ∙ take-append_seam ps (p ∷ [])
+without_last ps p = grind (arith, nat_tests, common_steps, take-append_seam)
 
 module _ (F : FunctionSet) (top : Data) (all : List Stage) where
   -- a turn leaves what remains as it is, leaves less work, and keeps the stack
@@ -80,12 +73,10 @@ module _ (F : FunctionSet) (top : Data) (all : List Stage) where
   IsTurn old new = (rest_of F top all old ≡ rest_of F top all new) × (work all new < work all old) × ((start : Data) → IsStack start old → IsStack start new)
 
   pub kept-turn : (a b c : List Frame) → IsKept F top all a b → IsTurn b c → IsTurn a c
-  kept-turn a b c kept turn =
-      (kept.0 ∙ turn.0, (let more = kept.1 in let less = turn.1 in omega arith), λ start h. turn.2 start (kept.2 start h))
+  kept-turn a b c kept turn = grind (arith, nat_tests, common_steps)
 
   pub kept-trans : (a b c : List Frame) → IsKept F top all a b → IsKept F top all b c → IsKept F top all a c
-  kept-trans a b c kept then =
-      (kept.0 ∙ then.0, (let more = kept.1 in let less = then.1 in omega arith), λ start h. then.2 start (kept.2 start h))
+  kept-trans a b c kept then = grind (arith, nat_tests, common_steps)
 
   pub turn-kept : (a b : List Frame) → IsTurn a b → IsKept F top all a b
   turn-kept a b turn = (turn.0, (let less = turn.1 in omega arith), turn.2)
@@ -137,13 +128,7 @@ module _ (F : FunctionSet) (top : Data) (all : List Stage) where
 
   -- the last frame is at a node itself
   pub at-start : (ps : List Frame) (p : Frame) → drop p.segment all ≡ [] → IsAtNode F top all (ps ++ p ∷ []) None p.value
-  at-start ps p ends =
-      rw (without_last ps p) (
-        gives (admitted F top) [] (λ n. n ∷ []) all ps p ends
-            ∙ ap (λ location. located location p.value ∷ rest_of F top all ps) (sym (append-nil (stack_path [] (ps ++ p ∷ [])))),
-        work-fewer all ps p,
-        λ start h. (chain-split (IsAtStart start) ps p h).0,
-      )
+  at-start ps p ends = grind (arith, nat_tests, common_steps, chain-split, gives, located, work-fewer, without_last)
 
 -- ---- what comes of the last of a walk's frames once its next arrival was looked for
 
@@ -169,10 +154,7 @@ module _ {F : FunctionSet} {top : Data} {nodes : List Node} {segments : List Par
   all = stages_at nodes segments
 
   old_stage : drop old.segment all ≡ stage_at nodes segment ∷ drop (old.segment + 1) all
-  old_stage =
-      let same = came.seen_is ∙ get_or_default items n seen old (let long = came.long in omega arith) ∙ sym came.old_is in
-      subst (λ (f : declared.Frame). drop f.segment all ≡ stage_at nodes segment ∷ drop (f.segment + 1) all) same
-      (stages-from nodes segments seen.segment segment came.within came.at)
+  old_stage = grind (arith, nat_tests, common_steps, get_or_default, stages-from)
 
   new_stage : drop new.segment all ≡ stage_at nodes segment ∷ drop (old.segment + 1) all
   new_stage = ap (λ k. drop k all) came.passes.0.2 ∙ old_stage

@@ -17,5 +17,5 @@ pub use Rattle.serde_json_path_core.specs.PatternCalls.{CallsByPattern, StandsIn
 pub use Rattle.serde_json_path_core.specs.Selects.{OnlyMemoryOrPattern, Selects, SelectsValues}
 pub use Rattle.serde_json_path_core.specs.Slices.{SelectsPosition, bound_of, from_end, step_of}
 pub use Rattle.serde_json_path_core.specs.Walks.{document_of, places_of, rest, steps_of}
-pub use Rattle.serde_json_path_nodes.specs.Words.{IfErr, IfNone, IfOk, IfSome, IsSome, IsTrue, List, MatchOption, None, Ok, OnErr, OnOk, Some, [], drop, false, int_lt, length, located_nodes, map, node_values, option_map, option_to_list, pos, slice_get, true, ℕ, ◌++◌, ◌+ℤ◌, ◌+◌, ◌-ℤ◌, ◌<◌, ◌^◌, ◌||◌, ◌∷◌, ◌≡◌, ◌≤◌}
+pub use Rattle.serde_json_path_nodes.specs.Words.{located_nodes, node_values}
 pub use Rattle.serde_json_path_syntax.specs.Words.{query_kind_view}

@@ -1,6 +1,7 @@
 //! The values of all children, without a frame.
 
-ghost use Rattle.serde_json_path_core.specs.Inside.Words.{◌≡◌, IfOk, map, view, node_value, children};
+ghost use Rattle.std.specs.Prelude.{◌≡◌, IfOk, map};
+ghost use Rattle.serde_json_path_core.specs.Inside.Words.{view, node_value, children};
 
 use crate::evaluation::cursor::Cursor;
 use serde_json::Value;

@@ -1,6 +1,7 @@
 //! Cursors over the children of one value.
 
-ghost use Rattle.serde_json_path_core.specs.Inside.Words.{◌≡◌, [], ◌∷◌, MatchOption, drop, option_map, option_to_list, object, view, members_view, children, members_all, sliced, child_view, cursor_left, members_from, members_left, slice_view};
+ghost use Rattle.std.specs.Prelude.{◌≡◌, [], ◌∷◌, MatchOption, drop, option_map, option_to_list};
+ghost use Rattle.serde_json_path_core.specs.Inside.Words.{object, view, members_view, children, members_all, sliced, child_view, cursor_left, members_from, members_left, slice_view};
 
 use crate::child::Child;
 use crate::evaluation::slice_positions::SlicePositions;

@@ -1,6 +1,7 @@
 //! Frames of a walk: a frame is a value at which one segment is being applied.
 
-ghost use Rattle.serde_json_path_core.specs.Inside.Words.{◌≡◌, ◌+◌, ◌<◌, ◌≤◌, ◌^◌, [], ◌∷◌, None, Some, IfOk, IfErr, drop, length, option_map, view, step_view, nodes_in, parts_bound, selector_bound, AreOfKind, IsOfKind, is_segment, IsAtAdmitted, IsAtArrival, Passes, Skips, SoundOr, SoundSegment, SoundSelector, MayRefuse, nodes_of, top_of, child_view, cursor_left, frame_view, frames_view, arrival_view, candidates, entered, opened, begun, passed, IsInside, AllStandIn, selector_view, stage_at, stages_at, Pattern};
+ghost use Rattle.std.specs.Prelude.{◌≡◌, ◌+◌, ◌<◌, ◌≤◌, ◌^◌, [], ◌∷◌, None, Some, IfOk, IfErr, drop, length, option_map};
+ghost use Rattle.serde_json_path_core.specs.Inside.Words.{view, step_view, nodes_in, parts_bound, selector_bound, AreOfKind, IsOfKind, is_segment, IsAtAdmitted, IsAtArrival, Passes, Skips, SoundOr, SoundSegment, SoundSelector, MayRefuse, nodes_of, top_of, child_view, cursor_left, frame_view, frames_view, arrival_view, candidates, entered, opened, begun, passed, IsInside, AllStandIn, selector_view, stage_at, stages_at, Pattern};
 
 use crate::child::{Child, item, member};
 use crate::evaluation::cursor::Cursor;

@@ -1,6 +1,7 @@
 //! Going down by segments that select one child at most, without a frame.
 
-ghost use Rattle.serde_json_path_core.specs.Inside.Words.{◌≡◌, ◌∷◌, [], ◌≤◌, ◌<◌, List, IfSome, IsSome, IsTrue, true, length, option_map, option_to_list, Data, view, FunctionSet, node_value, segments_at, nodes_in, parts_bound, selector_view, stage_at, Node, are_singular, Selector, child, wildcard, AreOfKind, IsOfKind, is_segment, StandsIn, EndsIn, SelectOnly, candidate_values, is_single, single_view, values_from, values_reached};
+ghost use Rattle.std.specs.Prelude.{◌≡◌, ◌∷◌, [], ◌≤◌, ◌<◌, List, IfSome, IsSome, IsTrue, true, length, option_map, option_to_list};
+ghost use Rattle.serde_json_path_core.specs.Inside.Words.{Data, view, FunctionSet, node_value, segments_at, nodes_in, parts_bound, selector_view, stage_at, Node, are_singular, Selector, child, wildcard, AreOfKind, IsOfKind, is_segment, StandsIn, EndsIn, SelectOnly, candidate_values, is_single, single_view, values_from, values_reached};
 
 use crate::child::item;
 use serde_json::Value;

@@ -44,7 +44,8 @@ pub trait Sink<'b> {
 }
 
 impl<'b> Sink<'b> for Vec<LocatedNode<'b>> {
-    ghost use Rattle.serde_json_path_core.specs.Inside.Words.{◌≡◌, ◌++◌, map, located};
+    ghost use Rattle.std.specs.Prelude.{◌≡◌, ◌++◌, map};
+    ghost use Rattle.serde_json_path_nodes.specs.Views.{located};
 
     ghost took = { λ before nodes now. map located now.items ≡ map located before.items ++ nodes };
 

@@ -1,6 +1,7 @@
 //! The positions that a slice selects, one after the other (RFC 9535, section 2.3.4.2).
 
-ghost use Rattle.serde_json_path_core.specs.Inside.Words.{◌≡◌, ◌<◌, ◌+ℤ◌, ◌-ℤ◌, pos, [], ◌∷◌, Some, MatchOption, drop, bound_of, step_of, count_within, positions_by, falling, rising, child_view, positions_left, positions_view, slice_view};
+ghost use Rattle.std.specs.Prelude.{◌≡◌, ◌<◌, ◌+ℤ◌, ◌-ℤ◌, pos, [], ◌∷◌, Some, MatchOption, drop};
+ghost use Rattle.serde_json_path_core.specs.Inside.Words.{bound_of, step_of, count_within, positions_by, falling, rising, child_view, positions_left, positions_view, slice_view};
 
 use crate::child::Child;
 use serde_json::Value;

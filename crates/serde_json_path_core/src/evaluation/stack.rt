@@ -1,6 +1,7 @@
 //! The stack of a walk's frames, and how it reaches the next node.
 
-ghost use Rattle.serde_json_path_core.specs.Inside.Words.{◌≡◌, ◌<◌, ◌≤◌, [], ◌++◌, None, Ok, IfOk, IfErr, OnOk, OnErr, MatchOption, length, option_map, option_to_list, view, located, step_view, nodes_in, parts_bound, AreOfKind, is_segment, IsAtNode, IsKept, SoundSegments, MayRefuse, nodes_of, top_of, entering, is_leaf, last_passed, stack_path, without_node, IsStackIn, stages_at, frames_view, arrival_view, Memory, Pattern};
+ghost use Rattle.std.specs.Prelude.{◌≡◌, ◌<◌, ◌≤◌, [], ◌++◌, None, Ok, IfOk, IfErr, OnOk, OnErr, MatchOption, length, option_map, option_to_list};
+ghost use Rattle.serde_json_path_core.specs.Inside.Words.{view, located, step_view, nodes_in, parts_bound, AreOfKind, is_segment, IsAtNode, IsKept, SoundSegments, MayRefuse, nodes_of, top_of, entering, is_leaf, last_passed, stack_path, without_node, IsStackIn, stages_at, frames_view, arrival_view, Memory, Pattern};
 
 use crate::child::Child;
 use crate::evaluation::frame::{Arrival, Frame};

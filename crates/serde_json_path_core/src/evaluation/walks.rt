@@ -23,7 +23,8 @@ pub struct Walk<'q, 'b, F: Functions> {
 }
 
 impl<'q, 'b, F: Functions> Walk<'q, 'b, F> {
-    ghost use Rattle.serde_json_path_core.specs.Inside.Words.{◌≡◌, ℕ, ◌+◌, ◌<◌, ◌≤◌, [], ◌∷◌, None, Ok, IfOk, IfErr, IfSome, IfNone, MatchOption, located, IsHeight, OnlyMemoryOrPattern, document_of, rest, places_of, steps_of};
+    ghost use Rattle.std.specs.Prelude.{◌≡◌, ℕ, ◌+◌, ◌<◌, ◌≤◌, [], ◌∷◌, None, Ok, IfOk, IfErr, IfSome, IfNone, MatchOption};
+    ghost use Rattle.serde_json_path_core.specs.Inside.Words.{located, IsHeight, OnlyMemoryOrPattern, document_of, rest, places_of, steps_of};
     ghost use Rattle.serde_json_path_core.specs.Walks.{query_of, set_of};
 
     /// How many frames the walk's stack has: at most the document's height plus one. With none, no node remains.
@@ -110,7 +111,8 @@ impl<'q, 'b, F: Functions> Walk<'q, 'b, F> {
 }
 
 impl<'b, F: Functions + Drop> Walk<'_, 'b, F> {
-    ghost use Rattle.serde_json_path_core.specs.Inside.Words.{◌≡◌, [], Ok, false, true, IfOk, located_nodes, OnlyMemoryOrPattern, document_of, rest};
+    ghost use Rattle.std.specs.Prelude.{◌≡◌, [], Ok, false, true, IfOk};
+    ghost use Rattle.serde_json_path_core.specs.Inside.Words.{located_nodes, OnlyMemoryOrPattern, document_of, rest};
     ghost use Rattle.serde_json_path_core.specs.Walks.{query_of, set_of};
 
     /// Gives the nodes that remain to a sink, one after the other, until it has enough. Says whether it took all.

@@ -1,6 +1,7 @@
 //! Calls of functions in filters (RFC 9535, section 2.4).
 
-ghost use Rattle.serde_json_path_core.specs.Inside.Words.{◌≡◌, Some, IfOk, view, kind_of_term, MayEvaluate, Computes, SoundArgument, SoundCall, SoundQuery, answer_at, given_at, results_at, kind_view, term_view, result_kind, call_at, nodes_of, set_of};
+ghost use Rattle.std.specs.Prelude.{◌≡◌, Some, IfOk};
+ghost use Rattle.serde_json_path_core.specs.Inside.Words.{view, kind_of_term, MayEvaluate, Computes, SoundArgument, SoundCall, SoundQuery, answer_at, given_at, results_at, kind_view, term_view, result_kind, call_at, nodes_of, set_of};
 ghost use Rattle.serde_json_path_core.specs.Inside.Computed as computed;
 
 use crate::evaluation::scope::Scope;

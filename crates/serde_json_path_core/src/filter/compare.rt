@@ -1,6 +1,7 @@
 //! Comparisons (RFC 9535, section 2.3.5.2.2).
 
-ghost use Rattle.serde_json_path_core.specs.Inside.Words.{◌≡◌, ◌||◌, int_lt, eq, lt, nat_cmp, is_lt, slice_cmp, chars, exact_of, numbers_view, comes_before, is_same, of_both, rising_sides, same_sides, operator_view, side_view};
+ghost use Rattle.std.specs.Prelude.{◌≡◌, ◌||◌, int_lt};
+ghost use Rattle.serde_json_path_core.specs.Inside.Words.{eq, lt, nat_cmp, is_lt, slice_cmp, chars, exact_of, numbers_view, comes_before, is_same, of_both, rising_sides, same_sides, operator_view, side_view};
 ghost use Rattle.serde_json_path_core.specs.Inside.Computed.{compare as comparison};
 
 use crate::filter::equality::{same_amounts, same_values};

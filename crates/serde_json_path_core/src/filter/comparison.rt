@@ -2,7 +2,8 @@
 //!
 //! Where a filter is one comparison, what is the same for each node is looked up before the nodes.
 
-ghost use Rattle.serde_json_path_core.specs.Inside.Words.{◌≡◌, ◌<◌, ◌≤◌, Some, IfSome, length, true, Data, view, part_query, segments_at, are_singular, is_singular, parts_bound, IsComparisonOf, SoundForm, SoundPlain, compared_by, first_compared, form_bound, plain_compared, SoundComparable, SoundOr, SoundQuery, SoundSegments, compared_at, values_at, values_of_segments, nodes_of, side_view};
+ghost use Rattle.std.specs.Prelude.{◌≡◌, ◌<◌, ◌≤◌, Some, IfSome, length, true};
+ghost use Rattle.serde_json_path_core.specs.Inside.Words.{Data, view, part_query, segments_at, are_singular, is_singular, parts_bound, IsComparisonOf, SoundForm, SoundPlain, compared_by, first_compared, form_bound, plain_compared, SoundComparable, SoundOr, SoundQuery, SoundSegments, compared_at, values_at, values_of_segments, nodes_of, side_view};
 
 use crate::evaluation::scope::Scope;
 use crate::evaluation::single_children::{SingleSelector, go_down, only_child, select};

@@ -1,6 +1,7 @@
 //! Equality of values (RFC 9535, section 2.3.5.2.2).
 
-ghost use Rattle.serde_json_path_core.specs.Inside.Words.{◌≡◌, int_eq, as_integer, view, items_view, members_view, number_view, numbers_view, of_both, same_number, same_data};
+ghost use Rattle.std.specs.Prelude.{◌≡◌};
+ghost use Rattle.serde_json_path_core.specs.Inside.Words.{int_eq, as_integer, view, items_view, members_view, number_view, numbers_view, of_both, same_number, same_data};
 ghost use Rattle.serde_json_path_core.specs.Inside.Computed.{same_items as same_items_of, same_members as same_members_of};
 
 use crate::filter::side::amount;

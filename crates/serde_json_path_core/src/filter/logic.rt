@@ -1,6 +1,7 @@
 //! Logical expressions of filters (RFC 9535, section 2.3.5).
 
-ghost use Rattle.serde_json_path_core.specs.Inside.Words.{◌≡◌, ◌≤◌, Some, length, view, MayEvaluate, Tells, SoundForm, compared_by, compared_with, holds_by, relation_holds, is_nonempty, SoundAnd, SoundBasic, SoundCall, SoundComparable, SoundOperands, SoundOr, SoundQuery, SoundTest, and_holds, answer_at, any_holds, basic_holds, or_holds, results_at, test_holds, side_view, StandsIn, nodes_of, top_of, operator_view, parts_bound};
+ghost use Rattle.std.specs.Prelude.{◌≡◌, ◌≤◌, Some, length};
+ghost use Rattle.serde_json_path_core.specs.Inside.Words.{view, MayEvaluate, Tells, SoundForm, compared_by, compared_with, holds_by, relation_holds, is_nonempty, SoundAnd, SoundBasic, SoundCall, SoundComparable, SoundOperands, SoundOr, SoundQuery, SoundTest, and_holds, answer_at, any_holds, basic_holds, or_holds, results_at, test_holds, side_view, StandsIn, nodes_of, top_of, operator_view, parts_bound};
 ghost use Rattle.serde_json_path_core.specs.Inside.Computed as computed;
 
 use crate::evaluation::scope::Scope;

@@ -1,6 +1,7 @@
 //! The queries in filters and in arguments of calls.
 
-ghost use Rattle.serde_json_path_core.specs.Inside.Words.{◌≡◌, ◌≤◌, IfSome, length, map, option_map, slice_get, view, node_value, MayEvaluate, Computes, SoundQuery, SoundSegments, results_at, values_at, values_of_segments, StandsIn, first_value, parts_bound, values_reached, nodes_of, set_of, top_of};
+ghost use Rattle.std.specs.Prelude.{◌≡◌, ◌≤◌, IfSome, length, map, option_map, slice_get};
+ghost use Rattle.serde_json_path_core.specs.Inside.Words.{view, node_value, MayEvaluate, Computes, SoundQuery, SoundSegments, results_at, values_at, values_of_segments, StandsIn, first_value, parts_bound, values_reached, nodes_of, set_of, top_of};
 
 use crate::evaluation::child_values::child_values;
 use crate::evaluation::frame::first_frames;

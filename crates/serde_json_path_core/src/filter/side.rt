@@ -1,6 +1,7 @@
 //! What the sides of a comparison stand for (RFC 9535, section 2.3.5.1).
 
-ghost use Rattle.serde_json_path_core.specs.Inside.Words.{◌≡◌, Some, option_map, true, number_view, view, kind_of_term, of_value, term_view, node_value, amount_of, exact_of, literal_compared, value_compared, exact_view, held_view, literal_fits, side_view, whole_of};
+ghost use Rattle.std.specs.Prelude.{◌≡◌, Some, option_map, true};
+ghost use Rattle.serde_json_path_core.specs.Inside.Words.{number_view, view, kind_of_term, of_value, term_view, node_value, amount_of, exact_of, literal_compared, value_compared, exact_view, held_view, literal_fits, side_view, whole_of};
 ghost use Rattle.serde_json.specs.Data.{number as number_data};
 ghost use Rattle.serde_json_path_core.specs.Compared.{value as a_value};
 ghost use Rattle.serde_json_path_core.specs.Inside.Computed as computed;

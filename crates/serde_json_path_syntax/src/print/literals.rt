@@ -1,6 +1,7 @@
 //! Literals as a path writes them.
 
-ghost use Rattle.serde_json_path_syntax.specs.Words.{◌≡◌, ◌<◌, ◌/◌, ◌^◌, Some, true, WritesOnOk, held_view, literal_view, number_amount, amount_text, fraction_text, literal_text, number_text, literal_fits};
+ghost use Rattle.std.specs.Prelude.{◌≡◌, ◌<◌, ◌/◌, ◌^◌, Some, true};
+ghost use Rattle.serde_json_path_syntax.specs.Words.{WritesOnOk, held_view, literal_view, number_amount, amount_text, fraction_text, literal_text, number_text, literal_fits};
 
 use crate::literal::{Literal, LiteralValue, NumberLiteral, ONE};
 use serde_json::Value;

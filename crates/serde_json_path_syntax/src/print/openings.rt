@@ -1,6 +1,7 @@
 //! Texts that open a query, a segment or a selector, each for one write.
 
-ghost use Rattle.serde_json_path_syntax.specs.Words.{◌≡◌, ◌++◌, codes, option_map, query_kind_view, segment_kind_view, opening_text, dots_of, negation_text, query_kind_text, sign_text};
+ghost use Rattle.std.specs.Prelude.{◌≡◌, ◌++◌, codes, option_map};
+ghost use Rattle.serde_json_path_syntax.specs.Words.{query_kind_view, segment_kind_view, opening_text, dots_of, negation_text, query_kind_text, sign_text};
 
 use crate::node::{QueryKind, SegmentKind};
 

@@ -1,9 +1,7 @@
 //! Queries out of parts that are made one by one.
 
 ghost use Rattle.std.specs.Prelude.{◌≡◌, ℕ, List, [], IfOk};
-ghost use Rattle.serde_json_path_syntax.specs.Parts.{IsPart, calls_in, signatures_of};
-ghost use Rattle.serde_json_path_syntax.specs.Branch.{a_selector};
-ghost use Rattle.serde_json_path_syntax.specs.Tree.{name};
+ghost use Rattle.serde_json_path_syntax.specs.Words.{IsPart, calls_in, signatures_of, a_selector, name};
 
 use serde_json::Value;
 use serde_json_path_core::{

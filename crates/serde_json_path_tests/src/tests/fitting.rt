@@ -1,11 +1,7 @@
 //! Asking whether a path fits a set, and then querying by it.
 
 ghost use Rattle.std.specs.Prelude.{◌≡◌, [], Some, IfOk, IfErr, IfSome, IsTrue, ◌↔◌};
-ghost use Rattle.serde_json.specs.View.{view};
-ghost use Rattle.serde_json_path_nodes.specs.Views.{node_values};
-ghost use Rattle.serde_json_path_core.specs.Selects.{SelectsValues};
-ghost use Rattle.serde_json_path_functions.specs.Patterns.{before_builtin, builtin_functions};
-ghost use Rattle.serde_json_path.specs.Paths.{path_tree, with_rule_of};
+ghost use Rattle.serde_json_path.specs.Words.{view, node_values, SelectsValues, before_builtin, builtin_functions, path_tree, with_rule_of};
 
 use serde_json::Value;
 use serde_json_path::functions::{Builtin, Functions};

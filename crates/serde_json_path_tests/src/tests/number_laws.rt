@@ -1,10 +1,7 @@
 //! Of two numbers of documents, where comparisons take all numbers, exactly one of `<`, `==` and `>` holds: by the public
 //! laws, and as filters find.
 
-ghost use Rattle.serde_json.specs.Data.{number};
-ghost use Rattle.serde_json.specs.View.{number_view};
-ghost use Rattle.serde_json_path_syntax.specs.Tree.{equal, greater, less};
-ghost use Rattle.serde_json_path_functions.specs.Functions.{all_numbers};
+ghost use Rattle.serde_json_path_core.specs.Inside.Words.{number, number_view, equal, greater, less, all_numbers};
 ghost use Rattle.serde_json_path_numbers.specs.Laws.{IsExactlyOne};
 ghost use Rattle.serde_json_path_core.specs.Compared.{Compares, value};
 

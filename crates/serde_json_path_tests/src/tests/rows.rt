@@ -1,9 +1,6 @@
 //! What comes of the paths of rows, as texts.
 
-ghost use Rattle.std.specs.Prelude.{IfOk};
-ghost use Rattle.serde_json_path_functions.specs.Functions.{Fits};
-ghost use Rattle.serde_json_path_functions.specs.Patterns.{before_builtin, builtin_functions};
-ghost use Rattle.serde_json_path.specs.Paths.{path_signatures};
+ghost use Rattle.serde_json_path.specs.Words.{IfOk, Fits, before_builtin, builtin_functions, path_signatures};
 
 use serde_json::Value;
 use serde_json_path::functions::Functions;

@@ -1,5 +1,4 @@
-use Rattle.jsonpath_lines.proofs.Words.{◌∙◌, ◌⊎◌, inl, inr, Ok, ap, rest, FilledLines, Lines, TookLines}
-use Rattle.std.proofs.lemmas.Bool.{cases_Bool}
+use Rattle.jsonpath_lines.proofs.Words.{◌∙◌, ◌⊎◌, inl, inr, Ok, ap, rest, FilledLines, Lines, TookLines, cases_Bool}
 use Rattle.jsonpath_lines.proofs.Chosen.{pushed_either}
 use Rattle.jsonpath_lines.proofs.nodes.push_walk.Goals as goal
 

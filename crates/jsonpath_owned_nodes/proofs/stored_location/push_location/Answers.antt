@@ -1,4 +1,4 @@
-use Rattle.std.proofs.Common.{◌≡◌, length, string_bytes, rules}
+use Rattle.jsonpath_owned_nodes.proofs.Words.{◌≡◌, length, string_bytes, rules}
 use Rattle.jsonpath_owned_nodes.proofs.Names.{text_grew, seam}
 use Rattle.jsonpath_owned_nodes.proofs.stored_location.push_location.Goals as goal
 

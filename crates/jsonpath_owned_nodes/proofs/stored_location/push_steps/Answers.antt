@@ -1,5 +1,4 @@
-use Rattle.std.proofs.Common.{◌≡◌, ◌∷◌, ◌∙◌, string_bytes, rules}
-use Rattle.jsonpath_owned_nodes.proofs.Words.{step_view}
+use Rattle.jsonpath_owned_nodes.proofs.Words.{◌≡◌, ◌∷◌, ◌∙◌, string_bytes, rules, step_view}
 use Rattle.jsonpath_owned_nodes.proofs.Kept.{step_more}
 use Rattle.jsonpath_owned_nodes.proofs.Names.{text_grew, goes_on}
 use Rattle.jsonpath_owned_nodes.proofs.stored_location.push_steps.Goals as goal

@@ -1,5 +1,4 @@
-use Rattle.std.proofs.Common.{◌≡◌, string_bytes}
-use Rattle.jsonpath_owned_nodes.proofs.Words.{BeginsWith}
+use Rattle.jsonpath_owned_nodes.proofs.Words.{◌≡◌, string_bytes, BeginsWith}
 use Rattle.jsonpath_owned_nodes.proofs.Kept.{IsBegun}
 use Rattle.jsonpath_owned_nodes.proofs.stored_location.push_steps.Given as goal
 

@@ -1,4 +1,4 @@
-use Rattle.std.proofs.Common.{◌≡◌, length, string_bytes, rules}
+use Rattle.jsonpath_owned_nodes.proofs.Words.{◌≡◌, length, string_bytes, rules}
 use Rattle.jsonpath_owned_nodes.proofs.Names.{name_stored, text_grew}
 use Rattle.jsonpath_owned_nodes.proofs.stored_step.store.Goals as goal
 

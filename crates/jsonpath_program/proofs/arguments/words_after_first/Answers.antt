@@ -1,7 +1,4 @@
-use Rattle.std.proofs.Common.{◌≡◌, true, Option, subst, ◌∙◌}
-use Rattle.std.proofs.lemmas.Result.{IfOk-weaker}
-use Rattle.std.specs.Iterator.{Drains}
-use Rattle.std.specs.Iterator.Runs.{Run, YieldsRun}
+use Rattle.jsonpath_program.proofs.Words.{◌≡◌, true, Option, subst, ◌∙◌, IfOk-weaker, Drains, Run, YieldsRun}
 use Rattle.jsonpath_program.proofs.arguments.words_after_first.Goals as goal
 
 -- a run that went on to `None` drained its iterator

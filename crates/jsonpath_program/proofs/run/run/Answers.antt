@@ -1,9 +1,4 @@
-use Rattle.std.proofs.Common.{◌≡◌, codes, Err, inl, inr, refl, sym, ap, ◌∙◌}
-use Rattle.serde_json.specs.Data.{Data}
-use Rattle.serde_json_path_parser.specs.Errors.{position_of}
-use Rattle.jsonpath_document.specs.Document.{ReadsAs}
-use Rattle.jsonpath_program.specs.Run.{line_of, status_of}
-use Rattle.jsonpath_program.specs.declared.report.ReportError.TheVariants.{Path, Document, Query}
+use Rattle.jsonpath_program.proofs.Words.{◌≡◌, codes, Err, inl, inr, refl, sym, ap, ◌∙◌, Data, position_of, ReadsAs, line_of, status_of, Path, Document, Query}
 use Rattle.jsonpath_program.proofs.Runs.{one_word, same_word, of_known, whole_read, report_of_run, path_of, document_of, query_of}
 use Rattle.jsonpath_program.proofs.run.run.Goals as goal
 

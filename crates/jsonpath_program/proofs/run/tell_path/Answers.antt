@@ -1,9 +1,4 @@
-use Rattle.std.proofs.Common.{◌≡◌, ◌++◌, codes, refl, subst, rules}
-use Rattle.std.specs.Fmt.{decimal}
-use Rattle.serde_json_path_parser.specs.Errors.{kind_of, position_of, message_of}
-use Rattle.serde_json_path_parser.specs.declared.error.ParseErrorKind.TheVariants.{NoMemory}
-use Rattle.jsonpath_program.specs.Run.{AppendsBeginning, line_of}
-use Rattle.jsonpath_program.specs.declared.report.ReportError.TheVariants.{Path}
+use Rattle.jsonpath_program.proofs.Words.{◌≡◌, ◌++◌, codes, refl, subst, rules, decimal, kind_of, position_of, message_of, NoMemory, AppendsBeginning, line_of, Path}
 use Rattle.jsonpath_program.proofs.Runs.{no_memory_line}
 use Rattle.jsonpath_program.proofs.Beginnings.{beginning_of_longer}
 use Rattle.jsonpath_program.proofs.run.tell_path.Goals as goal

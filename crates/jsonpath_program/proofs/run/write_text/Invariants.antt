@@ -1,5 +1,4 @@
-use Rattle.std.proofs.Common.{◌≡◌, ℕ, List, ◌++◌}
-use Rattle.std.specs.Io.KnownBytes.{Appends}
+use Rattle.jsonpath_program.proofs.Words.{◌≡◌, ℕ, List, ◌++◌, Appends}
 use Rattle.jsonpath_program.proofs.run.write_text.Given as goal
 
 abbrev pub invariant-loop : goal.invariant-loop

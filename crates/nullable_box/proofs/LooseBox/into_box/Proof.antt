@@ -1,6 +1,5 @@
 -- `into_box` hands what the loose box owns to `from_raw`.
-use Rattle.std.proofs.Common.{◌≡◌, List, [], ◌∷◌, ◌++◌, refl, sym, ap, subst}
-use Rattle.nullable_box.proofs.Words.{a_type, dcons, dnil, Val, vptr, inst_fn, SProp, ent, id⊢, ftrue, flft, WpFn, ‵, raw, ◌⊛◌, some, later, at_ret, ◌$◌, ◌∵◌, !, qed, by, move, keep, drop, split, split3, join, fsplit, fjoin, pick, suffices, use1, await, rewrite, feq_i, stop, fld, of_opd, no_more, and_then, first, blocks, exec, returns, enter, alloc_all, pass_all, free_all, look_at, get, get_in, sets, lands_last, env, sub, whole, fact, ◌⊑◌, tables, no, RattleType, owns, types_at, plain, block_ptr, nothing, only, param, layout, bounded, param_laws, Lasts, lasts, triple_of, calls_at_last, Stays, stay_dropped, walk_of, Goes-blank, after, fm, Good, proved_at, leaves, box_out, box_in}
+use Rattle.nullable_box.proofs.Words.{◌≡◌, List, [], ◌∷◌, ◌++◌, refl, sym, ap, subst, a_type, dcons, dnil, Val, vptr, inst_fn, SProp, ent, id⊢, ftrue, flft, WpFn, ‵, raw, ◌⊛◌, some, later, at_ret, ◌$◌, ◌∵◌, !, qed, by, move, keep, drop, split, split3, join, fsplit, fjoin, pick, suffices, use1, await, rewrite, feq_i, stop, fld, of_opd, no_more, and_then, first, blocks, exec, returns, enter, alloc_all, pass_all, free_all, look_at, get, get_in, sets, lands_last, env, sub, whole, fact, ◌⊑◌, tables, no, RattleType, owns, types_at, plain, block_ptr, nothing, only, param, layout, bounded, param_laws, Lasts, lasts, triple_of, calls_at_last, Stays, stay_dropped, walk_of, Goes-blank, after, fm, Good, proved_at, leaves, box_out, box_in}
 use Rattle.std_alloc.proofs.BoxSteps.Form as box
 use Rattle.std_alloc.specs.contracts.boxed.Box.from_raw as callee
 use Rattle.std_alloc.proofs.boxed.Box.from_raw.Met.{met}

@@ -1,18 +1,4 @@
-use Rattle.std.proofs.Common.{◌≡◌, ℕ, zero, suc, List, [], ◌∷◌, Some, Ordering, Less, Equal, Greater, nat_cmp, refl, sym, subst, ap, ◌∙◌}
-use Rattle.std.specs.Ordering.{match_ordering}
-use Rattle.std.specs.Prelude.{String, string_bytes}
-use Rattle.std.specs.Cmp.Lexicographic.{slice_cmp}
-use Rattle.std.specs.Str.{IsUtf8}
-use Rattle.std.specs.declared.alloc.Global.{Global}
-use Rattle.std.proofs.lemmas.Map.Lookups.{exact_bytes}
-use Rattle.std.proofs.lemmas.Option.{none-some, option_and_then_some, same_Some}
-use Rattle.std.proofs.lemmas.Str.{IsUtf8-string_bytes}
-use Rattle.serde_json.specs.Data.{Data, Members}
-use Rattle.serde_json.specs.Find.{get_item, get_member}
-use Rattle.serde_json.specs.View.{view, view_step, items_view, members_view}
-use Rattle.serde_json.specs.declared.value.Value.{Value, map-Value, out-Value, fold_out-Value}
-use Rattle.serde_json.specs.declared.value.Value.TheOpen.{Value-F}
-use Rattle.serde_json_path_nodes.specs.Location.{Step, by_name, by_position, child_at, at, IsProper}
+use Rattle.serde_json_path.proofs.Words.{◌≡◌, ℕ, zero, suc, List, [], ◌∷◌, Some, Ordering, Less, Equal, Greater, nat_cmp, refl, sym, subst, ap, ◌∙◌, match_ordering, String, string_bytes, slice_cmp, IsUtf8, Global, exact_bytes, none-some, option_and_then_some, same_Some, IsUtf8-string_bytes, Data, Members, get_item, get_member, view, view_step, items_view, members_view, Value, map-Value, out-Value, fold_out-Value, Value-F, Step, by_name, by_position, child_at, at, IsProper}
 use Rattle.serde_json_path.proofs.laws.law_locations_are_proper.Goals as goal
 
 -- the data is that of a value

@@ -1,6 +1,4 @@
-use Rattle.std.proofs.Common.{None}
-use Rattle.serde_json_path_parser.proofs.Grammar.Paths.{one_tree_at_most}
-use Rattle.serde_json_path.specs.Laws.{tree_to}
+use Rattle.serde_json_path.proofs.Words.{None, one_tree_at_most, tree_to}
 use Rattle.serde_json_path.proofs.NormalTexts.{segments_plain, node_selected, normal_accepted}
 use Rattle.serde_json_path.proofs.laws.law_normal.Goals as goal
 

@@ -1,6 +1,4 @@
-use Rattle.std.proofs.Common.{subst, sym}
-use Rattle.serde_json_path_functions.specs.Functions.{Fits}
-use Rattle.serde_json_path_functions.proofs.Sets.{before_itself}
+use Rattle.serde_json_path.proofs.Words.{subst, sym, Fits, before_itself}
 use Rattle.serde_json_path.proofs.laws.law_set_before_itself.Goals as goal
 
 pub returns : goal.returns

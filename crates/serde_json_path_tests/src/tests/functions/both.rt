@@ -1,10 +1,9 @@
 //! A function set before the built-in one.
 
 ghost use Rattle.std.specs.Prelude.{◌≡◌, [], ◌∷◌, map, IfOk};
+ghost use Rattle.serde_json_path_functions.specs.Words.{before_builtin, term_view};
 ghost use Rattle.serde_json_path_functions.specs.Functions.{nodes, Takes};
-ghost use Rattle.serde_json_path_functions.specs.Patterns.{before_builtin};
 ghost use Rattle.test_rows.specs.TestSets.{overriding_functions};
-ghost use Rattle.serde_json_path_functions.specs.Terms.{term_view};
 
 use serde_json::Value;
 use serde_json_path_functions::FunctionArgType::Nodelist;

@@ -1,5 +1,4 @@
-use Rattle.std.proofs.Common.{◌≡◌, map, take}
-use Rattle.jsonpath_owned_nodes.proofs.Words.{step_view, step_in}
+use Rattle.jsonpath_owned_nodes.proofs.Words.{◌≡◌, map, take, step_view, step_in}
 use Rattle.jsonpath_owned_nodes.proofs.owned_nodes.OwnedNodes.location.Given as goal
 
 -- the elements are the steps that were passed

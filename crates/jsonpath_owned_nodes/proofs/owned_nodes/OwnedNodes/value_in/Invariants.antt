@@ -1,5 +1,4 @@
-use Rattle.std.proofs.Common.{◌≡◌, map, drop}
-use Rattle.jsonpath_owned_nodes.proofs.Words.{view, at, step_in}
+use Rattle.jsonpath_owned_nodes.proofs.Words.{◌≡◌, map, drop, view, at, step_in}
 use Rattle.jsonpath_owned_nodes.proofs.owned_nodes.OwnedNodes.value_in.Given as goal
 
 -- the steps that are left lead from the value where all of them lead from the document

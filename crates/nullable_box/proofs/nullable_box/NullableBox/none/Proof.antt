@@ -1,6 +1,5 @@
 -- Nothing is null.
-use Rattle.std.proofs.Common.{◌≡◌, [], ◌∷◌, refl, lit<, Option, None}
-use Rattle.nullable_box.proofs.Words.{a_type, Val, inst_fn, SProp, emp, ftrue, flft, ‵, raw, ◌⊛◌, ◌$◌, ◌∵◌, !, qed, by, keep, split, use0, lit, no_more, and_then, returns, enter, alloc_all, pass_all, free_all, look_at, sets, agg, fact, fact_i, tables, param, layouts, RattleType, owns, ptr_val, null_ptr, types_at, nothing, Stays, walk_of, proved_at, leaves, held}
+use Rattle.nullable_box.proofs.Words.{◌≡◌, [], ◌∷◌, refl, lit<, Option, None, a_type, Val, inst_fn, SProp, emp, ftrue, flft, ‵, raw, ◌⊛◌, ◌$◌, ◌∵◌, !, qed, by, keep, split, use0, lit, no_more, and_then, returns, enter, alloc_all, pass_all, free_all, look_at, sets, agg, fact, fact_i, tables, param, layouts, RattleType, owns, ptr_val, null_ptr, types_at, nothing, Stays, walk_of, proved_at, leaves, held}
 use Rattle.nullable_box.proofs.Owners.{single, owner_in}
 use Rattle.nullable_box.specs.contracts.nullable_box.NullableBox.none.{ended, clauses}
 use Rattle.nullable_box.specs.contracts.nullable_box.NullableBox.none.Key.{name as key}

@@ -1,6 +1,5 @@
 -- A box that is taken apart is its pointer, since the heap needs no allocator of its own.
-use Rattle.std.proofs.Common.{◌≡◌, List, [], ◌∷◌, ◌++◌, refl, sym, subst, Option, Some}
-use Rattle.nullable_box.proofs.Words.{a_type, Val, vptr, inst_fn, SProp, emp, ent, id⊢, ftrue, flft, WpFn, ‵, raw, ◌⊛◌, ◌$◌, ◌∵◌, !, qed, by, move, keep, split, fsplit, fjoin, suffices, use0, use1, stop, fld, of_opd, no_more, and_then, returns, enter, alloc_all, pass_all, free_all, look_at, get, get_in, sets, agg, sub, whole, fact, fact_i, tables, no, param, layouts, RattleType, owns, block_ptr, types_at, plain, nothing, Stays, stay_dropped, walk_of, Goes-dropped, proved_at, leaves, ghosts, held}
+use Rattle.nullable_box.proofs.Words.{◌≡◌, List, [], ◌∷◌, ◌++◌, refl, sym, subst, Option, Some, a_type, Val, vptr, inst_fn, SProp, emp, ent, id⊢, ftrue, flft, WpFn, ‵, raw, ◌⊛◌, ◌$◌, ◌∵◌, !, qed, by, move, keep, split, fsplit, fjoin, suffices, use0, use1, stop, fld, of_opd, no_more, and_then, returns, enter, alloc_all, pass_all, free_all, look_at, get, get_in, sets, agg, sub, whole, fact, fact_i, tables, no, param, layouts, RattleType, owns, block_ptr, types_at, plain, nothing, Stays, stay_dropped, walk_of, Goes-dropped, proved_at, leaves, ghosts, held}
 use Rattle.std.specs.contracts.alloc.Global as heap
 use Rattle.std.proofs.alloc.Global.TheLaws as heap_laws
 use Rattle.nullable_box.proofs.Owners.{single, pair, owner_in, Loose, loose_good, loose_out}

@@ -1,5 +1,4 @@
-use Rattle.std.proofs.Common.{ap}
-use Rattle.serde_json_path_parser.specs.Source.{Observed}
+use Rattle.serde_json_path.proofs.Words.{ap, Observed}
 use Rattle.serde_json_path.proofs.path.JsonPath.parse_with.Goals as goal
 
 pub returns : goal.returns

@@ -1,4 +1,4 @@
-use Rattle.serde_json_path_core.proofs.Words.{◌≡◌, ℕ, List, map, Option, Some, None, option_map, option_to_list, refl, sym, ap, ◌∙◌, get, Data, Step, by_name, candidate_values, name, object, single_view, view}
+use Rattle.serde_json_path_core.proofs.Words.{arith, nat_tests, common_steps, ◌≡◌, ℕ, List, map, Option, Some, None, option_map, option_to_list, refl, get, Data, Step, by_name, candidate_values, name, object}
 use Rattle.serde_json_path_core.proofs.evaluation.single_children.select.Goals as goal
 
 value_alone : (s : Step) (found : Option Data) → option_to_list found ≡ map (λ (c : Step × Data). c.1) (option_to_list (option_map (λ d. (s, d)) found))
@@ -10,6 +10,4 @@ member_value k (object of) = value_alone (by_name k) (get k (object of))
 member_value k _ = refl
 
 pub returns-in-Name : goal.returns-in-Name
-returns-in-Name c =
-    ap option_to_list c.get.ensures ∙ member_value c.in-Name.name.now (view c.args.value.now)
-    ∙ ap (λ s. candidate_values (single_view s) (view c.args.value.now)) (sym c.in-Name.is)
+returns-in-Name c = grind (arith, nat_tests, common_steps, member_value)

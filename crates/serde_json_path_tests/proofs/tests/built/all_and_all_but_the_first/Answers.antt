@@ -1,8 +1,5 @@
-use Rattle.std.proofs.Common.{refl, ◌∙◌, arith, pos, Some, None}
-use Rattle.std.proofs.lemmas.Grind.{common_steps}
+use Rattle.serde_json_path_tests.proofs.Words.{refl, ◌∙◌, arith, pos, Some, None, common_steps, a_segment, a_selector, calls_in}
 use Rattle.serde_json_path_syntax.specs.Tree as tree
-use Rattle.serde_json_path_syntax.specs.Branch.{a_segment, a_selector}
-use Rattle.serde_json_path_syntax.specs.Parts.{calls_in}
 use Rattle.serde_json_path_tests.proofs.Trees.{finished_without_calls}
 use Rattle.serde_json_path_tests.proofs.tests.built.all_and_all_but_the_first.Goals as goal
 

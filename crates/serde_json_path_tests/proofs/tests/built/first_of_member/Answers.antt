@@ -1,8 +1,5 @@
-use Rattle.std.proofs.Common.{refl, ◌∙◌, pos, arith, string_bytes}
-use Rattle.std.proofs.lemmas.Grind.{common_steps}
+use Rattle.serde_json_path_tests.proofs.Words.{refl, ◌∙◌, pos, arith, string_bytes, common_steps, a_segment, calls_in}
 use Rattle.serde_json_path_syntax.specs.Tree as tree
-use Rattle.serde_json_path_syntax.specs.Branch.{a_segment}
-use Rattle.serde_json_path_syntax.specs.Parts.{calls_in}
 use Rattle.serde_json_path_tests.proofs.Trees.{finished_without_calls}
 use Rattle.serde_json_path_tests.proofs.tests.built.first_of_member.Goals as goal
 

@@ -1,6 +1,5 @@
-use Rattle.std.proofs.Common.{string_bytes}
+use Rattle.serde_json_path_tests.proofs.Words.{string_bytes, a_selector}
 use Rattle.serde_json_path_syntax.specs.Tree as tree
-use Rattle.serde_json_path_syntax.specs.Branch.{a_selector}
 use Rattle.serde_json_path_tests.proofs.tests.built.made_from_the_end.Goals as goal
 
 pub two_names-requires-clause-second : goal.two_names-requires-clause-second

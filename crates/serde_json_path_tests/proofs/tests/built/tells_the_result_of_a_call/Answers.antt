@@ -1,5 +1,4 @@
-use Rattle.std.proofs.Common.{arith}
-use Rattle.std.proofs.lemmas.Grind.{common_steps}
+use Rattle.serde_json_path_tests.proofs.Words.{arith, common_steps}
 use Rattle.serde_json_path_syntax.specs.Tree as tree
 use Rattle.serde_json_path_tests.proofs.tests.built.tells_the_result_of_a_call.Goals as goal
 

@@ -1,7 +1,5 @@
-use Rattle.std.proofs.Common.{refl, ◌∙◌, arith}
-use Rattle.std.proofs.lemmas.Grind.{common_steps}
+use Rattle.serde_json_path_tests.proofs.Words.{refl, ◌∙◌, arith, common_steps, calls_in}
 use Rattle.serde_json_path_syntax.specs.Tree as tree
-use Rattle.serde_json_path_syntax.specs.Parts.{calls_in}
 use Rattle.serde_json_path_tests.proofs.Trees.{finished_without_calls}
 use Rattle.serde_json_path_tests.proofs.tests.built.two_names.Goals as goal
 

@@ -1,10 +1,4 @@
-use Rattle.std.proofs.Common.{subst}
-use Rattle.serde_json.specs.View.{view}
-use Rattle.serde_json_path_nodes.specs.Views.{located_nodes}
-use Rattle.serde_json_path_functions.specs.Functions.{with_rule}
-use Rattle.serde_json_path_functions.specs.Patterns.{before_builtin}
-use Rattle.serde_json_path_core.specs.Meaning.{IsResult}
-use Rattle.serde_json_path.specs.Paths.{path_tree, with_rule_of}
+use Rattle.serde_json_path_tests.proofs.Words.{subst, view, located_nodes, with_rule, before_builtin, IsResult, path_tree, with_rule_of}
 use Rattle.serde_json_path_tests.proofs.tests.headline.append.Goals as goal
 
 pub returns : goal.returns

@@ -1,6 +1,4 @@
-use Rattle.std.proofs.Common.{◌∷◌, sym, subst, ◌∙◌}
-use Rattle.serde_json_path_nodes.specs.Views.{step_view}
-use Rattle.serde_json_path.specs.Laws.{ArePositionsWritten}
+use Rattle.serde_json_path_tests.proofs.Words.{◌∷◌, sym, subst, ◌∙◌, step_view, ArePositionsWritten}
 use Rattle.serde_json_path_tests.proofs.tests.headline.can_be_written.Goals as goal
 
 pub loop-step-init : goal.loop-step-init

@@ -1,11 +1,4 @@
-use Rattle.std.proofs.Common.{◌≡◌, ◌∙◌, List, ℕ, Option, sym, subst, rules}
-use Rattle.std.specs.Str.{IsUtf8, chars}
-use Rattle.serde_json_path_functions.specs.Functions.{Numbers, Signature}
-use Rattle.serde_json_path_syntax.specs.Text.{query_text}
-use Rattle.serde_json_path_syntax.specs.Tree.{Query}
-use Rattle.serde_json_path_parser.specs.Accepted.{IsAccepted}
-use Rattle.serde_json_path_parser.specs.Laws.{PrintedTextReadsBack}
-use Rattle.serde_json_path.specs.Paths.{path_tree}
+use Rattle.serde_json_path_tests.proofs.Words.{◌≡◌, ◌∙◌, List, ℕ, Option, sym, subst, rules, IsUtf8, chars, Numbers, Signature, query_text, Query, IsAccepted, PrintedTextReadsBack, path_tree}
 use Rattle.serde_json_path_tests.proofs.tests.headline.comes_back.Goals as goal
 
 -- where a text is accepted with a tree, so is the tree's own text

@@ -1,13 +1,4 @@
-use Rattle.std.proofs.Common.{◌≡◌, [], ◌∷◌, sym, subst, ◌∙◌, rules}
-use Rattle.std.specs.Str.{chars}
-use Rattle.serde_json.specs.View.{view}
-use Rattle.serde_json_path_nodes.specs.Text.{normal}
-use Rattle.serde_json_path_functions.specs.Functions.{whole_numbers}
-use Rattle.serde_json_path_functions.specs.Patterns.{before_builtin}
-use Rattle.serde_json_path_core.specs.Meaning.{IsResult}
-use Rattle.serde_json_path_parser.specs.Accepted.{IsAccepted}
-use Rattle.serde_json_path.specs.Laws.{tree_to}
-use Rattle.serde_json_path.specs.Paths.{path_tree, with_rule_of}
+use Rattle.serde_json_path_tests.proofs.Words.{◌≡◌, [], ◌∷◌, sym, subst, ◌∙◌, rules, chars, view, normal, whole_numbers, before_builtin, IsResult, IsAccepted, tree_to, path_tree, with_rule_of}
 use Rattle.serde_json_path_tests.proofs.tests.headline.find_again.Goals as goal
 
 pub unreachable-requires : goal.unreachable-requires

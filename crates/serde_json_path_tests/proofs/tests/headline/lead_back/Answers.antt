@@ -1,18 +1,4 @@
-use Rattle.std.proofs.Common.{◌≡◌, ◌∷◌, [], List, Some, Ok, inl, inr, refl, sym, subst, ap, ◌∙◌, true≢false}
-use Rattle.std.specs.List.{AllZip}
-use Rattle.serde_json.specs.Data.{Data}
-use Rattle.serde_json.specs.View.{view}
-use Rattle.serde_json_path_nodes.specs.Location.{Located, at}
-use Rattle.serde_json_path_nodes.specs.Lists.{exactly_one_of}
-use Rattle.serde_json_path_nodes.specs.Same.{same_steps_decides}
-use Rattle.serde_json_path_nodes.specs.Views.{located, located_nodes, located_nodes_left}
-use Rattle.serde_json_path_syntax.specs.Lists.{IsIn}
-use Rattle.serde_json_path_syntax.specs.Tree.{Query, query, root, current}
-use Rattle.serde_json_path_functions.specs.Functions.{FunctionSet}
-use Rattle.serde_json_path_functions.specs.Patterns.{before_builtin}
-use Rattle.serde_json_path_core.specs.Derivation.{Triple, BelongsTo}
-use Rattle.serde_json_path_core.specs.Meaning.{IsResult}
-use Rattle.serde_json_path.specs.Paths.{path_tree, with_rule_of}
+use Rattle.serde_json_path_tests.proofs.Words.{◌≡◌, ◌∷◌, [], List, Some, Ok, inl, inr, refl, sym, subst, ap, ◌∙◌, true≢false, AllZip, Data, view, Located, at, exactly_one_of, same_steps_decides, located, located_nodes, located_nodes_left, IsIn, Query, query, root, current, FunctionSet, before_builtin, Triple, BelongsTo, IsResult, path_tree, with_rule_of}
 use Rattle.serde_json_path_tests.proofs.tests.headline.lead_back.Goals as goal
 
 -- a node that belongs to a derivation is where its location leads to

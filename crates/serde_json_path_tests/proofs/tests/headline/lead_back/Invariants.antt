@@ -1,8 +1,4 @@
-use Rattle.std.proofs.Common.{◌≡◌, Some}
-use Rattle.serde_json.specs.View.{view}
-use Rattle.serde_json_path_nodes.specs.Location.{Located, at}
-use Rattle.serde_json_path_nodes.specs.Views.{located_nodes_left}
-use Rattle.serde_json_path_syntax.specs.Lists.{IsIn}
+use Rattle.serde_json_path_tests.proofs.Words.{◌≡◌, Some, view, Located, at, located_nodes_left, IsIn}
 use Rattle.serde_json_path_tests.proofs.tests.headline.lead_back.Given as goal
 
 -- each node that is left is where its location leads to

@@ -1,11 +1,5 @@
-use Rattle.std.proofs.Common.{◌≡◌, [], ◌∷◌, ◌++◌, true, map, ap, ◌∙◌}
-use Rattle.serde_json.specs.Data.{array}
-use Rattle.serde_json.specs.View.{view, items_view}
+use Rattle.serde_json_path_tests.proofs.Words.{◌≡◌, [], ◌∷◌, ◌++◌, true, map, ap, ◌∙◌, array, view, items_view, view-Array, by_position, at, step_view, Index}
 use Rattle.serde_json.specs.declared.value.Value as value
-use Rattle.serde_json.proofs.Views.{view-Array}
-use Rattle.serde_json_path_nodes.specs.Location.{by_position, at}
-use Rattle.serde_json_path_nodes.specs.Views.{step_view}
-use Rattle.serde_json_path_nodes.specs.declared.path_element.PathElement.TheVariants.{Index}
 use Rattle.serde_json_path_tests.proofs.tests.normal_paths.finds_an_item_again.Goals as goal
 
 pub find_again-requires-clause-there : goal.find_again-requires-clause-there

@@ -1,7 +1,4 @@
-use Rattle.std.proofs.Common.{map, ap, ◌∙◌}
-use Rattle.serde_json.specs.View.{view}
-use Rattle.serde_json_path_nodes.specs.Location.{at}
-use Rattle.serde_json_path_nodes.specs.Views.{step_view}
+use Rattle.serde_json_path_tests.proofs.Words.{map, ap, ◌∙◌, view, at, step_view}
 use Rattle.serde_json_path_tests.proofs.tests.normal_paths.finds_the_root_again.Goals as goal
 
 pub find_again-requires-clause-there : goal.find_again-requires-clause-there

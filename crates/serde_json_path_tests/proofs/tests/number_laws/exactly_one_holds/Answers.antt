@@ -1,10 +1,5 @@
-use Rattle.std.proofs.Common.{◌≡◌, true}
-use Rattle.serde_json.specs.Number.{is_valid, num_of}
-use Rattle.serde_json.specs.declared.number.N.{N}
-use Rattle.serde_json.specs.declared.number.N.TheVariants.{PosInt, NegInt, Float as Double}
-use Rattle.std.specs.Prelude.{pos}
-use Rattle.serde_json_path_numbers.specs.Laws.{IsFinite, NumbersAreFinite}
-use Rattle.serde_json_path_numbers.specs.Numbers.{document_number}
+use Rattle.serde_json_path_tests.proofs.Words.{◌≡◌, true, is_valid, num_of, N, PosInt, NegInt, pos, IsFinite, NumbersAreFinite, document_number}
+use Rattle.serde_json.specs.declared.number.N.TheVariants.{Float as Double}
 use Rattle.serde_json_path_tests.proofs.tests.number_laws.exactly_one_holds.Goals as goal
 
 -- the number that a document holds is finite
