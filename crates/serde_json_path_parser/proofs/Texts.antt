@@ -1,5 +1,5 @@
 -- Bytes and the characters that they encode: the character at a place, by its first byte, and ASCII characters that are taken many at a time.
-use Rattle.serde_json_path_parser.proofs.Words.{slice_get, IsUtf8, encode_utf8_all, StartsWithChar, get_or-drop, slice_get_within, slice_get-get_or, same_Some, none-some, length-drop, cases_lt, ◌==◌, is_utf8, chars, eqb-true, drop-drop, drop_all, IsUtf8-from_is_utf8, is_utf8-from_IsUtf8, chars-nil, chars_past_char, byte_from_char, char_from_byte, is_ascii, IsAhead, begins, nat_le, nat_lt, ◌^◌, max, IsAscii, and_parts, cases_Bool, take_more_set, encodes-append, encodes-IsAscii, AllPass, is_name_char, front, past, Observed, one_more, looked, LooksOn, is_ascii_name_char, Gathered, Stretched, IsSome, ◌≡◌, ℕ, ◌+◌, ◌*◌, ◌%◌, ◌<◌, ◌≤◌, inl, inr, true, List, [], ◌∷◌, length, get_or, drop, Some, refl, sym, ap, subst, ◌∙◌, arith, true≢false, Option, None, zero, suc, ◌-◌, Bool, ◌++◌, take, set, append_assoc, ◌&&◌, IsScalar, false, false_from_ne_true}
+use Rattle.serde_json_path_parser.proofs.Words.{slice_get_past, IsUtf8-from_ascii, encodes-chars, slice_get, IsUtf8, encode_utf8_all, StartsWithChar, get_or-drop, slice_get_within, slice_get-get_or, same_Some, none-some, length-drop, cases_lt, ◌==◌, is_utf8, chars, eqb-true, drop-drop, drop_all, IsUtf8-from_is_utf8, is_utf8-from_IsUtf8, chars-nil, chars_past_char, byte_from_char, char_from_byte, is_ascii, IsAhead, begins, nat_le, nat_lt, ◌^◌, max, IsAscii, and_parts, cases_Bool, take_more_set, encodes-append, encodes-IsAscii, AllPass, is_name_char, front, past, Observed, one_more, looked, LooksOn, is_ascii_name_char, Gathered, Stretched, IsSome, ◌≡◌, ℕ, ◌+◌, ◌*◌, ◌%◌, ◌<◌, ◌≤◌, inl, inr, true, List, [], ◌∷◌, length, get_or, drop, Some, refl, sym, ap, subst, ◌∙◌, arith, true≢false, Option, None, zero, suc, ◌-◌, Bool, ◌++◌, take, set, append_assoc, ◌&&◌, IsScalar, false, false_from_ne_true}
 use Rattle.std.proofs.iter.FirstChar.{wide, in_one, in_two, in_three, in_four}
 use Rattle.serde_json_path_parser.proofs.Reading.{past_through, front_through}
 
@@ -140,6 +140,9 @@ begins_ahead p ascii b cs a = ap (begins p) a.1 ∙ elim (cases_lt b 128) [
     fails : (c : ℕ) → 128 ≤ c → p c ≡ false
     fails c high = false_from_ne_true (p c) (λ e. absurd (omega (arith, high, ascii c e)))
 
+pub fits_first : (p : ℕ → Bool) (text : List ℕ) (at b : ℕ) → ((c : ℕ) → p c ≡ true → c < 128) → is_utf8 (drop at text) ≡ true → Some b ≡ slice_get text at → begins p (chars (drop at text)) ≡ true → p b ≡ true
+fits_first p text at b ascii u is e = sym (begins_ahead p ascii b (chars (drop at text)) (ahead text at (Some b) u is)) ∙ e
+
 -- an ASCII byte ahead is the first character
 pub is_ahead : (k b : ℕ) (cs : List ℕ) → k < 128 → IsAhead (Some b) cs → b ≡ k → cs ≡ k ∷ drop 1 cs
 is_ahead k b cs low a is = a.1 ∙ ap (λ c. c ∷ drop 1 cs) (a.2 (omega (arith, low, is)) ∙ is)
@@ -202,3 +205,6 @@ name_stretched cs rest old new ok done s = ap (λ (l : List ℕ). l ++ encode_ut
 -- what is after a name stays as a part of it is taken
 pub past_stretched : (cs rest old new : List ℕ) (ok : Bool) → Stretched is_ascii_name_char cs rest old new ok → past is_name_char rest ≡ past is_name_char cs
 past_stretched cs rest old new ok s = sym (ap (past is_name_char) s.taken ∙ past_through is_name_char s.part rest (all_in_name s.part s.passes))
+
+-- what the fields of a reader say of its text
+pub ruleset of_bytes = (encodes-chars, IsUtf8-from_is_utf8, is_utf8-from_IsUtf8, length-drop, IsUtf8-from_ascii, some_next, slice_get_within, slice_get_past, step, step_one, fits_first)
