@@ -84,12 +84,7 @@ module _ (rule : Numbers) (signature : List ℕ → Option Signature) (n : ℕ) 
   may_be : (o : Operand) (kind : Kind) → suits rule signature (operand o) kind ≡ true → MayBeArgument rule o
   may_be (literal (number amount)) of_value e = suits_number rule amount e
   may_be (literal (number amount)) _ e = absurd cc
-  may_be (literal (text bytes)) kind e = tt
-  may_be (literal (decimal_literal d)) kind e = tt
-  may_be (literal (truth b)) kind e = tt
-  may_be (literal null) kind e = tt
-  may_be (queried q) kind e = tt
-  may_be (called c) kind e = tt
+  may_be _ kind e = tt
 
   pub judged : (t : List ℕ) (a : Argument) (kind : Kind) → IsUnjudged t a → suits rule signature a kind ≡ true → IsArgument t a
   judged t (operand o) kind h e = (h.0, (may_be o kind e, h.1))
