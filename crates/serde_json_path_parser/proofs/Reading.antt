@@ -137,10 +137,6 @@ begins_not p (c ∷ k) rest none h e = none c h.0
 
 -- ---- reading items one after the other
 
-pub with_none : {A : Type 0} (read : Parsed (List A)) → with_front [] read ≡ read
-with_none (Ok x) = refl
-with_none (Err f) = refl
-
 -- an item consumes at least one character
 pub record Consumes {A : Type 0} (more : List ℕ → Bool) (item : List ℕ → Parsed A) : Type 0 where
   pub shorter : (cs rest : List ℕ) (x : A) → more cs ≡ true → item cs ≡ Ok (x, rest) → length rest < length cs

@@ -122,14 +122,6 @@ all_more : (p : ℕ → Bool) (cs : List ℕ) (c : ℕ) → AllPass p cs → p c
 all_more p [] c h e = (e, tt)
 all_more p (d ∷ cs) c h e = (h.0, all_more p cs c h.1 e)
 
--- a name that begins with an ASCII byte begins with an ASCII character
-pub name_begun : (first : ℕ) (cs : List ℕ) → IsAhead (Some first) cs → first < 128 → begins is_name_char cs ≡ true → begins is_ascii_name_char cs ≡ true
-name_begun first cs a low e =
-    let same : a.0 ≡ first = a.2 low in
-    let small : nat_le a.0 127 ≡ true = grind (arith, same, low) in
-    let in_it : is_name_char a.0 ≡ true = sym (ap (begins is_name_char) a.1) ∙ e in
-    ap (begins is_ascii_name_char) a.1 ∙ rw (small, in_it) refl
-
 -- whether what is next passes a test for ASCII characters is seen from the byte ahead
 pub begins_ahead : (p : ℕ → Bool) → ((c : ℕ) → p c ≡ true → c < 128) → (b : ℕ) (cs : List ℕ) → IsAhead (Some b) cs → begins p cs ≡ p b
 begins_ahead p ascii b cs a = ap (begins p) a.1 ∙ elim (cases_lt b 128) [
@@ -163,14 +155,6 @@ looked_on old mid now count number at h e le =
     }
 
 -- ---- a part of a name
-
--- the first character alone
-pub first_gathered : (p : ℕ → Bool) (text : List ℕ) (index first : ℕ) (part : List ℕ) → first < 128 → index ≤ length text → is_utf8 (drop index text) ≡ true → slice_get text index ≡ Some first
-    → p first ≡ true → take 1 part ≡ first ∷ [] → Gathered p text index (index + 1) part
-first_gathered p text index first part low l u is fits e =
-    let s = step_one text index first l u is low in
-    let one : (index + 1) - index ≡ 1 = omega arith in
-    record { within = s.within; utf8 = s.utf8; taken = rw (one, e) s.left; passes = rw (one, e) (fits, tt) }
 
 -- one character more
 pub more_gathered : (p : ℕ → Bool) (text : List ℕ) (index at c : ℕ) (part : List ℕ) → c < 128 → index ≤ at → at - index < length part → slice_get text at ≡ Some c

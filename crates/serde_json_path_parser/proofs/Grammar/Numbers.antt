@@ -1,6 +1,6 @@
 -- Integers and number literals: what is read is one, each is read, and where a refusal of one stands.
-use Rattle.serde_json_path_parser.proofs.Words.{nat_le, ◌==◌, ℤ, pos, negsuc, ints, largest, ExpectedSelector, IntegerOutOfRange, is_at, cases_Bool, begins, is_blank, is_digit, value_from, IsDecimal, IsInt, front, past, byte_count, is_first_digit, read_digits, negative, read_int, begins_int, ◌||◌, encode_utf8, ExpectedExpression, ExponentOrEmptyFraction, FractionTooLong, AllPass, AreDigits, fraction_of, IsFraction, IsAmount, refusal_at, is_exponent, read_whole, read_whole_text, mul-lt-mul_of_pos_right, one-le-pow, length-append, pow-add, encode_ascii, encode_utf8_all, ◌≡◌, ℕ, zero, suc, ◌+◌, ◌-◌, ◌*◌, ◌≤◌, inl, inr, Bool, true, false, List, [], ◌∷◌, ◌++◌, drop, Ok, refl, sym, ap, ◌∙◌, arith, ◌^◌, length, Err, append_assoc, ◌<◌, min, LongHand, AllDigits, digits_value_after}
-use Rattle.serde_json_path_parser.proofs.Reading.{begins_where, differs, begins_differs, no_blank, whole, front_each, front_begins, front_begins_not, front_all, past_run, value_least, some_begun, begins_front, after_one, Plain, OutcomeIn, Outcome, gives, choose, guarded, past_in, made, refused, after_in}
+use Rattle.serde_json_path_parser.proofs.Words.{nat_le, ◌==◌, ℤ, pos, negsuc, ints, largest, ExpectedSelector, IntegerOutOfRange, is_at, cases_Bool, begins, is_blank, is_digit, value_from, IsDecimal, IsInt, front, past, byte_count, is_first_digit, read_digits, negative, read_int, begins_int, ◌||◌, encode_utf8, ExpectedExpression, AllPass, AreDigits, fraction_of, is_exponent, read_whole, read_whole_text, mul-lt-mul_of_pos_right, one-le-pow, length-append, pow-add, encode_ascii, encode_utf8_all, ◌≡◌, ℕ, zero, suc, ◌+◌, ◌-◌, ◌*◌, ◌≤◌, inl, inr, Bool, true, false, List, [], ◌∷◌, ◌++◌, drop, Ok, refl, sym, ap, ◌∙◌, arith, ◌^◌, length, ◌<◌, min, LongHand, AllDigits, digits_value_after}
+use Rattle.serde_json_path_parser.proofs.Reading.{begins_where, differs, begins_differs, no_blank, whole, front_each, front_begins, front_begins_not, front_all, past_run, value_least, some_begun, begins_front, after_one, Plain, OutcomeIn, Outcome, gives, choose, guarded, past_in, made}
 use Rattle.std.specs.Char.{digit_value}
 use Rattle.std.proofs.lemmas.Str.{digit_value_digit}
 use Rattle.std.proofs.lemmas.Str.Parse.{digits_value_short, numerals_by_value, tells_digits}

@@ -1,5 +1,5 @@
 -- Numerals of any length, and number literals by either rule: what is read is one, each is read, and how one begins.
-use Rattle.serde_json_path_parser.proofs.Words.{past, refusal_at, FractionTooLong, read_fraction, read_amount, AllPass, fraction_of, Ghosts, Reader, Failure, Refused, IsAsRead, left, option_map, refusal, Amount, IsAmount, IsFraction, IsLiteral, IsNumber, IsNumberLiteral, IsNumeralOf, NumberOutOfRange, Numbers, whole_numbers, all_numbers, as_literal, begins_int, billionths, held_as, held_or, literal_of, number, read_signed, read_number, scan, sign_text, ints, nat_le, cases_Bool, none-some, subst, Literal, append-nil, drop, length, Option, None, Some, ℤ, pos, if◌then◌else◌, ◌+◌, ◌-◌, ◌*◌, ◌^◌, ◌≤◌, eqb-true, ◌<◌, Err, encode_utf8, encode_ascii, ◌==◌, ◌≡◌, ℕ, Bool, true, false, List, [], ◌∷◌, ◌++◌, Ok, refl, sym, ap, ◌∙◌, inl, inr, arith, append_assoc, begins, is_digit, is_exponent, is_sign, is_at, byte_count, front, Parsed, with_front, after_first, AreDigits, AreSignedDigits, IsExponent, IsNumeral, IsPlaces, read_some_digits, read_places, read_signed_digits, read_exponent, read_numeral, ExponentOrEmptyFraction, LongHand, plain_held, most_billionths, held_decimal, neg_ℤ, digits_value, leb-true, ok_or, literal_view}
+use Rattle.serde_json_path_parser.proofs.Words.{past, refusal_at, FractionTooLong, read_fraction, read_amount, AllPass, fraction_of, Ghosts, Reader, Failure, Refused, IsAsRead, left, option_map, refusal, Amount, IsAmount, IsFraction, IsLiteral, IsNumber, IsNumberLiteral, IsNumeralOf, NumberOutOfRange, Numbers, whole_numbers, all_numbers, as_literal, begins_int, billionths, held_as, held_or, literal_of, number, read_signed, read_number, scan, sign_text, ints, nat_le, cases_Bool, none-some, subst, Literal, append-nil, drop, length, Option, None, Some, ℤ, pos, if◌then◌else◌, ◌+◌, ◌-◌, ◌*◌, ◌^◌, ◌≤◌, eqb-true, Err, ◌==◌, ◌≡◌, ℕ, Bool, true, false, List, [], ◌∷◌, ◌++◌, Ok, refl, sym, ap, ◌∙◌, inl, inr, arith, append_assoc, begins, is_digit, is_exponent, is_sign, is_at, byte_count, front, Parsed, with_front, after_first, AreDigits, AreSignedDigits, IsExponent, IsNumeral, IsPlaces, read_some_digits, read_places, read_signed_digits, read_exponent, read_numeral, ExponentOrEmptyFraction, LongHand, plain_held, most_billionths, held_decimal, neg_ℤ, digits_value, leb-true, ok_or, literal_view}
 use Rattle.serde_json_path_parser.proofs.Reading.{whole, front_all, past_run, begins_where, differs, after_one, Plain, OutcomeIn, Outcome, gives, choose, guarded, refused, onward, past_in, made, after_in, weaker}
 use Rattle.serde_json_path_parser.proofs.Grammar.Numbers.{whole_outcome, whole_again, digits_are, digit_begins, AsText, goes_on, no_part, front_are_digits, digits_begin, whole_text_outcome, whole_text_again, decimal_first}
 use Rattle.serde_json_path_syntax.specs.declared.literal.Literal as declared

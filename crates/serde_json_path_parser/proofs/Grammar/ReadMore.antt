@@ -1,5 +1,5 @@
 -- What reads by whole numbers reads by all numbers, part by part.
-use Rattle.serde_json_path_parser.proofs.Words.{billionths, Query, query, Segments, no_segments, segment, SegmentKind, Segment, long_hand, Selectors, no_selectors, selector, Selector, filter, LogicalOr, no_or, or, LogicalAnd, no_and, and, Basic, paren, relation, test, Operand, literal, queried, called, Call, call, Arguments, no_arguments, argument, Argument, operand, logical_argument, Literal, number, truth, whole_numbers, all_numbers, MayBeArgument, Reads, ReadSegments, ReadsSegment, ReadSelectors, ReadMoreSelectors, ReadsSelector, ReadsOr, ReadMoreOrs, ReadsAnd, ReadMoreAnds, ReadsBasic, ReadsOperand, ReadsCall, ReadArguments, ReadMoreArguments, ReadsArgument, Negated, IsLiteral, ℕ, List, Bool, true, false, AllNumbersReadMore, decimal_literal}
+use Rattle.serde_json_path_parser.proofs.Words.{billionths, Query, query, Segments, no_segments, segment, SegmentKind, Segment, long_hand, Selectors, no_selectors, selector, Selector, filter, LogicalOr, no_or, or, LogicalAnd, no_and, and, Basic, paren, relation, test, Operand, literal, queried, called, call, Arguments, no_arguments, argument, Argument, operand, logical_argument, Literal, number, whole_numbers, all_numbers, MayBeArgument, Reads, ReadSegments, ReadsSegment, ReadMoreSelectors, ReadsSelector, ReadsOr, ReadMoreOrs, ReadsAnd, ReadMoreAnds, ReadsBasic, ReadsOperand, ReadMoreArguments, ReadsArgument, Negated, IsLiteral, ℕ, List, Bool, true, false, AllNumbersReadMore, decimal_literal}
 use Rattle.serde_json_path_parser.proofs.Grammar.Numerals.{as_numeral}
 
 literal_more : (l : Literal) (t : List ℕ) → IsLiteral whole_numbers l t → IsLiteral all_numbers l t

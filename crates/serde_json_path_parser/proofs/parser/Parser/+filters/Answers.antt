@@ -1,8 +1,7 @@
-use Rattle.serde_json_path_parser.proofs.Reading.{first_fails, no_longer, with_none}
+use Rattle.serde_json_path_parser.proofs.Reading.{first_fails, no_longer}
 use Rattle.serde_json_path_parser.proofs.Texts.{is_ahead}
-use Rattle.serde_json_path_parser.proofs.Words.{numbers_view, drop, ◌∙◌, [], Err, refl, sym, ap, option_map, arith, true≢false, past_blanks, string_bytes, nil_from_length, err_from_is_err_and, literal_view, operator_view, an_operand, logical_argument, call, signature_view, and_list, or_list, signatures, deeper, begins, is_at, opens, literal, called, left, common_steps, selector_list, read_segments, segment_list, read_named_call, queried, AreAndPartsOf, AreOrPartsOf, AreSelectorsOf, map, kind_view, read_argument, segment_kind_view, query_kind_view, operand, true, false, paren, query, long_hand, relation, filter}
-use Rattle.serde_json_path_parser.specs.Inside.Giving.{read_filter}
-use Rattle.serde_json_path_parser.proofs.Steps.{number_reads, no_literal, operand_of, comparable_read, none_made, one_more, first_refused, first_open, literal_word_reads, level_down, at_mark, grows_none, grows_leaf, grows_kept, grows_then, grows_call, grown_so, made_as, begins_row, row_fails, row_shorter, row_goes_on, row_done, segments_stand, selectors_stand, ors_stand, ands_stand, segment_shorter, some_parts}
+use Rattle.serde_json_path_parser.proofs.Words.{numbers_view, drop, ◌∙◌, [], Err, refl, sym, ap, option_map, arith, true≢false, past_blanks, string_bytes, err_from_is_err_and, literal_view, operator_view, an_operand, call, signature_view, and_list, or_list, signatures, deeper, is_at, literal, called, left, common_steps, selector_list, segment_list, read_named_call, queried, AreAndPartsOf, AreOrPartsOf, AreSelectorsOf, map, kind_view, read_argument, segment_kind_view, query_kind_view, operand, true, false, paren, query, long_hand, relation, filter}
+use Rattle.serde_json_path_parser.proofs.Steps.{number_reads, no_literal, operand_of, comparable_read, one_more, first_refused, first_open, level_down, at_mark, grows_none, grows_leaf, grows_kept, grows_then, grows_call, grown_so, begins_row, row_fails, row_shorter, row_goes_on, row_done, segments_stand, selectors_stand, ors_stand, ands_stand, segment_shorter, some_parts}
 use Rattle.serde_json_path_parser.proofs.parser.Parser.+filters.Goals.{parse_operand-in_default-via-in-Some+in_default+then-this-lt97, parse_operand-in_default-via-in-Some+in_default+else-this-lt97+else-this-lt123, parse_operand-in_default-via-in_default}
 use Rattle.serde_json_path_parser.proofs.parser.Parser.+filters.Goals as goal
 
