@@ -84,6 +84,12 @@ pub grown_so : {X A S : Type 0} {g : Ghosts S} (Is : X → A → Type 0) (Grown 
 grown_so Is Grown More reader read (Ok x) h more = (h.0, h.1, h.2, more h.0 h.3)
 grown_so Is Grown More reader read (Err e) h more = h
 
+-- the same, as what another reading gives
+pub made_as : {X A B S : Type 0} {g : Ghosts S} (Is : X → A → Type 0) (As : X → B → Type 0) (Grown : A → Type 0) (More : B → Type 0) (of : A → B) (reader : Reader S g) (read : Parsed A) (whole : Parsed B) (result : Result X Failure)
+    → MakesSo Is Grown result reader read → whole ≡ (read >>= λ x. Ok (of x.0, x.1)) → ((x : X) (a : A) → Is x a → As x (of a)) → ((a : A) → Grown a → More (of a)) → MakesSo As More result reader whole
+made_as Is As Grown More of reader read whole (Ok x) h e is more = (of h.0, is x h.0 h.1, e ∙ ap (λ y. y >>= λ x. Ok (of x.0, x.1)) h.2, more h.0 h.3)
+made_as Is As Grown More of reader read whole (Err s) h e is more = rw e (first_fails s read _ h)
+
 -- ---- items in a row, which a loop reads one after another and whose parts it lists
 
 -- the list of all is that of each, one after another

@@ -70,24 +70,15 @@ digits_again start t rest is e = rw (digits_begin t rest is, front_all is_digit 
 
 places_again : (start : ℕ) (t rest : List ℕ) → IsPlaces t → begins is_digit rest ≡ false → is_at "." rest ≡ false → read_places start (t ++ rest) ≡ Ok (t, rest)
 unfolding read_places
-places_again start t rest is e none = elim is [
-  | inl empty ↦ rw (empty, none) refl
-  | inr some ↦ rw (some.2, digits_again start some.0 rest some.1 e) refl
-]
+places_again start t rest is e none = grind (arith, digits_again)
 
 signed_again : (start : ℕ) (t rest : List ℕ) → AreSignedDigits t → begins is_digit rest ≡ false → read_signed_digits start (t ++ rest) ≡ Ok (t, rest)
 unfolding read_signed_digits
-signed_again start t rest is e = elim is [
-  | inl are ↦ rw (begins_where is_digit is_sign false (t ++ rest) (λ c d. grind (arith, d)) (digits_begin t rest are), digits_again start t rest are e) refl
-  | inr some ↦ rw (some.4, some.2, digits_again start some.1 rest some.3 e) refl
-]
+signed_again start t rest is e = grind (arith, digits_again, digits_begin, begins_where)
 
 exponent_again : (start : ℕ) (t rest : List ℕ) → IsExponent t → begins is_digit rest ≡ false → begins is_exponent rest ≡ false → read_exponent start (t ++ rest) ≡ Ok (t, rest)
 unfolding read_exponent
-exponent_again start t rest is e none = elim is [
-  | inl empty ↦ rw (empty, none) refl
-  | inr some ↦ rw (some.4, some.2, signed_again start some.1 rest some.3 e) refl
-]
+exponent_again start t rest is e none = grind (arith, signed_again)
 
 -- no digit stands after a whole number, whatever follows
 no_digit : (t rest : List ℕ) → IsPlaces t → begins is_digit rest ≡ false → begins is_digit (t ++ rest) ≡ false
@@ -117,11 +108,7 @@ fraction_parts t n (inr (ds, same, passes, some, few, worth)) = rw same (inr (ds
 
 fraction_again : (start : ℕ) (t : List ℕ) (n : ℕ) (rest : List ℕ) → IsFraction t n → begins goes_on rest ≡ false → read_fraction start (t ++ rest) ≡ Ok (n, rest)
 unfolding read_fraction
-fraction_again start t n rest is e =
-    let (digit, point, exponent) = no_part rest e in
-    let (places, passes, few, worth, has_point, split, none) = fraction_parts t n is in
-    let judged : nat_le (length (drop 1 t)) 9 ≡ true = grind (arith, few) in
-    rw (places_again start t rest places digit point, exponent, judged, worth) refl
+fraction_again start t n rest is e = grind (arith, fraction_parts, no_part, places_again)
 
 amount_again : (start t : List ℕ) (n : ℕ) (rest : List ℕ) → IsAmount t n → begins goes_on rest ≡ false → read_amount (byte_count start) (t ++ rest) ≡ Ok (n, rest)
 unfolding read_amount

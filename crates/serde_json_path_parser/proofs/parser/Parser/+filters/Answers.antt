@@ -1,7 +1,7 @@
 use Rattle.serde_json_path_parser.proofs.Reading.{first_fails, no_longer}
 use Rattle.serde_json_path_parser.proofs.Texts.{is_ahead}
-use Rattle.serde_json_path_parser.proofs.Words.{numbers_view, drop, ◌∙◌, [], Err, refl, sym, ap, option_map, arith, true≢false, past_blanks, string_bytes, err_from_is_err_and, literal_view, operator_view, an_operand, call, signature_view, and_list, or_list, signatures, deeper, is_at, literal, called, left, common_steps, selector_list, segment_list, read_named_call, queried, AreAndPartsOf, AreOrPartsOf, AreSelectorsOf, map, kind_view, read_argument, segment_kind_view, query_kind_view, operand, true, false, paren, query, long_hand, relation, filter}
-use Rattle.serde_json_path_parser.proofs.Steps.{number_reads, no_literal, operand_of, comparable_read, one_more, first_refused, first_open, level_down, at_mark, grows_none, grows_leaf, grows_kept, grows_then, grows_call, grown_so, begins_row, row_fails, row_shorter, row_goes_on, row_done, segments_stand, selectors_stand, ors_stand, ands_stand, segment_shorter, some_parts}
+use Rattle.serde_json_path_parser.proofs.Words.{logical_argument, numbers_view, drop, ◌∙◌, [], Err, refl, sym, ap, option_map, arith, true≢false, past_blanks, string_bytes, err_from_is_err_and, literal_view, operator_view, an_operand, call, signature_view, and_list, or_list, signatures, deeper, is_at, literal, called, left, common_steps, selector_list, segment_list, read_named_call, queried, AreAndPartsOf, AreOrPartsOf, AreSelectorsOf, map, kind_view, read_argument, segment_kind_view, query_kind_view, operand, true, false, paren, query, long_hand, relation, filter}
+use Rattle.serde_json_path_parser.proofs.Steps.{made_as, number_reads, no_literal, operand_of, comparable_read, one_more, first_refused, first_open, level_down, at_mark, grows_none, grows_leaf, grows_kept, grows_then, grows_call, grown_so, begins_row, row_fails, row_shorter, row_goes_on, row_done, segments_stand, selectors_stand, ors_stand, ands_stand, segment_shorter, some_parts}
 use Rattle.serde_json_path_parser.proofs.parser.Parser.+filters.Goals.{parse_operand-in_default-via-in-Some+in_default+then-this-lt97, parse_operand-in_default-via-in-Some+in_default+else-this-lt97+else-this-lt123, parse_operand-in_default-via-in_default}
 use Rattle.serde_json_path_parser.proofs.parser.Parser.+filters.Goals as goal
 
@@ -45,6 +45,15 @@ unfolding read_argument
 parse_argument-returns-then-sees_end_of_argument-clause-gives g t c =
     let o = c.in_ok-operand.ensures.gives in
     (operand o.0, o.1, grind (arith, common_steps), o.3)
+
+pub parse_argument-returns-clause-gives : goal.parse_argument-returns-clause-gives
+unfolding read_argument
+parse_argument-returns-clause-gives g t c =
+    let o = c.in_ok-operand.ensures.gives in
+    let b = rw c.bytes_left-place.ensures.value at (c.in_ok-basic.ensures.gives o.0 o.1) in
+    let a = c.in_ok-and.ensures.gives b.0 b.1 in
+    made_as _ _ _ _ (λ e. logical_argument e) _ _ _ c.parse_or_from.result (c.parse_or_from.ensures.gives a.0 a.1) (grind (arith, common_steps, b.2, a.2)) (λ part e is. (is, tt))
+    (λ e grown. grown c.args.builder.now (a.3 c.args.builder.now (b.3 c.args.builder.now o.3)))
 
 pub parse_arguments-returns-in_err-argument-clause-gives : goal.parse_arguments-returns-in_err-argument-clause-gives
 parse_arguments-returns-in_err-argument-clause-gives g t c =
