@@ -99,10 +99,7 @@ value_least n (d ∷ ds) = omega (arith, value_least (n * 10 + (d - 48)) ds)
 
 -- a number that stops at the largest one stays there
 pub saturated : (n m limit : ℕ) (ds : List ℕ) → n ≡ min m limit → min (value_from n ds) limit ≡ min (value_from m ds) limit
-saturated n m limit ds e = elim (cases_lt m limit) [
-  | inl lt ↦ let same : n ≡ m = omega (arith, e, lt) in ap (λ (k : ℕ). min (value_from k ds) limit) same
-  | inr le ↦ omega (arith, e, le, value_least n ds, value_least m ds)
-]
+saturated n m limit ds e = grind (arith, value_least, cases_lt)
 
 pub digit_taken : (cs ds : List ℕ) (c n m limit whole : ℕ) → cs ≡ c ∷ ds → begins is_digit cs ≡ true → m ≡ min (n * 10 + (c - 48)) limit
     → min (value_from n (front is_digit cs)) limit ≡ whole → min (value_from m (front is_digit ds)) limit ≡ whole
@@ -136,10 +133,6 @@ begins_not p [] rest none h e = e
 begins_not p (c ∷ k) rest none h e = none c h.0
 
 -- ---- reading items one after the other
-
-pub with_none : {A : Type 0} (read : Parsed (List A)) → with_front [] read ≡ read
-with_none (Ok x) = refl
-with_none (Err f) = refl
 
 -- an item consumes at least one character
 pub record Consumes {A : Type 0} (more : List ℕ → Bool) (item : List ℕ → Parsed A) : Type 0 where

@@ -1,5 +1,5 @@
 -- Steps of the code: rows of items that a loop reads, how the builder grows by them, arguments, and what stands in filters.
-use Rattle.serde_json_path_parser.proofs.Words.{◌||◌, begins_test, read_number, read_operand, with_front, Numbers, ◌↔◌, append-nil, map-append, name_of, names_of, calls_in_segments, calls_from, calls_in_arguments, KeepsParts, KeepsTrees, calls_in, AreDeclared, MayFinish, deepest, names_in, IsTyped, depth, Part, query, root, Segments, Call, call, Arguments, SyntaxBuilder, Signature, Grows, Parsed, Failure, Reader, Ghosts, SegmentKind, Segment, ArePartsOf, segment_list, length-append, Branch, IsPart, ArePartsFor, parts_for_kept, Fails, GrowsFrom, ◌>>=◌, many, Selector, LogicalOr, LogicalAnd, Basic, Deeper, a_selector, an_and, a_basic, segment_branch, segment_branches, selector_branches, or_branches, and_branches, calls_in_selectors, calls_in_or, calls_in_and, selector_list, or_list, and_list, past_blanks, is_at, are_at, begins, opens, opens_next, level, read_segment, read_selector, read_and, read_basic, no_arguments, argument, Argument, Kind, ExpectedClosingParenthesis, calls_in_argument, IsAsRead, MakesArguments, refusal, ends_argument, read_argument, read_some_arguments, nat_tests, Literal, ExpectedExpression, Operand, literal, word, past_word, read_literal_word, literal_word, of_value, kind_view, is_result, ◌==◌, filter, byte_count, read_or, read_call, IsTrue, is_singular, Query, IsSingular, result_kind, WrongReturnType, called, cond, ◌≡◌, ◌≤◌, ℕ, List, [], ◌∷◌, ◌++◌, inl, inr, Some, Option, Result, Ok, Err, refl, sym, ap, subst, ◌∙◌, append_assoc, ◌<◌, Bool, true, false, length, arith, drop, None, zero, suc, ◌-◌, Memory, Refused, Context, read_filter, LongHand, MakesSo, calls_in_branch, same_from_decides, IsComparable, argument_branch, read_comparable, queried, refusal_at, NonSingularQuery, read_negated_test, read_test, IsArgumentOf, IsSeenAs, result_of_operand, IsTested, null, operand, logical_argument, test}
+use Rattle.serde_json_path_parser.proofs.Words.{◌||◌, begins_test, read_number, read_operand, with_front, Numbers, ◌↔◌, append-nil, map-append, name_of, names_of, calls_in_segments, calls_from, calls_in_arguments, KeepsParts, KeepsTrees, calls_in, AreDeclared, MayFinish, deepest, names_in, IsTyped, depth, Part, query, root, Segments, Call, call, Arguments, SyntaxBuilder, Signature, Grows, Parsed, Failure, Reader, Ghosts, SegmentKind, Segment, ArePartsOf, segment_list, length-append, Branch, IsPart, ArePartsFor, parts_for_kept, Fails, GrowsFrom, ◌>>=◌, many, Selector, LogicalOr, LogicalAnd, Basic, Deeper, a_selector, an_and, a_basic, segment_branch, segment_branches, selector_branches, or_branches, and_branches, calls_in_selectors, calls_in_or, calls_in_and, selector_list, or_list, and_list, past_blanks, is_at, are_at, begins, opens, opens_next, level, read_segment, read_selector, read_and, read_basic, argument, Argument, Kind, ExpectedClosingParenthesis, calls_in_argument, MakesArguments, refusal, ends_argument, read_argument, read_some_arguments, Literal, Operand, literal, of_value, kind_view, is_result, ◌==◌, filter, byte_count, read_or, read_call, IsTrue, is_singular, Query, IsSingular, result_kind, WrongReturnType, called, cond, ◌≡◌, ◌≤◌, ℕ, List, [], ◌∷◌, ◌++◌, inl, inr, Some, Option, Result, Ok, Err, refl, sym, ap, subst, ◌∙◌, append_assoc, ◌<◌, Bool, true, false, length, arith, drop, zero, suc, ◌-◌, Memory, Refused, Context, read_filter, LongHand, MakesSo, calls_in_branch, same_from_decides, IsComparable, argument_branch, read_comparable, queried, refusal_at, NonSingularQuery, read_negated_test, read_test, IsArgumentOf, IsSeenAs, result_of_operand, IsTested, null, operand, logical_argument, test}
 use Rattle.serde_json_path_syntax.proofs.Names.Finishing.{may_finish}
 use Rattle.serde_json_path_syntax.proofs.Lists.{in_append}
 use Rattle.serde_json_path_parser.proofs.Grammar.Calls.{level_laws}
@@ -288,12 +288,6 @@ some_parts builder Are (part ∷ parts) branches some are h = are part parts h
 
 -- ---- parts of arguments
 
--- no argument is put after others
-pub none_made : {S : Type 0} {g : Ghosts S} (signature : List ℕ → Option Signature) (builder : SyntaxBuilder) (parts : List Part) (result : Result Unit Failure) (reader : Reader S g) (read : Parsed Arguments)
-    → IsAsRead (λ u. no_arguments) result reader read → MakesArguments signature builder builder parts parts result reader read
-none_made signature builder parts (Ok u) reader read h = (no_arguments, ([], sym (append-nil parts), tt), h, grows_none builder)
-none_made signature builder parts (Err s) reader read h = h
-
 -- One is put after others, and those that are read after it.
 one_made : {S : Type 0} {g : Ghosts S} {signature : List ℕ → Option Signature} {old builder : SyntaxBuilder} {mid : List Part} {part : Part}
     (a : Argument) (new : SyntaxBuilder) (before after : List Part) (reader : Reader S g) (result : Result Unit Failure) (read whole : Parsed Arguments) → mid ≡ before ++ part ∷ [] → IsPart builder part (argument_branch a) → Grows signature old builder (calls_in_argument a)
@@ -332,15 +326,6 @@ module _ (rule : Numbers) (signature : List ℕ → Option Signature) (deeper : 
   first_open (kind ∷ kinds) cs a read no_end = rw (read, no_end) refl
 
 -- ---- which literal a word is
-
--- what reading gives where the word is that literal's, or none's
-abbrev pub read_literal : Option Literal → List ℕ → Parsed Operand
-read_literal (Some l) cs = Ok (literal l, past_blanks (past_word cs))
-read_literal None cs = Err (refusal ExpectedExpression LongHand cs)
-
--- the tests for each literal's word, one after another, give what the word's literal does
-pub literal_word_reads : (cs : List ℕ) → read_literal_word cs ≡ read_literal (literal_word (word cs)) cs
-literal_word_reads cs = grind (arith, nat_tests)
 
 -- where no other operand begins, a number is read
 pub number_reads : (rule : Numbers) (signature : List ℕ → Option Signature) (deeper : Deeper) (cs : List ℕ) (l : Literal) (rest : List ℕ) → begins (λ c. c == 39 || c == 34 || begins_test c) cs ≡ false

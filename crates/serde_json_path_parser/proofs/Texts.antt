@@ -1,5 +1,5 @@
 -- Bytes and the characters that they encode: the character at a place, by its first byte, and ASCII characters that are taken many at a time.
-use Rattle.serde_json_path_parser.proofs.Words.{slice_get, IsUtf8, encode_utf8_all, StartsWithChar, get_or-drop, slice_get_within, slice_get-get_or, same_Some, none-some, length-drop, cases_lt, ◌==◌, is_utf8, chars, eqb-true, drop-drop, drop_all, IsUtf8-from_is_utf8, is_utf8-from_IsUtf8, chars-nil, chars_past_char, byte_from_char, char_from_byte, is_ascii, IsAhead, begins, nat_le, nat_lt, ◌^◌, max, IsAscii, and_parts, cases_Bool, take_more_set, encodes-append, encodes-IsAscii, AllPass, is_name_char, front, past, Observed, one_more, looked, LooksOn, is_ascii_name_char, Gathered, Stretched, IsSome, ◌≡◌, ℕ, ◌+◌, ◌*◌, ◌%◌, ◌<◌, ◌≤◌, inl, inr, true, List, [], ◌∷◌, length, get_or, drop, Some, refl, sym, ap, subst, ◌∙◌, arith, true≢false, Option, None, zero, suc, ◌-◌, Bool, ◌++◌, take, set, append_assoc, ◌&&◌, IsScalar, false, false_from_ne_true}
+use Rattle.serde_json_path_parser.proofs.Words.{slice_get_past, IsUtf8-from_ascii, encodes-chars, slice_get, IsUtf8, encode_utf8_all, StartsWithChar, get_or-drop, slice_get_within, slice_get-get_or, same_Some, none-some, length-drop, cases_lt, ◌==◌, is_utf8, chars, eqb-true, drop-drop, drop_all, IsUtf8-from_is_utf8, is_utf8-from_IsUtf8, chars-nil, chars_past_char, byte_from_char, char_from_byte, is_ascii, IsAhead, begins, nat_le, nat_lt, ◌^◌, IsAscii, and_parts, cases_Bool, take_more_set, encodes-append, encodes-IsAscii, AllPass, is_name_char, front, past, Observed, one_more, looked, LooksOn, is_ascii_name_char, Gathered, Stretched, IsSome, ◌≡◌, ℕ, ◌+◌, ◌*◌, ◌%◌, ◌<◌, ◌≤◌, inl, inr, true, List, [], ◌∷◌, length, get_or, drop, Some, refl, sym, ap, subst, ◌∙◌, arith, true≢false, Option, None, zero, suc, ◌-◌, Bool, ◌++◌, take, set, append_assoc, ◌&&◌, IsScalar, false, false_from_ne_true}
 use Rattle.std.proofs.iter.FirstChar.{wide, in_one, in_two, in_three, in_four}
 use Rattle.serde_json_path_parser.proofs.Reading.{past_through, front_through}
 
@@ -122,14 +122,6 @@ all_more : (p : ℕ → Bool) (cs : List ℕ) (c : ℕ) → AllPass p cs → p c
 all_more p [] c h e = (e, tt)
 all_more p (d ∷ cs) c h e = (h.0, all_more p cs c h.1 e)
 
--- a name that begins with an ASCII byte begins with an ASCII character
-pub name_begun : (first : ℕ) (cs : List ℕ) → IsAhead (Some first) cs → first < 128 → begins is_name_char cs ≡ true → begins is_ascii_name_char cs ≡ true
-name_begun first cs a low e =
-    let same : a.0 ≡ first = a.2 low in
-    let small : nat_le a.0 127 ≡ true = grind (arith, same, low) in
-    let in_it : is_name_char a.0 ≡ true = sym (ap (begins is_name_char) a.1) ∙ e in
-    ap (begins is_ascii_name_char) a.1 ∙ rw (small, in_it) refl
-
 -- whether what is next passes a test for ASCII characters is seen from the byte ahead
 pub begins_ahead : (p : ℕ → Bool) → ((c : ℕ) → p c ≡ true → c < 128) → (b : ℕ) (cs : List ℕ) → IsAhead (Some b) cs → begins p cs ≡ p b
 begins_ahead p ascii b cs a = ap (begins p) a.1 ∙ elim (cases_lt b 128) [
@@ -139,6 +131,9 @@ begins_ahead p ascii b cs a = ap (begins p) a.1 ∙ elim (cases_lt b 128) [
   where
     fails : (c : ℕ) → 128 ≤ c → p c ≡ false
     fails c high = false_from_ne_true (p c) (λ e. absurd (omega (arith, high, ascii c e)))
+
+pub fits_first : (p : ℕ → Bool) (text : List ℕ) (at b : ℕ) → ((c : ℕ) → p c ≡ true → c < 128) → is_utf8 (drop at text) ≡ true → Some b ≡ slice_get text at → begins p (chars (drop at text)) ≡ true → p b ≡ true
+fits_first p text at b ascii u is e = sym (begins_ahead p ascii b (chars (drop at text)) (ahead text at (Some b) u is)) ∙ e
 
 -- an ASCII byte ahead is the first character
 pub is_ahead : (k b : ℕ) (cs : List ℕ) → k < 128 → IsAhead (Some b) cs → b ≡ k → cs ≡ k ∷ drop 1 cs
@@ -151,23 +146,9 @@ at_most n = elim (cases_Bool (nat_lt n (2 ^ 128 - 1))) [ inl e ↦ rw e (omega a
 
 -- one look more, at the next byte
 pub looked_on : (old mid now : Observed) (count number at : ℕ) → LooksOn old mid count number → now ≡ looked mid at → number ≤ at + 1 → LooksOn old now (count + 1) (at + 1)
-looked_on old mid now count number at h e le =
-    let more : one_more mid.looks ≤ mid.looks + 1 = at_most mid.looks in
-    record {
-      same_text = ap (λ (t : Observed). t.text) e ∙ h.same_text;
-      looks = let k = h.looks in let is : now.looks ≡ one_more mid.looks = ap (λ (t : Observed). t.looks) e in omega (arith, k, is, more);
-      farthest = let k = h.farthest in let is : now.farthest ≡ max mid.farthest (at + 1) = ap (λ (t : Observed). t.farthest) e in omega (arith, k, is, le);
-    }
+looked_on old mid now count number at h e le = grind (arith, one_more, at_most)
 
 -- ---- a part of a name
-
--- the first character alone
-pub first_gathered : (p : ℕ → Bool) (text : List ℕ) (index first : ℕ) (part : List ℕ) → first < 128 → index ≤ length text → is_utf8 (drop index text) ≡ true → slice_get text index ≡ Some first
-    → p first ≡ true → take 1 part ≡ first ∷ [] → Gathered p text index (index + 1) part
-first_gathered p text index first part low l u is fits e =
-    let s = step_one text index first l u is low in
-    let one : (index + 1) - index ≡ 1 = omega arith in
-    record { within = s.within; utf8 = s.utf8; taken = rw (one, e) s.left; passes = rw (one, e) (fits, tt) }
 
 -- one character more
 pub more_gathered : (p : ℕ → Bool) (text : List ℕ) (index at c : ℕ) (part : List ℕ) → c < 128 → index ≤ at → at - index < length part → slice_get text at ≡ Some c
@@ -202,3 +183,6 @@ name_stretched cs rest old new ok done s = ap (λ (l : List ℕ). l ++ encode_ut
 -- what is after a name stays as a part of it is taken
 pub past_stretched : (cs rest old new : List ℕ) (ok : Bool) → Stretched is_ascii_name_char cs rest old new ok → past is_name_char rest ≡ past is_name_char cs
 past_stretched cs rest old new ok s = sym (ap (past is_name_char) s.taken ∙ past_through is_name_char s.part rest (all_in_name s.part s.passes))
+
+-- what the fields of a reader say of its text
+pub ruleset of_bytes = (encodes-chars, IsUtf8-from_is_utf8, is_utf8-from_IsUtf8, length-drop, IsUtf8-from_ascii, some_next, slice_get_within, slice_get_past, step, step_one, fits_first)

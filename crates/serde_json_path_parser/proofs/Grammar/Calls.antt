@@ -1,5 +1,5 @@
 -- Arguments and calls, by what holds one level deeper; and the laws of these pieces at every level.
-use Rattle.serde_json_path_parser.proofs.Words.{unsigned_abs, text, truth, null, is_number_argument, IsNumberArgument, MayBeArgument, whole_numbers, all_numbers, Numbers, Call, ◌==◌, ◌||◌, ℤ, ◌%◌, eqb-true, eq-eqb, or_parts, cases_Bool, LogicalOr, LogicalAnd, Basic, test, Argument, operand, logical_argument, number, Operator, no_or, or, no_and, and, result_kind, TakesResult, IsTypedArgument, argument_depth, Kind, of_value, of_nodes, of_logical, Signature, WrongReturnType, is_at, are_at, begins, begins_both, IsBlank, StandsAlone, ReadsArgument, ◌>>=◌, refusal, past_blanks, byte_count, Operand, literal, called, is_result, is_test, takes_result, suits, ends_argument, Deeper, read_operand, read_test, read_relation, read_basic_from, read_basic, read_next_basic, read_and_from, read_and, read_next_and, read_or_from, read_or, read_argument, is_blank, ReadsCall, append-nil, Parsed, codes, call, Arguments, no_arguments, argument, AreTypedArguments, IsTypedCall, arguments_depth, call_depth, ExpectedClosingParenthesis, WrongArgumentType, UndefinedFunction, WrongNumberOfArguments, IsFunctionName, ReadMoreArguments, ReadArguments, read_end, read_some_arguments, read_arguments, read_call, NestedTooDeep, level, cond, ◌≡◌, ℕ, ◌≤◌, inl, inr, Bool, true, false, List, [], ◌∷◌, ◌++◌, Option, Some, Ok, Err, refl, sym, ap, subst, ◌∙◌, append_assoc, arith, ◌+◌, zero, suc, drop, None, LongHand, queried, begins_operator, IsTypedOr, or_depth, ReadsOperand, decimal_literal}
+use Rattle.serde_json_path_parser.proofs.Words.{unsigned_abs, text, is_number_argument, IsNumberArgument, MayBeArgument, whole_numbers, all_numbers, Numbers, Call, ◌==◌, ◌||◌, ℤ, ◌%◌, eqb-true, eq-eqb, or_parts, cases_Bool, LogicalOr, LogicalAnd, Basic, test, Argument, operand, logical_argument, number, Operator, no_or, or, no_and, and, result_kind, TakesResult, IsTypedArgument, argument_depth, Kind, of_value, of_nodes, of_logical, Signature, WrongReturnType, is_at, are_at, begins, begins_both, IsBlank, StandsAlone, ReadsArgument, ◌>>=◌, refusal, past_blanks, byte_count, Operand, literal, called, is_result, is_test, takes_result, suits, ends_argument, Deeper, read_operand, read_test, read_relation, read_basic_from, read_basic, read_next_basic, read_and_from, read_and, read_next_and, read_or_from, read_or, read_argument, is_blank, ReadsCall, append-nil, Parsed, codes, call, Arguments, no_arguments, argument, AreTypedArguments, IsTypedCall, arguments_depth, call_depth, ExpectedClosingParenthesis, WrongArgumentType, UndefinedFunction, WrongNumberOfArguments, IsFunctionName, ReadMoreArguments, ReadArguments, read_end, read_some_arguments, read_arguments, read_call, NestedTooDeep, level, cond, ◌≡◌, ℕ, ◌≤◌, inl, inr, Bool, true, false, List, [], ◌∷◌, ◌++◌, Option, Some, Ok, Err, refl, sym, ap, subst, ◌∙◌, append_assoc, arith, ◌+◌, zero, suc, drop, None, LongHand, queried, begins_operator, IsTypedOr, or_depth, ReadsOperand}
 use Rattle.serde_json_path_parser.proofs.Reading.{split_again, blanks_of, spread, begins_where, differs, no_blank, begins_differs, Read, Spaced, bind_ok, ok_is, after_one, many_end, Inner, onward, choose, remade, read_as, Outcome, weaker_spaced, refused, past_text, Past, read_spaced, after_sign, past_spaced, past_through, past_run, front_each, whole, moved, begins_other}
 use Rattle.serde_json_path_parser.proofs.Grammar.LogicalForms.{query_singular, DeeperLaws, singular_query, ends_operand, ends_or, IsOperandText, IsOrText, begins_operand, begins_expression, operand_begins, as_expression, or_begins, no_blank_begins, IsGoodOperand, typed_good}
 use Rattle.serde_json_path_parser.proofs.Grammar.LogicalExpressions.{or_again, or_outcome, and_from_outcome, or_from_outcome}
@@ -84,12 +84,7 @@ module _ (rule : Numbers) (signature : List ℕ → Option Signature) (n : ℕ) 
   may_be : (o : Operand) (kind : Kind) → suits rule signature (operand o) kind ≡ true → MayBeArgument rule o
   may_be (literal (number amount)) of_value e = suits_number rule amount e
   may_be (literal (number amount)) _ e = absurd cc
-  may_be (literal (text bytes)) kind e = tt
-  may_be (literal (decimal_literal d)) kind e = tt
-  may_be (literal (truth b)) kind e = tt
-  may_be (literal null) kind e = tt
-  may_be (queried q) kind e = tt
-  may_be (called c) kind e = tt
+  may_be _ kind e = tt
 
   pub judged : (t : List ℕ) (a : Argument) (kind : Kind) → IsUnjudged t a → suits rule signature a kind ≡ true → IsArgument t a
   judged t (operand o) kind h e = (h.0, (may_be o kind e, h.1))

@@ -159,10 +159,7 @@ either cs {b = true} x y f g = f refl
 either cs {b = false} x y f g = g refl
 
 operator_found : (cs : List ℕ) → Found cs (read_operator cs)
-operator_found cs =
-    either cs _ _ (after_two 61 61 cs) (λ _.
-    either cs _ _ (after_two 33 61 cs) (λ _.
-    either cs _ _ (after_two 60 61 cs) (λ _. either cs _ _ (after_one 60 cs) (λ _. either cs _ _ (after_two 62 61 cs) (λ _. either cs _ _ (after_one 62 cs) (λ _. tt))))))
+operator_found cs = grind (arith, either, after_two, after_one)
 
 -- neither a blank nor an operand begins with `=`
 no_equals : (k cs : List ℕ) → IsBlank k → begins begins_operand cs ≡ true → is_at "=" (k ++ cs) ≡ false

@@ -1,6 +1,6 @@
 -- Integers and number literals: what is read is one, each is read, and where a refusal of one stands.
-use Rattle.serde_json_path_parser.proofs.Words.{nat_le, ◌==◌, ℤ, pos, negsuc, ints, largest, ExpectedSelector, IntegerOutOfRange, is_at, cases_Bool, begins, is_blank, is_digit, value_from, IsDecimal, IsInt, front, past, byte_count, is_first_digit, read_digits, negative, read_int, begins_int, ◌||◌, encode_utf8, ExpectedExpression, ExponentOrEmptyFraction, FractionTooLong, AllPass, AreDigits, fraction_of, IsFraction, IsAmount, refusal_at, is_exponent, read_whole, read_whole_text, mul-lt-mul_of_pos_right, one-le-pow, length-append, pow-add, encode_ascii, encode_utf8_all, ◌≡◌, ℕ, zero, suc, ◌+◌, ◌-◌, ◌*◌, ◌≤◌, inl, inr, Bool, true, false, List, [], ◌∷◌, ◌++◌, drop, Ok, refl, sym, ap, ◌∙◌, arith, ◌^◌, length, Err, append_assoc, ◌<◌, min, LongHand, AllDigits, digits_value_after}
-use Rattle.serde_json_path_parser.proofs.Reading.{begins_where, differs, begins_differs, no_blank, whole, front_each, front_begins, front_begins_not, front_all, past_run, value_least, some_begun, begins_front, after_one, Plain, OutcomeIn, Outcome, gives, choose, guarded, past_in, made, refused, after_in}
+use Rattle.serde_json_path_parser.proofs.Words.{◌==◌, ℤ, pos, negsuc, ints, largest, ExpectedSelector, IntegerOutOfRange, is_at, cases_Bool, begins, is_blank, is_digit, value_from, IsDecimal, IsInt, front, past, byte_count, is_first_digit, read_digits, negative, read_int, begins_int, ◌||◌, encode_utf8, ExpectedExpression, AllPass, AreDigits, fraction_of, is_exponent, read_whole, read_whole_text, mul-lt-mul_of_pos_right, one-le-pow, length-append, pow-add, encode_ascii, encode_utf8_all, ◌≡◌, ℕ, zero, suc, ◌+◌, ◌-◌, ◌*◌, ◌≤◌, inl, inr, Bool, true, false, List, [], ◌∷◌, ◌++◌, drop, Ok, refl, sym, ap, ◌∙◌, arith, ◌^◌, length, ◌<◌, min, LongHand, AllDigits, digits_value_after}
+use Rattle.serde_json_path_parser.proofs.Reading.{begins_where, differs, begins_differs, no_blank, whole, front_each, front_begins, front_begins_not, front_all, past_run, value_least, some_begun, begins_front, after_one, Plain, OutcomeIn, Outcome, gives, choose, guarded, past_in, made}
 use Rattle.std.specs.Char.{digit_value}
 use Rattle.std.proofs.lemmas.Str.{digit_value_digit}
 use Rattle.std.proofs.lemmas.Str.Parse.{digits_value_short, numerals_by_value, tells_digits}
@@ -24,12 +24,7 @@ IsWhole text = IsDecimal text (value_from 0 text)
 
 -- digits that are read whole, the first of them not `0`
 front_is_whole : (cs : List ℕ) → begins is_first_digit cs ≡ true → IsWhole (front is_digit cs)
-front_is_whole cs first = record {
-  first = front_begins is_digit is_digit cs (λ c d. d) (begins_where is_first_digit is_digit true cs first_is_digit first);
-  passes = front_each is_digit cs;
-  plain = inr (front_begins_not is_digit (λ c. c == 48) cs (begins_differs is_first_digit 48 cs refl first));
-  value_of = refl;
-}
+front_is_whole cs first = grind (arith, first_is_digit, begins_where, front_begins, front_begins_not, front_each, begins_differs)
 
 -- that many digits, which are not 0, and no more than an integer may be
 abbrev IsPositive : List ℕ → ℕ → Type 0
@@ -59,9 +54,7 @@ int_outcome cs =
 -- ---- each integer is read
 
 digits_again : (start t : List ℕ) (n : ℕ) (rest : List ℕ) → IsDecimal t n → n ≤ largest → begins is_digit rest ≡ false → read_digits (byte_count start) (t ++ rest) ≡ Ok (n, rest)
-digits_again start t n rest d most e =
-    let in_range : nat_le (value_from 0 t) largest ≡ true = grind (arith, most, d.value_of) in
-    rw (front_all is_digit t rest d.passes e, past_run is_digit t rest d.passes e, in_range) (ap (λ (k : ℕ). Ok (k, rest)) (sym d.value_of))
+digits_again start t n rest d most e = grind (arith, past_run, front_all)
 
 pub first_digit : (t rest : List ℕ) → begins is_digit t ≡ true → is_at "0" t ≡ false → begins is_first_digit (t ++ rest) ≡ true
 first_digit [] rest d z = absurd cc
@@ -128,12 +121,7 @@ no_part [] e = (refl, refl, refl)
 no_part (c ∷ cs) e = (grind (arith, e), grind (arith, e), grind (arith, e))
 
 pub whole_text_again : (start t : List ℕ) (n : ℕ) (rest : List ℕ) → IsDecimal t n → begins is_digit rest ≡ false → read_whole_text (byte_count start) (t ++ rest) ≡ Ok (t, rest)
-whole_text_again start t n rest d e = elim d.plain [
-  | inl z ↦ rw z refl
-  | inr z ↦
-      let first = first_digit t rest d.first z in
-      rw (begins_differs is_first_digit 48 (t ++ rest) refl first, first, front_all is_digit t rest d.passes e, past_run is_digit t rest d.passes e) refl
-]
+whole_text_again start t n rest d e = grind (arith, first_digit, past_run, front_all, begins_differs)
 
 pub whole_again : (start t : List ℕ) (n : ℕ) (rest : List ℕ) → IsDecimal t n → begins is_digit rest ≡ false → read_whole (byte_count start) (t ++ rest) ≡ Ok (n, rest)
 whole_again start t n rest d e = rw (whole_text_again start t n rest d e) (ap (λ (k : ℕ). Ok (k, rest)) (sym d.value_of))
@@ -160,9 +148,7 @@ front_bytes (c ∷ cs) = elim (cases_Bool (is_digit c)) [
 
 -- the bytes of the digits, as the bytes that were left before them and after
 pub counted : (cs rest : List ℕ) (before after : ℕ) → rest ≡ past is_digit cs → before ≡ length (encode_utf8_all cs) → after ≡ length (encode_utf8_all rest) → before ≡ after + length (front is_digit cs)
-counted cs rest before after e b a =
-    let same : after ≡ length (encode_utf8_all (past is_digit cs)) = a ∙ ap (λ (l : List ℕ). length (encode_utf8_all l)) e in
-    omega (arith, front_bytes cs, b, same)
+counted cs rest before after e b a = grind (arith, front_bytes)
 
 -- ---- the number
 

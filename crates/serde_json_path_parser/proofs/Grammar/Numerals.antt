@@ -1,5 +1,5 @@
 -- Numerals of any length, and number literals by either rule: what is read is one, each is read, and how one begins.
-use Rattle.serde_json_path_parser.proofs.Words.{past, refusal_at, FractionTooLong, read_fraction, read_amount, AllPass, fraction_of, Ghosts, Reader, Failure, Refused, IsAsRead, left, option_map, refusal, Amount, IsAmount, IsFraction, IsLiteral, IsNumber, IsNumberLiteral, IsNumeralOf, NumberOutOfRange, Numbers, whole_numbers, all_numbers, as_literal, begins_int, billionths, held_as, held_or, literal_of, number, read_signed, read_number, scan, sign_text, ints, nat_le, cases_Bool, none-some, subst, Literal, append-nil, drop, length, Option, None, Some, ℤ, pos, if◌then◌else◌, ◌+◌, ◌-◌, ◌*◌, ◌^◌, ◌≤◌, eqb-true, ◌<◌, Err, encode_utf8, encode_ascii, ◌==◌, ◌≡◌, ℕ, Bool, true, false, List, [], ◌∷◌, ◌++◌, Ok, refl, sym, ap, ◌∙◌, inl, inr, arith, append_assoc, begins, is_digit, is_exponent, is_sign, is_at, byte_count, front, Parsed, with_front, after_first, AreDigits, AreSignedDigits, IsExponent, IsNumeral, IsPlaces, read_some_digits, read_places, read_signed_digits, read_exponent, read_numeral, ExponentOrEmptyFraction, LongHand, plain_held, most_billionths, held_decimal, neg_ℤ, digits_value, leb-true, ok_or, literal_view}
+use Rattle.serde_json_path_parser.proofs.Words.{past, refusal_at, FractionTooLong, read_fraction, read_amount, AllPass, fraction_of, Ghosts, Reader, Failure, Refused, IsAsRead, left, option_map, refusal, Amount, IsAmount, IsFraction, IsLiteral, IsNumber, IsNumberLiteral, IsNumeralOf, NumberOutOfRange, Numbers, whole_numbers, all_numbers, as_literal, begins_int, billionths, held_as, held_or, literal_of, number, read_signed, read_number, scan, sign_text, ints, nat_le, cases_Bool, none-some, subst, Literal, append-nil, drop, length, Option, None, Some, ℤ, pos, if◌then◌else◌, ◌+◌, ◌-◌, ◌*◌, ◌^◌, ◌≤◌, eqb-true, Err, ◌==◌, ◌≡◌, ℕ, Bool, true, false, List, [], ◌∷◌, ◌++◌, Ok, refl, sym, ap, ◌∙◌, inl, inr, arith, append_assoc, begins, is_digit, is_exponent, is_sign, is_at, byte_count, front, Parsed, with_front, after_first, AreDigits, AreSignedDigits, IsExponent, IsNumeral, IsPlaces, read_some_digits, read_places, read_signed_digits, read_exponent, read_numeral, ExponentOrEmptyFraction, LongHand, plain_held, most_billionths, held_decimal, neg_ℤ, digits_value, leb-true, ok_or, literal_view}
 use Rattle.serde_json_path_parser.proofs.Reading.{whole, front_all, past_run, begins_where, differs, after_one, Plain, OutcomeIn, Outcome, gives, choose, guarded, refused, onward, past_in, made, after_in, weaker}
 use Rattle.serde_json_path_parser.proofs.Grammar.Numbers.{whole_outcome, whole_again, digits_are, digit_begins, AsText, goes_on, no_part, front_are_digits, digits_begin, whole_text_outcome, whole_text_again, decimal_first}
 use Rattle.serde_json_path_syntax.specs.declared.literal.Literal as declared
@@ -70,24 +70,15 @@ digits_again start t rest is e = rw (digits_begin t rest is, front_all is_digit 
 
 places_again : (start : ℕ) (t rest : List ℕ) → IsPlaces t → begins is_digit rest ≡ false → is_at "." rest ≡ false → read_places start (t ++ rest) ≡ Ok (t, rest)
 unfolding read_places
-places_again start t rest is e none = elim is [
-  | inl empty ↦ rw (empty, none) refl
-  | inr some ↦ rw (some.2, digits_again start some.0 rest some.1 e) refl
-]
+places_again start t rest is e none = grind (arith, digits_again)
 
 signed_again : (start : ℕ) (t rest : List ℕ) → AreSignedDigits t → begins is_digit rest ≡ false → read_signed_digits start (t ++ rest) ≡ Ok (t, rest)
 unfolding read_signed_digits
-signed_again start t rest is e = elim is [
-  | inl are ↦ rw (begins_where is_digit is_sign false (t ++ rest) (λ c d. grind (arith, d)) (digits_begin t rest are), digits_again start t rest are e) refl
-  | inr some ↦ rw (some.4, some.2, digits_again start some.1 rest some.3 e) refl
-]
+signed_again start t rest is e = grind (arith, digits_again, digits_begin, begins_where)
 
 exponent_again : (start : ℕ) (t rest : List ℕ) → IsExponent t → begins is_digit rest ≡ false → begins is_exponent rest ≡ false → read_exponent start (t ++ rest) ≡ Ok (t, rest)
 unfolding read_exponent
-exponent_again start t rest is e none = elim is [
-  | inl empty ↦ rw (empty, none) refl
-  | inr some ↦ rw (some.4, some.2, signed_again start some.1 rest some.3 e) refl
-]
+exponent_again start t rest is e none = grind (arith, signed_again)
 
 -- no digit stands after a whole number, whatever follows
 no_digit : (t rest : List ℕ) → IsPlaces t → begins is_digit rest ≡ false → begins is_digit (t ++ rest) ≡ false
@@ -117,11 +108,7 @@ fraction_parts t n (inr (ds, same, passes, some, few, worth)) = rw same (inr (ds
 
 fraction_again : (start : ℕ) (t : List ℕ) (n : ℕ) (rest : List ℕ) → IsFraction t n → begins goes_on rest ≡ false → read_fraction start (t ++ rest) ≡ Ok (n, rest)
 unfolding read_fraction
-fraction_again start t n rest is e =
-    let (digit, point, exponent) = no_part rest e in
-    let (places, passes, few, worth, has_point, split, none) = fraction_parts t n is in
-    let judged : nat_le (length (drop 1 t)) 9 ≡ true = grind (arith, few) in
-    rw (places_again start t rest places digit point, exponent, judged, worth) refl
+fraction_again start t n rest is e = grind (arith, fraction_parts, no_part, places_again)
 
 amount_again : (start t : List ℕ) (n : ℕ) (rest : List ℕ) → IsAmount t n → begins goes_on rest ≡ false → read_amount (byte_count start) (t ++ rest) ≡ Ok (n, rest)
 unfolding read_amount

@@ -112,10 +112,7 @@ accepted_read rule signature cs (query root segs) h = let r = h.reads in (segs, 
 
 -- a text is accepted with one tree at most
 pub one_tree_at_most : OneTreeAtMost
-one_tree_at_most rule signature text p q h g =
-    let r = accepted_read rule signature text p h in
-    let s = accepted_read rule signature text q g in
-    r.1 ∙ ap (query root) (ok_is r.0 s.0 (sym r.2 ∙ s.2)) ∙ sym s.1
+one_tree_at_most rule signature text p q h g = grind (arith, accepted_read, ok_is)
 
 -- ---- what needs no memory
 

@@ -1,17 +1,15 @@
 -- What reads by whole numbers reads by all numbers, part by part.
-use Rattle.serde_json_path_parser.proofs.Words.{billionths, Query, query, Segments, no_segments, segment, SegmentKind, Segment, long_hand, Selectors, no_selectors, selector, Selector, filter, LogicalOr, no_or, or, LogicalAnd, no_and, and, Basic, paren, relation, test, Operand, literal, queried, called, Call, call, Arguments, no_arguments, argument, Argument, operand, logical_argument, Literal, number, truth, whole_numbers, all_numbers, MayBeArgument, Reads, ReadSegments, ReadsSegment, ReadSelectors, ReadMoreSelectors, ReadsSelector, ReadsOr, ReadMoreOrs, ReadsAnd, ReadMoreAnds, ReadsBasic, ReadsOperand, ReadsCall, ReadArguments, ReadMoreArguments, ReadsArgument, Negated, IsLiteral, ℕ, List, Bool, true, false, AllNumbersReadMore, decimal_literal}
+use Rattle.serde_json_path_parser.proofs.Words.{billionths, Query, query, Segments, no_segments, segment, SegmentKind, Segment, long_hand, Selectors, no_selectors, selector, Selector, filter, LogicalOr, no_or, or, LogicalAnd, no_and, and, Basic, paren, relation, test, Operand, literal, queried, called, call, Arguments, no_arguments, argument, Argument, operand, logical_argument, Literal, number, whole_numbers, all_numbers, MayBeArgument, Reads, ReadSegments, ReadsSegment, ReadMoreSelectors, ReadsSelector, ReadsOr, ReadMoreOrs, ReadsAnd, ReadMoreAnds, ReadsBasic, ReadsOperand, ReadMoreArguments, ReadsArgument, Negated, IsLiteral, ℕ, List, Bool, true, false, AllNumbersReadMore, decimal_literal}
 use Rattle.serde_json_path_parser.proofs.Grammar.Numerals.{as_numeral}
 
 literal_more : (l : Literal) (t : List ℕ) → IsLiteral whole_numbers l t → IsLiteral all_numbers l t
 literal_more (number b) t h = as_numeral whole_numbers t (billionths b) h
 literal_more (decimal_literal d) t h = absurd h
-literal_more (truth true) t h = h
 literal_more _ t h = h
 
 -- by all numbers each operand may be an argument
 any_argument : (o : Operand) → MayBeArgument all_numbers o
 any_argument (literal (number b)) = tt
-any_argument (literal _) = tt
 any_argument _ = tt
 
 negated_more : {Is More : List ℕ → Type 0} (negated : Bool) (t : List ℕ) → ((a : List ℕ) → Is a → More a) → Negated negated Is t → Negated negated More t
@@ -27,12 +25,9 @@ mutual
   segments_more (segment kind seg more) t (k, a, b, blank, is, are, e) = (k, a, b, blank, segment_more seg kind a is, segments_more more b are, e)
 
   segment_more : (seg : Segment) (kind : SegmentKind) (t : List ℕ) → ReadsSegment whole_numbers seg kind t → ReadsSegment all_numbers seg kind t
-  segment_more (long_hand sels) kind t (j, a, k, before, are, after, e) = (j, a, k, before, selectors_more sels a are, after, e)
+  segment_more (long_hand no_selectors) kind t (j, a, k, before, none, after, e) = absurd none
+  segment_more (long_hand (selector sel more)) kind t (j, a, k, before, (b, c, is, are, split), after, e) = (j, a, k, before, (b, c, selector_more sel b is, further_selectors more c are, split), after, e)
   segment_more _ kind t h = h
-
-  selectors_more : (sels : Selectors) (t : List ℕ) → ReadSelectors whole_numbers sels t → ReadSelectors all_numbers sels t
-  selectors_more no_selectors t h = h
-  selectors_more (selector sel more) t (a, b, is, are, e) = (a, b, selector_more sel a is, further_selectors more b are, e)
 
   further_selectors : (sels : Selectors) (t : List ℕ) → ReadMoreSelectors whole_numbers sels t → ReadMoreSelectors all_numbers sels t
   further_selectors no_selectors t h = h
@@ -66,14 +61,8 @@ mutual
   operand_more : (o : Operand) (t : List ℕ) → ReadsOperand whole_numbers o t → ReadsOperand all_numbers o t
   operand_more (literal l) t h = literal_more l t h
   operand_more (queried q) t h = query_more q t h
-  operand_more (called c) t h = call_more c t h
-
-  call_more : (c : Call) (t : List ℕ) → ReadsCall whole_numbers c t → ReadsCall all_numbers c t
-  call_more (call f args) t (n, j, a, k, is, before, are, after, e) = (n, j, a, k, is, before, arguments_more args a are, after, e)
-
-  arguments_more : (args : Arguments) (t : List ℕ) → ReadArguments whole_numbers args t → ReadArguments all_numbers args t
-  arguments_more no_arguments t h = h
-  arguments_more (argument x more) t (a, b, is, are, e) = (a, b, argument_more x a is, further_arguments more b are, e)
+  operand_more (called (call f no_arguments)) t h = h
+  operand_more (called (call f (argument x more))) t (n, j, a, k, is, before, (b, c, first, are, split), after, e) = (n, j, a, k, is, before, (b, c, argument_more x b first, further_arguments more c are, split), after, e)
 
   further_arguments : (args : Arguments) (t : List ℕ) → ReadMoreArguments whole_numbers args t → ReadMoreArguments all_numbers args t
   further_arguments no_arguments t h = h

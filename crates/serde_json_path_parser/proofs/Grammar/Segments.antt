@@ -1,5 +1,5 @@
 -- Selectors, brackets with them, and segments: what is read is in the grammar, what is in the grammar is read, where a refusal stands.
-use Rattle.serde_json_path_parser.proofs.Words.{Numbers, ℤ, ◌==◌, append-nil, Slice, Selector, slice, index, IsBound, IsSliceStep, IsSlice, false_from_ne_true, begins, is_blank, is_digit, IsBlank, IsInt, Parsed, past_blanks, begins_int, read_bound, read_step, read_slice, read_index_or_slice, read_selector, None, name, wildcard, filter, IsQuote, read_quoted, read_string, Signature, codes, SegmentKind, long_hand, Selectors, no_selectors, selector, ExpectedClosingBracket, ReadSelectors, ReadMoreSelectors, dots_before_bracket, read_next_selector, read_selectors, selector_list, read_bracket, Deeper, AreTypedSelectors, selectors_depth, is_at, length-append, child, descendant, Segments, no_segments, segment, Segment, dot_name, dot_wildcard, BadMemberName, is_name_first, is_name_char, IsName, Joined, opens, dots_before_name, front, many, after_dot, read_name, read_dotted, read_descendant, read_after_dot, read_segment, opens_next, read_next_segment, read_segments, segment_list, ◌≡◌, ◌≤◌, ℕ, inl, inr, true, false, true≢false, List, [], ◌∷◌, ◌++◌, drop, Option, Some, Ok, refl, sym, ap, subst, ◌∙◌, append_assoc, arith, ◌<◌, length, LongHand, read_filter, Context}
+use Rattle.serde_json_path_parser.proofs.Words.{Numbers, ℤ, ◌==◌, append-nil, Slice, Selector, slice, index, IsBound, IsSliceStep, IsSlice, false_from_ne_true, begins, is_blank, is_digit, IsBlank, IsInt, Parsed, past_blanks, begins_int, read_bound, read_step, read_slice, read_index_or_slice, read_selector, None, name, wildcard, filter, IsQuote, read_quoted, read_string, Signature, codes, SegmentKind, long_hand, Selectors, no_selectors, selector, ExpectedClosingBracket, ReadSelectors, ReadMoreSelectors, dots_before_bracket, read_next_selector, read_selectors, selector_list, read_bracket, Deeper, AreTypedSelectors, selectors_depth, is_at, length-append, child, descendant, Segments, no_segments, segment, Segment, dot_name, dot_wildcard, is_name_first, is_name_char, IsName, Joined, opens, dots_before_name, many, after_dot, read_name, read_dotted, read_descendant, read_after_dot, read_segment, opens_next, read_next_segment, read_segments, segment_list, ◌≡◌, ◌≤◌, ℕ, inl, inr, true, false, true≢false, List, [], ◌∷◌, ◌++◌, drop, Option, Some, Ok, refl, sym, ap, subst, ◌∙◌, append_assoc, arith, ◌<◌, length, LongHand, read_filter, Context}
 use Rattle.serde_json_path_parser.proofs.Reading.{begins_where, blanks_of, spread, differs, no_blank, past_end, no_longer, begins_not, some_begun, begins_front, begins_differs, whole, front_each, front_begins, front_all, past_run, Spaced, after_one, many_again, Plain, Inner, Outcome, gives, choose, weaker, past_text, past_spaced, along, onward, after_spaced, remade, with_blanks, after_sign, made_spaced, inner, guarded, after, read_spaced, made, many_outcome, Consumes, past_through, begins_other}
 use Rattle.serde_json_path_parser.proofs.Grammar.LogicalForms.{DeeperLaws, IsSelectorText, IsSegmentText, ends_selectors, ends_selector, filter_outcome, filter_again, AreSegmentsText}
 use Rattle.serde_json_path_parser.proofs.Grammar.Numbers.{int_outcome, int_again, int_not, int_no_blank, int_first}
@@ -82,10 +82,7 @@ parts_again start end step k b c rest blank second third closes =
     rw (past_through is_blank k (b ++ (c ++ rest)) blank, bound_again end b (c ++ rest) second (step_ends step c rest third closes), step_again step c rest third closes) refl
 
 begun_again : (t k : List ℕ) (i : ℤ) (rest : List ℕ) (s : Slice) (after : List ℕ) → IsInt t i → IsBlank k → read_slice (Some i) rest ≡ Ok (s, after) → read_index_or_slice (t ++ (k ++ (58 ∷ rest))) ≡ Ok (slice s, after)
-begun_again t k i rest s after is blank read =
-    let colon : past_blanks (k ++ (58 ∷ rest)) ≡ 58 ∷ rest = past_through is_blank k (58 ∷ rest) blank in
-    let further = ends_digits (k ++ (58 ∷ rest)) (ap (begins begins_int) colon) in
-    rw (int_again t i (k ++ (58 ∷ rest)) is further, colon, read) refl
+begun_again t k i rest s after is blank read = grind (arith, past_through, int_again, ends_digits)
 
 -- no blank begins a slice
 pub slice_no_blank : (t : List ℕ) (s : Slice) (rest : List ℕ) → IsSlice s t → begins is_blank (t ++ rest) ≡ false
@@ -128,11 +125,7 @@ module _ (read_filter : List ℕ → Parsed Selector) where
 -- ---- member names
 
 name_outcome : (at : Context) (cs : List ℕ) → Outcome IsName Plain cs (read_name at cs)
-name_outcome at cs = guarded BadMemberName at refl (λ e. gives _ (record {
-  text = front is_name_char cs;
-  is_so = record { first = front_begins is_name_char is_name_first cs (λ c h. rw h refl) e; passes = front_each is_name_char cs; bytes_of = refl };
-  split = whole is_name_char cs;
-}))
+name_outcome at cs = grind (arith, guarded, front_begins, front_each, gives, whole)
 
 name_again : (here : Context) (t n rest : List ℕ) → IsName t n → begins is_name_char rest ≡ false → read_name here (t ++ rest) ≡ Ok (n, rest)
 name_again here t n rest h e = rw (begins_front is_name_first true t rest (some_begun is_name_first t h.first) h.first, front_all is_name_char t rest h.passes e, past_run is_name_char t rest h.passes e, ← h.bytes_of) refl

@@ -1,5 +1,5 @@
 -- Numbers, slices and literals, as they are printed, read as themselves.
-use Rattle.serde_json_path_parser.proofs.Words.{AreDigits, AreSignedDigits, IsNumeral, IsNumberLiteral, held_as, Numbers, whole_numbers, all_numbers, billionths, scan, sign_text, unsigned_abs, cases_Bool, one-le-pow, ℤ, pos, negsuc, ◌-ℤ◌, decimal, signed_decimal, pow-succ', mul-sub, mul_comm, mul_assoc, nat_tests, eqb_tells, ints, pow-add, in_decimal, largest, fraction_digits, fraction_text, amount_text, number_text, begins, is_digit, AllPass, value_from, IsDecimal, IsInt, fraction_of, IsFraction, IsAmount, IsNumber, all_scalars, Slice, Literal, text, number, truth, null, integer_text, slice_step_text, slice_text, literal_text, IsBound, IsSliceStep, IsSlice, IsLiteral, ◌≡◌, ◌≤◌, ◌<◌, ◌+◌, ◌-◌, ◌*◌, ◌/◌, ◌%◌, ◌^◌, ◌==◌, ℕ, zero, suc, inl, inr, Bool, true, false, if◌then◌else◌, List, [], ◌∷◌, length, map, get_or, refl, sym, ap, subst, ◌∙◌, arith, ◌++◌, Option, Some, None, codes, append_assoc, append-nil, held_in_range, read_back, Decimal, decimal_text, has_point, place_digits, size_text, held_decimal, decimal_literal, IsLiteralAmount, div-le_self, div-lt_iff_lt-mul, mod-lt}
+use Rattle.serde_json_path_parser.proofs.Words.{AreDigits, AreSignedDigits, IsNumeral, IsNumberLiteral, held_as, Numbers, whole_numbers, all_numbers, billionths, scan, sign_text, unsigned_abs, cases_Bool, one-le-pow, ℤ, pos, negsuc, ◌-ℤ◌, decimal, signed_decimal, pow-succ', nat_tests, eqb_tells, ints, in_decimal, largest, fraction_digits, fraction_text, amount_text, number_text, begins, is_digit, AllPass, value_from, IsDecimal, IsInt, fraction_of, IsFraction, IsAmount, IsNumber, all_scalars, Slice, Literal, text, number, truth, null, integer_text, slice_step_text, slice_text, literal_text, IsBound, IsSliceStep, IsSlice, IsLiteral, ◌≡◌, ◌≤◌, ◌<◌, ◌+◌, ◌-◌, ◌*◌, ◌/◌, ◌%◌, ◌^◌, ◌==◌, ℕ, zero, suc, inl, inr, Bool, true, false, if◌then◌else◌, List, [], ◌∷◌, length, map, get_or, refl, sym, ap, subst, ◌∙◌, arith, ◌++◌, Option, Some, None, codes, append_assoc, append-nil, held_in_range, read_back, Decimal, decimal_text, has_point, place_digits, size_text, held_decimal, decimal_literal, IsLiteralAmount, div-le_self, div-lt_iff_lt-mul, mod-lt}
 use Rattle.std.specs.Int.Digits.{digits_of, number_from_digits_after, AllBelowBase}
 use Rattle.std.proofs.lemmas.Fmt.{decimal_digit, decimal-digits_of}
 use Rattle.std.proofs.lemmas.Int.Digits.{all_below_base_digits_of, first_digits_of, number_digits_of}

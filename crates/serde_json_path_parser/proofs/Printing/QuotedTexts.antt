@@ -105,10 +105,7 @@ letter_printed c d letter same low piece = (subst (IsPiece 39 (92 ∷ letter ∷
 
 -- a digit that is printed has its value
 hexadecimal_of-digit_char : (d : ℕ) → d < 16 → hexadecimal_of (digit_char d) ≡ Some d
-hexadecimal_of-digit_char d small = elim (cases_lt d 10) [
-  | inl digit ↦ rw (lt-ltb d 10 digit) (grind (arith, digit))
-  | inr letter ↦ rw (le-ltb d 10 letter) (grind (arith, letter, small))
-]
+hexadecimal_of-digit_char d small = grind (arith, cases_lt, le-ltb)
 
 digit_char_ascii : (d : ℕ) → d < 16 → digit_char d < 128
 digit_char_ascii d small = grind (arith, nat_tests)
@@ -180,9 +177,7 @@ hex4_small text n (a, b, c, d, p, q, r, s, split, e, f, g, h, value) =
     omega (arith, value, hexadecimal_small a p e, hexadecimal_small b q f, hexadecimal_small c r g, hexadecimal_small d s h)
 
 high_scalar : (c : ℕ) → 0xdfff < c → c < 0x110000 → IsScalar c
-high_scalar c low high =
-    let from : nat_le 0xe000 c ≡ true = grind (arith, low) in
-    rw (le-ltb c 0xd800 (omega (arith, low)), from, lt-ltb c 0x110000 high) refl
+high_scalar c low high = grind (arith, le-ltb)
 
 letter_scalar : (letter c : ℕ) → escaped_by letter ≡ Some c → IsScalar c
 letter_scalar letter c e = let ascii : c < 128 = grind (arith, e) in low_scalar c (omega (arith, ascii))

@@ -49,6 +49,7 @@ fn character(code: u32) -> char
 /// The character that begins at an index with this byte and takes two bytes or more, and how many it takes.
 // Out of line, so that characters of one byte, the most frequent ones, are read in few steps.
 #[inline(never)]
+#[tactic(auto, using(crate::proofs::Texts::four))]
 pub(crate) fn wide_character_at<S: PathSource>(
     source: &mut S,
     index: usize,

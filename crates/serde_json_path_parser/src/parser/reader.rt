@@ -30,9 +30,10 @@ pub(crate) struct Reader<'s, S: PathSource> {
 }
 
 impl<'s, S: PathSource> Reader<'s, S> {
-    ghost use Rattle.serde_json_path_parser.specs.Inside.Words.{◌==◌, ◌-◌, ◌^◌, ◌∷◌, ℕ, max, None, Some, IfOk, IsTrue, is_ok, string_bytes, ◌++◌, chars, IsScalar, Stretched, begins_operator, is_ascii, IsAhead, begins, begins_both, is_blank, is_digit, is_name_first, is_name_char, begins_test, is_small_letter, is_function_char, front, past, is_exponent, is_sign, is_hexadecimal, is_letter_escape, is_control, is_inside, encode_utf8_all, byte_count, refusal, past_blanks, is_first_digit, begins_int, opens, ◌∈◌, observed, left, seen, Moves, StopsNear, ends_argument};
+    ghost use Rattle.serde_json_path_parser.specs.Inside.Words.{◌==◌, ◌-◌, ◌∷◌, ℕ, max, None, Some, IfOk, IsTrue, is_ok, string_bytes, ◌++◌, chars, IsScalar, Stretched, begins_operator, is_ascii, IsAhead, begins, begins_both, is_blank, is_digit, is_name_first, is_name_char, begins_test, is_small_letter, is_function_char, front, past, is_exponent, is_sign, is_hexadecimal, is_letter_escape, is_control, is_inside, encode_utf8_all, byte_count, refusal, past_blanks, is_first_digit, begins_int, opens, ◌∈◌, observed, left, seen, Moves, StopsNear, ends_argument};
 
     /// A reader at the start of a text.
+    #[tactic(auto, using(crate::proofs::Texts::of_bytes))]
     pub(crate) fn new(source: &'s mut S) -> Reader<'s, S>
         requires { length (S.observed source.old).text < greatest_usize }
         ensures same_source { result.source.ghost_name ≡ source.entry.ghost_name }
@@ -63,6 +64,7 @@ impl<'s, S: PathSource> Reader<'s, S> {
 
     /// Takes the next character.
     #[inline(always)]
+    #[tactic(auto, using(crate::proofs::Texts::of_bytes))]
     pub(crate) fn take_char(&mut self) -> char
         requires { 0 < length (left self.old) }
         ensures value { left self.old ≡ result ∷ left self.new }
@@ -120,6 +122,7 @@ impl<'s, S: PathSource> Reader<'s, S> {
     }
 
     /// How many bytes are left.
+    #[tactic(auto, using(crate::proofs::Texts::of_bytes))]
     pub(crate) fn bytes_left(&self) -> usize
         ensures value { result ≡ byte_count (left self.now) }
         ensures sum { result + self.now.index ≡ length (observed self.now).text }
@@ -290,6 +293,7 @@ impl<'s, S: PathSource> Reader<'s, S> {
     }
 
     /// Takes the characters of a member name that are next, and appends them to a text.
+    #[tactic(auto, using(crate::proofs::Texts::of_bytes))]
     pub(crate) fn take_name_chars(&mut self, text: &mut String) -> Result<(), AllocError>
         ensures moves { Moves self.old self.new }
         ensures text { IfOk result (λ u. string_bytes text.new
@@ -325,6 +329,7 @@ impl<'s, S: PathSource> Reader<'s, S> {
     /// Takes one or more characters of a class, the first of which is next, and appends them to a text.
     // Out of line, so that a loop that takes one character at a time keeps its registers.
     #[inline(never)]
+    #[tactic(auto, using(crate::proofs::Texts::of_bytes))]
     pub(crate) fn take_stretch<C: Class>(
         &mut self,
         class: &C,

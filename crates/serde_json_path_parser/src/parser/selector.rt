@@ -1,6 +1,6 @@
 //! Selectors.
 
-ghost use Rattle.serde_json_path_parser.specs.Inside.Words.{◌≡◌, ℕ, List, Option, a_selector, Signature, Makes, MakesSelectors, MovesTo, read_filter, signatures, left, begins, IsQuote, read_index_or_slice, read_quoted, read_selector, read_selectors};
+ghost use Rattle.serde_json_path_parser.specs.Inside.Words.{ℕ, List, Option, a_selector, Signature, Makes, MakesSelectors, MovesTo, read_filter, signatures, left, IsQuote, read_index_or_slice, read_quoted, read_selector, read_selectors};
 
 use crate::error::Failure;
 use crate::parser::Parser;

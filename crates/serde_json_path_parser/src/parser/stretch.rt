@@ -91,6 +91,7 @@ fn gather<S: PathSource, C: Class>(
 }
 
 /// Appends ASCII characters to a text.
+#[tactic(auto, using(crate::proofs::Texts::of_bytes))]
 fn push_ascii(text: &mut String, bytes: &[u8]) -> Result<(), AllocError>
     requires { IsAscii bytes.now }
     ensures { string_bytes text.new
@@ -103,6 +104,7 @@ fn push_ascii(text: &mut String, bytes: &[u8]) -> Result<(), AllocError>
 /// Returns where they end, and the byte there.
 // Out of line, so that no other function keeps room for the gathered characters.
 #[inline(never)]
+#[tactic(auto, using(crate::proofs::Texts::of_bytes))]
 pub(crate) fn push_stretch<S: PathSource, C: Class>(
     source: &mut S,
     index: usize,

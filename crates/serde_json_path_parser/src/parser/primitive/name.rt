@@ -1,6 +1,6 @@
 //! Member names.
 
-ghost use Rattle.serde_json_path_parser.specs.Inside.Words.{◌≡◌, string_bytes, IsAsRead, MovesTo, left, read_name};
+ghost use Rattle.serde_json_path_parser.specs.Inside.Words.{string_bytes, IsAsRead, MovesTo, left, read_name};
 
 use crate::error::{Context, Failure, ParseErrorKind as Kind};
 use crate::parser::reader::Reader;

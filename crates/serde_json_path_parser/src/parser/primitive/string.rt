@@ -1,6 +1,6 @@
 //! String literals.
 
-ghost use Rattle.serde_json_path_parser.specs.Inside.Words.{◌≡◌, ◌==◌, ◌<◌, ◌≤◌, ◌+◌, ◌^◌, ℕ, List, length, true, IfOk, string_bytes, IsScalar, IsAsRead, MovesTo, left, begins, IsQuote, read_hexadecimal, read_hex4, is_high, read_low, read_unicode, read_piece, is_inside, read_string};
+ghost use Rattle.serde_json_path_parser.specs.Inside.Words.{◌≡◌, ◌<◌, ◌+◌, true, IfOk, string_bytes, IsAsRead, MovesTo, left, begins, IsQuote, read_hexadecimal, read_hex4, is_high, read_low, read_unicode, read_piece, is_inside, read_string};
 
 use crate::error::{Context, Failure, ParseErrorKind as Kind};
 use crate::parser::reader::Reader;

@@ -1,8 +1,7 @@
-use Rattle.serde_json_path_parser.proofs.Reading.{first_fails, no_longer, with_none}
+use Rattle.serde_json_path_parser.proofs.Reading.{first_fails, no_longer}
 use Rattle.serde_json_path_parser.proofs.Texts.{is_ahead}
-use Rattle.serde_json_path_parser.proofs.Words.{numbers_view, drop, ◌∙◌, [], Err, refl, sym, ap, option_map, arith, true≢false, past_blanks, string_bytes, nil_from_length, err_from_is_err_and, literal_view, operator_view, an_operand, logical_argument, call, signature_view, and_list, or_list, signatures, deeper, begins, is_at, opens, literal, called, left, common_steps, selector_list, read_segments, segment_list, read_named_call, queried, AreAndPartsOf, AreOrPartsOf, AreSelectorsOf, map, kind_view, read_argument, segment_kind_view, query_kind_view, operand, true, false, paren, query, long_hand, relation, filter}
-use Rattle.serde_json_path_parser.specs.Inside.Giving.{read_filter}
-use Rattle.serde_json_path_parser.proofs.Steps.{number_reads, no_literal, operand_of, comparable_read, none_made, one_more, first_refused, first_open, literal_word_reads, level_down, at_mark, grows_none, grows_leaf, grows_kept, grows_then, grows_call, grown_so, made_as, begins_row, row_fails, row_shorter, row_goes_on, row_done, segments_stand, selectors_stand, ors_stand, ands_stand, segment_shorter, some_parts}
+use Rattle.serde_json_path_parser.proofs.Words.{logical_argument, numbers_view, drop, ◌∙◌, [], Err, refl, sym, ap, option_map, arith, true≢false, past_blanks, string_bytes, err_from_is_err_and, literal_view, operator_view, an_operand, call, signature_view, and_list, or_list, signatures, deeper, is_at, literal, called, left, common_steps, selector_list, segment_list, read_named_call, queried, AreAndPartsOf, AreOrPartsOf, AreSelectorsOf, map, kind_view, read_argument, segment_kind_view, query_kind_view, operand, true, false, paren, query, long_hand, relation, filter}
+use Rattle.serde_json_path_parser.proofs.Steps.{made_as, number_reads, no_literal, operand_of, comparable_read, one_more, first_refused, first_open, level_down, at_mark, grows_none, grows_leaf, grows_kept, grows_then, grows_call, grown_so, begins_row, row_fails, row_shorter, row_goes_on, row_done, segments_stand, selectors_stand, ors_stand, ands_stand, segment_shorter, some_parts}
 use Rattle.serde_json_path_parser.proofs.parser.Parser.+filters.Goals.{parse_operand-in_default-via-in-Some+in_default+then-this-lt97, parse_operand-in_default-via-in-Some+in_default+else-this-lt97+else-this-lt123, parse_operand-in_default-via-in_default}
 use Rattle.serde_json_path_parser.proofs.parser.Parser.+filters.Goals as goal
 
@@ -41,11 +40,6 @@ parse_and_from-returns-clause-gives g t c = λ x is.
       λ before grown. grows_kept (so_far.grown before grown) c.logical_and.ensures.keeps,
     )
 
-pub parse_argument-returns-then-sees_parenthesis_or_negation-clause-gives : goal.parse_argument-returns-then-sees_parenthesis_or_negation-clause-gives
-unfolding read_argument
-parse_argument-returns-then-sees_parenthesis_or_negation-clause-gives g t c =
-    made_as _ _ _ _ (λ e. logical_argument e) _ _ _ c.parse_logical_or.result c.parse_logical_or.ensures.gives (grind (arith, common_steps)) (λ part e is. (is, tt)) (λ e grown. grown)
-
 pub parse_argument-returns-then-sees_end_of_argument-clause-gives : goal.parse_argument-returns-then-sees_end_of_argument-clause-gives
 unfolding read_argument
 parse_argument-returns-then-sees_end_of_argument-clause-gives g t c =
@@ -61,13 +55,6 @@ parse_argument-returns-clause-gives g t c =
     made_as _ _ _ _ (λ e. logical_argument e) _ _ _ c.parse_or_from.result (c.parse_or_from.ensures.gives a.0 a.1) (grind (arith, common_steps, b.2, a.2)) (λ part e is. (is, tt))
     (λ e grown. grown c.args.builder.now (a.3 c.args.builder.now (b.3 c.args.builder.now o.3)))
 
-pub parse_arguments-returns-then-sees-clause-gives : goal.parse_arguments-returns-then-sees-clause-gives
-parse_arguments-returns-then-sees-clause-gives g t c =
-    rw (sym c.sees.ensures ∙ c.if-sees.true) (none_made _ c.args.builder.now c.args.parts.now.items _ _ _ c.parse_end.ensures.gives)
-
-pub parse_arguments-arguments-init : goal.parse_arguments-arguments-init
-parse_arguments-arguments-init g t c = record { moves = grind (arith, common_steps); so_far = record { made = λ new after reader result made. rw (sym c.sees.ensures ∙ c.if-sees.false) made } }
-
 pub parse_arguments-returns-in_err-argument-clause-gives : goal.parse_arguments-returns-in_err-argument-clause-gives
 parse_arguments-returns-in_err-argument-clause-gives g t c =
     let p = err_from_is_err_and c.from_residual.result c.from_residual.ensures.1 in
@@ -79,17 +66,6 @@ parse_arguments-returns-then-not-sees_end_of_argument-clause-gives g t c =
     c.arguments.invariant.so_far.made c.arguments.builder [] c.arguments.reader (Err c.refusal.result)
     (rw c.refusal.ensures.value (first_open (numbers_view c.args.self.now.numbers) (signatures g.F.Functions.set c.args.self.now) (deeper g.F.Functions.set c.args.self.now) c.args.place (map kind_view c.arguments.types.now) (left c.arguments.reader) _ c.in_ok-argument.ensures.gives.2 (sym c.sees_end_of_argument.ensures ∙ c.if-not-sees_end_of_argument.true)))
 
-pub parse_arguments-returns-in_default-clause-gives : goal.parse_arguments-returns-in_default-clause-gives
-parse_arguments-returns-in_default-clause-gives g t c =
-    c.arguments.invariant.so_far.made c.arguments.builder [] c.arguments.reader (Err c.in_long_hand.result)
-    (rw (c.in_long_hand.ensures, nil_from_length c.arguments.types.now c.in_default.ensures.cases, c.in_ok-argument.ensures.gives.2, sym c.sees_end_of_argument.ensures ∙ c.if-not-sees_end_of_argument.false) refl)
-
-pub parse_arguments-returns-then-not-suits-clause-gives : goal.parse_arguments-returns-then-not-suits-clause-gives
-parse_arguments-returns-then-not-suits-clause-gives g t c =
-    let a = c.in_ok-argument.ensures.gives in
-    let suits = c.suits.ensures _ a.0 a.1 in
-    c.arguments.invariant.so_far.made c.arguments.builder [] c.arguments.reader (Err c.in_long_hand-then-not-suits.result) (grind (arith, common_steps, a.2, suits))
-
 pub parse_arguments-arguments-preserved : goal.parse_arguments-arguments-preserved
 parse_arguments-arguments-preserved g t c =
     let a = c.in_ok-argument.ensures.gives in
@@ -100,20 +76,10 @@ parse_arguments-arguments-preserved g t c =
       so_far = one_more a.0 c.arguments.invariant.so_far c.in_ok-push.ensures.items a.1.0 a.3 (grind (arith, common_steps, a.2, suits, further));
     }
 
-pub parse_arguments-returns-then-not-sees-clause-gives : goal.parse_arguments-returns-then-not-sees-clause-gives
-parse_arguments-returns-then-not-sees-clause-gives g t c =
-    let a = c.in_ok-argument.ensures.gives in
-    let suits = c.suits.ensures _ a.0 a.1 in
-    (one_more a.0 c.arguments.invariant.so_far c.in_ok-push.ensures.items a.1.0 a.3 (grind (arith, common_steps, a.2, suits))).made _ _ _ c.parse_end-then-not-sees.result
-    (none_made _ c.parse_argument.new.builder c.push.new.self.items _ _ _ c.parse_end-then-not-sees.ensures.gives)
-
 pub parse_basic-returns-then-sees-clause-gives : goal.parse_basic-returns-then-sees-clause-gives
 parse_basic-returns-then-sees-clause-gives g t c =
     let inner = c.in_ok-inner.ensures.gives in
     (paren false inner.0, c.in_ok-paren.ensures.made inner.0 inner.1, grind (arith, common_steps), grows_kept inner.3 c.paren.ensures.keeps)
-
-pub parse_basic_from-returns-in_default-clause-gives : goal.parse_basic_from-returns-in_default-clause-gives
-parse_basic_from-returns-in_default-clause-gives g t c = λ x is. rw (c.in_default.ensures.value, ← c.in_default.ensures.stays refl) (c.as_test.ensures.gives x is)
 
 pub parse_basic_from-relation-requires-clause-left : goal.parse_basic_from-relation-requires-clause-left
 parse_basic_from-relation-requires-clause-left g t c =
@@ -143,10 +109,6 @@ parse_bracket-returns-clause-gives g t c =
     let read = c.in_ok-selectors.ensures.gives in
     let sels = selector_list read.0 in
     ((segment_kind_view c.args.kind, long_hand sels), c.in_ok-long_hand.ensures.made sels read.1, grind (arith, common_steps), grows_kept read.3 c.long_hand.ensures.keeps)
-
-pub parse_call-returns-in_default-clause-gives : goal.parse_call-returns-in_default-clause-gives
-parse_call-returns-in_default-clause-gives g t c =
-    rw (level_down (numbers_view c.args.self.now.numbers) (signatures g.F.Functions.set c.args.self.now) c.args.self.now.depth _ (omega (arith, c.if-self-eq0.false)) refl) (grind (arith, common_steps))
 
 pub parse_call-returns-in_err-parse_arguments-clause-gives : goal.parse_call-returns-in_err-parse_arguments-clause-gives
 parse_call-returns-in_err-parse_arguments-clause-gives g t c =
@@ -182,11 +144,6 @@ parse_named-returns-then-sees-clause-gives g t c =
       grows_kept k.3 c.called.ensures.keeps,
     )
 
-pub parse_named-returns-in-Some-clause-gives : goal.parse_named-returns-in-Some-clause-gives
-parse_named-returns-in-Some-clause-gives g t c =
-    let reads = literal_word_reads (left c.args.reader.now) in
-    (literal (literal_view c.in-Some.literal), (c.in_ok-literal-in-Some.ensures.made, tt), grind (arith, common_steps, reads), grows_leaf c.literal.ensures.keeps)
-
 pub parse_negated-returns-then-sees-clause-gives : goal.parse_negated-returns-then-sees-clause-gives
 parse_negated-returns-then-sees-clause-gives g t c =
     let inner = c.in_ok-inner.ensures.gives in
@@ -207,16 +164,6 @@ parse_negated-returns g t c =
       moves = record { moves = c.parse_operand.ensures.moves.moves; near = c.as_test.ensures.near };
       gives = rw (sym c.sees.ensures ∙ c.if-sees.false, sym c.sees_test.ensures ∙ c.if-not-sees_test.false, o.2, sym c.bytes_left-place.ensures.value, tests) made;
     }
-
-pub parse_operand-returns-in-Some-eq39-clause-gives : goal.parse_operand-returns-in-Some-eq39-clause-gives
-parse_operand-returns-in-Some-eq39-clause-gives g t c =
-    let begun = is_ahead 39 _ _ (omega arith) c.in-Some-eq39.ensures (grind (arith, common_steps)) in
-    rw (ap (is_at "'") begun) (c.parse_text.ensures.gives _)
-
-pub parse_operand-returns-in-Some-eq34-clause-gives : goal.parse_operand-returns-in-Some-eq34-clause-gives
-parse_operand-returns-in-Some-eq34-clause-gives g t c =
-    let begun = is_ahead 34 _ _ (omega arith) c.in-Some-eq34.ensures (grind (arith, common_steps)) in
-    rw (ap (is_at "'") begun, ap (is_at "\"") begun) (c.parse_text-in-Some-eq34.ensures.gives _)
 
 pub parse_operand-returns-in_ok-queried-in-Some-eq64-clause-gives : goal.parse_operand-returns-in_ok-queried-in-Some-eq64-clause-gives
 parse_operand-returns-in_ok-queried-in-Some-eq64-clause-gives g t c =
@@ -271,39 +218,11 @@ parse_query-returns-clause-gives g t c =
     let segs = segment_list read.0 in
     (query (query_kind_view c.args.kind) segs, c.in_ok-query.ensures.made segs read.2, grind (arith, common_steps), grows_kept read.6 c.query.ensures.keeps)
 
-pub parse_segments-segments-init : goal.parse_segments-segments-init
-parse_segments-segments-init g t c = record {
-  moves = c.skip_blanks.ensures.moves;
-  none = λ e. ap (begins opens) c.skip_blanks.ensures.left ∙ e;
-  so_far = (
-    left c.args.reader.now,
-    c.bytes_left-rest.ensures.value,
-    c.skip_blanks.ensures.left,
-    record {
-      items = [];
-      are = rw c.new-parts.ensures.items tt;
-      some = omega arith;
-      reads = with_none (read_segments (read_filter g.F.Functions.set c.args.self.now) c.args.context (left c.args.reader.now));
-      grown = λ before grown. grown;
-    },
-  );
-}
-
 pub parse_segments-returns-in_err-part-clause-gives : goal.parse_segments-returns-in_err-part-clause-gives
 parse_segments-returns-in_err-part-clause-gives g t c =
     let p = err_from_is_err_and c.from_residual.result c.from_residual.ensures.1 in
     let so_far = c.segments.invariant.so_far in
     rw (p.1, p.2) (row_fails (segments_stand _ _ _ _) (grind (arith, common_steps)) so_far.2 so_far.3 c.in_err-part.field-0.0 c.in_err-part.ensures.gives)
-
-pub parse_segments-returns-in_err-part-clause-needs_no_memory : goal.parse_segments-returns-in_err-part-clause-needs_no_memory
-parse_segments-returns-in_err-part-clause-needs_no_memory g t c =
-    let p = err_from_is_err_and c.from_residual.result c.from_residual.ensures.1 in
-    rw p.1 (λ e. absurd (true≢false (sym c.segments-test.true ∙ c.sees_segment.ensures ∙ c.segments.invariant.none e)))
-
-pub parse_segments-returns-in_err-push-clause-needs_no_memory : goal.parse_segments-returns-in_err-push-clause-needs_no_memory
-parse_segments-returns-in_err-push-clause-needs_no_memory g t c =
-    let p = err_from_is_err_and c.from_residual-in_err-push.result c.from_residual-in_err-push.ensures.1 in
-    rw p.1 (λ e. absurd (true≢false (sym c.segments-test.true ∙ c.sees_segment.ensures ∙ c.segments.invariant.none e)))
 
 pub parse_segments-segments-smaller : goal.parse_segments-segments-smaller
 parse_segments-segments-smaller g t c =
@@ -325,11 +244,6 @@ parse_segments-returns-clause-gives g t c =
     let so_far = c.segments.invariant.so_far in
     let row = so_far.3 in
     (row.items, so_far.0, row.are, so_far.1, so_far.2, row_done (segments_stand _ _ _ _) row (grind (arith, common_steps)) refl, row.grown c.args.builder.now (grows_none c.args.builder.now))
-
-pub parse_selector-returns-in_err-test-clause-gives : goal.parse_selector-returns-in_err-test-clause-gives
-parse_selector-returns-in_err-test-clause-gives g t c =
-    let p = err_from_is_err_and c.from_residual.result c.from_residual.ensures.1 in
-    rw (p.1, p.2, at_mark (numbers_view c.args.self.now.numbers) (signatures g.F.Functions.set c.args.self.now) (deeper g.F.Functions.set c.args.self.now) (left c.args.reader.now) (sym c.sees.ensures ∙ c.if-sees.true)) (first_fails c.in_err-test.field-0.0 _ _ c.in_err-test.ensures.gives)
 
 pub parse_selector-returns-then-sees-clause-gives : goal.parse_selector-returns-then-sees-clause-gives
 parse_selector-returns-then-sees-clause-gives g t c =
@@ -373,23 +287,6 @@ pub parse_basic_from-returns-clause-made : goal.parse_basic_from-returns-clause-
 parse_basic_from-returns-clause-made g t c =
     let made = parse_basic_from-returns-clause-gives g t c c.requires.0 c.requires.1 in
     (made.0, made.1)
-
-pub parse_logical_or-returns-clause-gives : goal.parse_logical_or-returns-clause-gives
-parse_logical_or-returns-clause-gives g t c =
-    let one = c.in_ok-first.ensures.gives in
-    rw one.2 (grown_so _ _ _ _ _ c.parse_or_from.result (c.parse_or_from.ensures.gives one.0 one.1) (λ e grown. grown c.args.builder.now one.3))
-
-pub parse_logical_and-returns-clause-gives : goal.parse_logical_and-returns-clause-gives
-parse_logical_and-returns-clause-gives g t c =
-    let one = c.in_ok-first.ensures.gives in
-    rw one.2 (grown_so _ _ _ _ _ c.parse_and_from.result (c.parse_and_from.ensures.gives one.0 one.1) (λ e grown. grown c.args.builder.now one.3))
-
-pub parse_basic-returns-clause-gives : goal.parse_basic-returns-clause-gives
-parse_basic-returns-clause-gives g t c =
-    let o = c.in_ok-operand.ensures.gives in
-    let made = rw c.bytes_left-place.ensures.value at (c.parse_basic_from.ensures.gives o.0 o.1) in
-    rw (sym c.sees.ensures ∙ c.if-sees.false, sym c.sees-2.ensures ∙ c.if-sees-2.false, o.2)
-    (grown_so _ _ _ _ _ c.parse_basic_from.result made (λ b grown. grown c.args.builder.now o.3))
 
 pub parse_operand-returns-in_ok-literal-in_default-clause-gives : goal.parse_operand-returns-in_ok-literal-in_default-clause-gives
 parse_operand-returns-in_ok-literal-in_default-clause-gives g t c =

@@ -2,11 +2,6 @@ use Rattle.serde_json_path_parser.proofs.Words.{sym}
 use Rattle.serde_json_path_parser.proofs.Steps.{singular_by}
 use Rattle.serde_json_path_parser.proofs.parser.call.suits.Goals as goal
 
-pub returns-in-Value : goal.returns-in-Value
-returns-in-Value c = λ signature x is.
-    let l = rw c.in-Literal.is at (c.argument.ensures x is.0) in
-    rw (l, c.in-Value.is) c.may_be_argument.ensures
-
 pub returns-in-Value-wanted : goal.returns-in-Value-wanted
 returns-in-Value-wanted c = λ signature x is.
     let q = rw c.in-Query.is at (c.argument.ensures x is.0) in

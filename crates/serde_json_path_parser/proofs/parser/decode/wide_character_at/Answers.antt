@@ -25,9 +25,3 @@ overflow_add-index-3 g c = let h : c.args.index + 3 < length (g.S.PathSource.obs
 
 pub low_bits-fourth-requires : goal.low_bits-fourth-requires
 low_bits-fourth-requires g c = rw (c.low_bits-third.ensures.looks.same_text, c.low_bits-second.ensures.looks.same_text) (d.fourth (g.S.PathSource.observed c.args.source.now).text c.args.index c.args.lead c.requires.utf8 c.requires.lead c.if-first-lt240.false)
-
-pub character-requires-2 : goal.character-requires-2
-character-requires-2 g c = (d.four (g.S.PathSource.observed c.args.source.now).text c.args.index c.args.lead c.requires.utf8 c.requires.lead c.low_bits-second.result c.low_bits-third.result c.low_bits-fourth.result c.low_bits-second.ensures.value (c.low_bits-third.ensures.value ∙ rw c.low_bits-second.ensures.looks.same_text refl) (c.low_bits-fourth.ensures.value ∙ rw (c.low_bits-third.ensures.looks.same_text, c.low_bits-second.ensures.looks.same_text) refl) c.if-first-lt240.false).0
-
-pub returns-clause-decodes : goal.returns-clause-decodes
-returns-clause-decodes g c = rw c.character-2.ensures (d.four (g.S.PathSource.observed c.args.source.now).text c.args.index c.args.lead c.requires.utf8 c.requires.lead c.low_bits-second.result c.low_bits-third.result c.low_bits-fourth.result c.low_bits-second.ensures.value (c.low_bits-third.ensures.value ∙ rw c.low_bits-second.ensures.looks.same_text refl) (c.low_bits-fourth.ensures.value ∙ rw (c.low_bits-third.ensures.looks.same_text, c.low_bits-second.ensures.looks.same_text) refl) c.if-first-lt240.false).1

@@ -1,4 +1,4 @@
-use Rattle.serde_json_path_parser.proofs.Words.{nat_le, is_digit, front, left, ◌≡◌, ◌-◌, ◌≤◌, true, false, length, refl, sym, ap, ◌∙◌, arith, begins, is_exponent}
+use Rattle.serde_json_path_parser.proofs.Words.{nat_le, is_digit, front, left, ◌≡◌, ◌-◌, true, false, length, refl, sym, ◌∙◌, arith}
 use Rattle.serde_json_path_parser.proofs.Grammar.Numbers.{counted, fraction_below, fraction_is}
 use Rattle.serde_json_path_parser.proofs.Grammar.Numerals.{fraction_read}
 use Rattle.serde_json_path_parser.proofs.Reading.{front_each}
