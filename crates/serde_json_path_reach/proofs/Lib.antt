@@ -1,3 +1,5 @@
+-- the words of definitions, from one place
+pub mod Words
 -- the names of each object stand in order
 pub mod Ordered
 -- what is pending at a child, and at the end of a location

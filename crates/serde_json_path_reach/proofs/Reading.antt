@@ -1,14 +1,6 @@
 -- What a reader's loops over items and members have kept so far.
-use Rattle.std.proofs.Common.{◌≡◌, ℕ, zero, suc, ◌+◌, List, [], ◌∷◌, ◌++◌, Bool, true, false, Option, Some, None, if◌then◌else◌, ◌⊎◌, Ordering, Less, Equal, Greater, nat_cmp, is_eq, refl, sym, ap, subst, ◌∙◌, inl, inr, arith}
-use Rattle.json.specs.Token.{Token}
-use Rattle.json.specs.Json.{parse_map}
-use Rattle.serde_json.specs.Data.{Data, null, array, object, Items, no_items, item, Members, no_members, member, put}
-use Rattle.serde_json.specs.Events.{items_len}
-use Rattle.serde_json_path_nodes.specs.Location.{Step, by_name, by_position}
-use Rattle.serde_json_path_core.proofs.Words.{slice_cmp, match_ordering, is_eq-slice_cmp, bytes_eq-Decides, cases_Bool}
-use Rattle.serde_json_path_reach.specs.Inside.Bits.{is_whole}
+use Rattle.serde_json_path_reach.proofs.Words.{Bool, Data, Equal, Greater, Items, Less, List, Members, None, Option, Ordering, Some, Step, Token, [], any_kept, ap, arith, array, by_name, by_position, bytes_eq-Decides, cases_Bool, false, if◌then◌else◌, in_place, in_places, inl, inr, inside, is_eq, is_eq-slice_cmp, is_whole, item, items_inside, items_len, kept, kept_object, match_ordering, member, members_inside, nat_cmp, no_items, no_members, null, object, parse_map, put, refl, slice_cmp, subst, suc, sym, true, zero, ℕ, ◌++◌, ◌+◌, ◌∙◌, ◌∷◌, ◌≡◌, ◌⊎◌}
 use Rattle.serde_json_path_reach.proofs.Tokens.{joined, joined-nil, joined-joined}
-use Rattle.serde_json_path_reach.specs.Inside.Kept.{in_place, in_places, any_kept, kept_object, inside, items_inside, members_inside, kept}
 
 abbrev pub nulls : ℕ → Items
 nulls zero = no_items

@@ -1,16 +1,8 @@
 -- Values, items and members are read one token after another.
-use Rattle.std.proofs.Common.{◌≡◌, ℕ, ◌-◌, ◌<◌, ◌≤◌, List, ◌∷◌, length, Option, Some, None, option_map, IsSome, refl, ap, ◌∙◌, arith}
-use Rattle.json.specs.Json.{Json, Parse, parse_map, after_end_array, read_key, items, members, value}
+use Rattle.serde_json_path_reach.proofs.Words.{AreItems, AreMembers, Data, IsRead, IsSome, Items, Json, List, Members, None, Num, Option, Parse, Some, Step, Token, after_end_array, ap, arith, array, boolean, inside, item, items, items_end, items_more, leaf_of, length, members, members_end, members_more, no_items, no_members, none-some, null, number, object, of_json, option_map, parse_map, put, read_key, read_key-shorter, refl, same_Some, string, subst, value-begin_array, value-begin_object, value_is, ℕ, ◌-◌, ◌<◌, ◌∙◌, ◌∷◌, ◌≡◌, ◌≤◌}
+use Rattle.json.specs.Json.{value}
+use Rattle.serde_json.specs.Read.{number_of}
 use Rattle.json.specs.Json as json
-use Rattle.json.specs.Token.{Token}
-use Rattle.json.proofs.Grammar.{items_end, items_more, members_end, members_more, value_is, value-begin_array, value-begin_object, read_key-shorter}
-use Rattle.serde_json.specs.Data.{Data, Num, null, boolean, number, string, array, object, Items, no_items, item, Members, no_members, put}
-use Rattle.serde_json.specs.Read.{of_json, number_of}
-use Rattle.serde_json_path_core.proofs.Words.{none-some, same_Some, subst}
-use Rattle.serde_json_path_nodes.specs.Location.{Step}
-use Rattle.serde_json_path_reach.specs.Inside.Kept.{inside}
-use Rattle.serde_json_path_reach.specs.Inside.Leaves.{leaf_of}
-use Rattle.serde_json_path_reach.specs.Inside.Tokens.{IsRead, AreItems, AreMembers}
 
 module _ (p : Parse Json) (n : ℕ) (ts : List Token) where
   pub no_more_items : (r : List Token) → length ts ≤ n → after_end_array ts ≡ Some r → AreItems p n ts r no_items

@@ -1,13 +1,5 @@
 -- Lists of values and of a map's entries, as data.
-use Rattle.std.proofs.Common.{◌≡◌, ℕ, zero, suc, List, [], ◌∷◌, ◌++◌, length, arith, true, replicate, Some, Ordering, Less, Equal, Greater, nat_cmp, is_eq, cond, string_bytes, rules, refl, ap, ◌∙◌}
-use Rattle.std.specs.Map.{remove_entry}
-use Rattle.serde_json.specs.Data.{null, object, item, no_items, Members, member}
-use Rattle.serde_json.specs.View.{view, items_view, members_view}
-use Rattle.serde_json.specs.declared.value.Value.{Value, the_lemmas}
-use Rattle.serde_json.specs.declared.value.Value.TheVariants.{Null}
-use Rattle.serde_json.proofs.Views.{Entry}
-use Rattle.serde_json_path_core.proofs.Words.{slice_cmp, match_ordering, is_at}
-use Rattle.serde_json_path_reach.specs.Inside.Kept.{kept_object}
+use Rattle.serde_json_path_reach.proofs.Words.{Entry, Equal, Greater, Less, List, Members, Null, Ordering, Some, Value, [], ap, arith, cond, is_at, is_eq, item, items_view, kept_object, length, match_ordering, member, members_view, nat_cmp, no_items, null, object, refl, remove_entry, replicate, rules, slice_cmp, string_bytes, suc, the_lemmas, true, view, zero, ℕ, ◌++◌, ◌∙◌, ◌∷◌, ◌≡◌}
 use Rattle.serde_json_path_reach.proofs.Puts.{without}
 use Rattle.serde_json_path_reach.proofs.Reading.{nulls, has_items}
 use Rattle.serde_json_path_reach.proofs.Tokens.{joined, joined-joined}

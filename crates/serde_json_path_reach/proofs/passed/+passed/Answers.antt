@@ -1,9 +1,6 @@
 -- A value that is passed over is read token by token as `serde_json` reads it.
-use Rattle.std.proofs.Common.{◌≡◌, ◌-◌, ◌<◌, ◌∷◌, length, Some, None, Result, Ok, Err, OnOk, ap, ◌∙◌, subst, sym, arith}
-use Rattle.json.specs.Json.{after_end_array, read_key, value}
-use Rattle.json.specs.Reads.{token_of}
-use Rattle.serde_json.specs.Data.{Data, array, object, no_items, item, no_members, put}
-use Rattle.serde_json_path_reach.specs.Inside.Tokens.{IsRead}
+use Rattle.serde_json_path_reach.proofs.Words.{Data, Err, IsRead, None, Ok, OnOk, Result, Some, after_end_array, ap, arith, array, item, length, no_items, no_members, object, put, read_key, subst, sym, token_of, ◌-◌, ◌<◌, ◌∙◌, ◌∷◌, ◌≡◌}
+use Rattle.json.specs.Json.{value}
 use Rattle.serde_json_path_reach.proofs.Tokens.{joined, items_begun, items_on, items_ended, members_begun, members_on, members_ended, array_read, object_read, some_of, leaf_read}
 use Rattle.serde_json_path_reach.proofs.passed.+passed.Goals as goal
 

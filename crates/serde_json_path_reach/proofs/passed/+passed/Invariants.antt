@@ -1,6 +1,5 @@
-use Rattle.std.proofs.Common.{◌+◌, ◌*◌, length}
+use Rattle.serde_json_path_reach.proofs.Words.{Items, Members, length, ◌*◌, ◌+◌}
 use Rattle.json.specs.Json.{value}
-use Rattle.serde_json.specs.Data.{Items, Members}
 use Rattle.serde_json_path_reach.proofs.Tokens.{ItemsSoFar, MembersSoFar}
 use Rattle.serde_json_path_reach.proofs.passed.+passed.Given as goal
 

@@ -1,16 +1,6 @@
 -- A value of which something is kept is read token by token as `serde_json` reads it.
-use Rattle.std.proofs.Common.{◌≡◌, ℕ, suc, ◌<◌, [], ◌∷◌, length, replicate, ◌⊎◌, inl, inr, true, false, Some, None, option_map, string_bytes, refl, sym, ap, subst, ◌∙◌, arith, rules}
-use Rattle.json.specs.Json.{after_end_array, read_key, value}
-use Rattle.json.specs.Reads.{token_of}
-use Rattle.serde_json.specs.Data.{array, object, no_items, item, no_members, put}
-use Rattle.serde_json.specs.View.{view, items_view, members_view}
-use Rattle.serde_json.proofs.Views.{view-Array, view-Object, members_view-insert_entry}
-use Rattle.serde_json.specs.declared.value.Value.{Null}
-use Rattle.serde_json_path_core.proofs.Words.{common_steps}
-use Rattle.serde_json_path_nodes.specs.Location.{by_name, by_position}
-use Rattle.serde_json_path_reach.specs.Inside.Bits.{is_whole}
-use Rattle.serde_json_path_reach.specs.Inside.Kept.{kept, kept_object, members_inside}
-use Rattle.serde_json_path_reach.specs.Inside.Rows.{after}
+use Rattle.serde_json_path_reach.proofs.Words.{None, Null, Some, [], after, after_end_array, ap, arith, array, by_name, by_position, common_steps, false, inl, inr, is_whole, item, items_view, kept, kept_object, length, members_inside, members_view, members_view-insert_entry, no_items, no_members, object, option_map, put, read_key, refl, replicate, rules, string_bytes, subst, suc, sym, token_of, true, view, view-Array, view-Object, ℕ, ◌<◌, ◌∙◌, ◌∷◌, ◌≡◌, ◌⊎◌}
+use Rattle.json.specs.Json.{value}
 use Rattle.serde_json_path_reach.proofs.Plans.{if_ok}
 use Rattle.serde_json_path_reach.proofs.Puts.{without, put_kept, kept_put, rising_put}
 use Rattle.serde_json_path_reach.proofs.Reading.{AreSoFar, none_so_far, passed_one, found_one, nulls, has_items, next_place, array_dropped, array_found, object_dropped, object_found, kept_whole, kept_not, kept_there}

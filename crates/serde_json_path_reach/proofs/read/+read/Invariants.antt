@@ -1,10 +1,5 @@
-use Rattle.std.proofs.Common.{◌≡◌, ◌+◌, ◌*◌, length}
+use Rattle.serde_json_path_reach.proofs.Words.{Items, Members, after, items_len, items_view, length, members_inside, members_view, ◌*◌, ◌+◌, ◌≡◌}
 use Rattle.json.specs.Json.{value}
-use Rattle.serde_json.specs.Data.{Items, Members}
-use Rattle.serde_json.specs.Events.{items_len}
-use Rattle.serde_json.specs.View.{items_view, members_view}
-use Rattle.serde_json_path_reach.specs.Inside.Kept.{members_inside}
-use Rattle.serde_json_path_reach.specs.Inside.Rows.{after}
 use Rattle.serde_json_path_reach.proofs.Ordered.{AreRising}
 use Rattle.serde_json_path_reach.proofs.Reading.{AreSoFar}
 use Rattle.serde_json_path_reach.proofs.Tokens.{ItemsSoFar, MembersSoFar}
