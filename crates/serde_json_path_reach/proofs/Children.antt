@@ -1,12 +1,5 @@
 -- The children of what is kept of a value, and what stands at its locations.
-use Rattle.std.proofs.Common.{◌≡◌, ℕ, zero, suc, ◌+◌, List, [], ◌∷◌, true, false, Option, Some, None, option_map, Ordering, Less, Equal, Greater, nat_cmp, is_eq, bytes_eq, true≢false, refl, sym, ap, subst, ◌∙◌, inl, inr, arith}
-use Rattle.serde_json.specs.Data.{Data, array, object, Items, no_items, item, Members, no_members, member}
-use Rattle.serde_json.specs.Find.{as_array, get_item, get_member}
-use Rattle.serde_json.specs.Events.{items_len}
-use Rattle.serde_json_path_nodes.specs.Location.{Step, by_name, by_position, child_at, at}
-use Rattle.serde_json_path_core.proofs.Words.{slice_cmp, match_ordering, nat_list_cmp_total, tied_itself, is_eq-slice_cmp, none-some, same_Some, option_and_then_some, bytes_eq-Decides, cases_Bool}
-use Rattle.serde_json_path_reach.specs.Inside.Bits.{is_whole}
-use Rattle.serde_json_path_reach.specs.Inside.Kept.{in_place, in_places, any_kept, kept_array, kept_object, kept_member, inside, items_inside, members_inside, kept}
+use Rattle.serde_json_path_reach.proofs.Words.{Data, Equal, Greater, Items, Less, List, Members, None, Option, Ordering, Some, Step, [], any_kept, ap, arith, array, as_array, at, by_name, by_position, bytes_eq, bytes_eq-Decides, cases_Bool, child_at, false, get_item, get_member, in_place, in_places, inl, inr, inside, is_eq, is_eq-slice_cmp, is_whole, item, items_inside, items_len, kept, kept_array, kept_member, kept_object, match_ordering, member, members_inside, nat_cmp, nat_list_cmp_total, no_items, no_members, none-some, object, option_and_then_some, option_map, refl, same_Some, slice_cmp, subst, suc, sym, tied_itself, true, true≢false, zero, ℕ, ◌+◌, ◌∙◌, ◌∷◌, ◌≡◌}
 use Rattle.serde_json_path_reach.proofs.Ordered.{IsBelow, AreRising, IsOrdered, AreOrderedItems, AreOrderedMembers}
 use Rattle.serde_json_path_reach.proofs.Pending.{along}
 

@@ -1,16 +1,5 @@
 -- What is read of a document by a plan is a value from which the queries select the same.
-use Rattle.std.proofs.Common.{◌≡◌, ◌↔◌, ℕ, List, [], ◌∷◌, ◌++◌, flat_map, map, Some, refl, sym, subst, inl, inr}
-use Rattle.std.specs.Borrow.{Bor}
-use Rattle.serde_json.specs.Data.{Data}
-use Rattle.serde_json.specs.Read.{read}
-use Rattle.serde_json_path_syntax.specs.Lists.{IsIn}
-use Rattle.serde_json_path_syntax.specs.Tree.{kind_of, root, Query, query, segments_of, Segments}
-use Rattle.serde_json_path_syntax.specs.declared.checked.Checked.{Checked}
-use Rattle.serde_json_path_core.proofs.Words.{in_flat_map}
-use Rattle.serde_json_path_reach.specs.Alike.{SelectAlike, trees_of}
-use Rattle.serde_json_path_reach.specs.Inside.Kept.{in_place, kept}
-use Rattle.serde_json_path_reach.specs.Inside.Queries.{queries_of, queries_in_segments}
-use Rattle.serde_json_path_reach.specs.Inside.Rows.{Includes, after}
+use Rattle.serde_json_path_reach.proofs.Words.{Bor, Checked, Data, Includes, IsIn, List, Query, Segments, SelectAlike, Some, [], after, flat_map, in_flat_map, in_place, inl, inr, kept, kind_of, map, queries_in_segments, queries_of, query, read, refl, root, segments_of, subst, sym, trees_of, ℕ, ◌++◌, ◌↔◌, ◌∷◌, ◌≡◌}
 use Rattle.serde_json_path_reach.specs.Readers.{KeepsFor}
 use Rattle.serde_json_path_reach.specs.declared.document.DocumentReader.{DocumentReader}
 use Rattle.serde_json_path_reach.proofs.Puts.{ordered_read}

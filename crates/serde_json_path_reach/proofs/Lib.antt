@@ -1,3 +1,5 @@
+-- the words of definitions, from one place
+pub mod Words
 -- the names of each object stand in order
 pub mod Ordered
 -- what is pending at a child, and at the end of a location
@@ -10,10 +12,10 @@ pub mod Same
 pub mod Puts
 -- what the loops over items and members have kept so far
 pub mod Reading
--- the grammar's loops, a turn at a time
-pub mod Turns
--- values that are no arrays and no objects
-pub mod Leaves
+-- values, items and members are read one token after another
+pub mod Tokens
+-- lists of values and entries as data
+pub mod Values
 -- what is pending by the rows of a plan
 pub mod Rows
 -- a plan grows by rows

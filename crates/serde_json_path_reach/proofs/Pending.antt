@@ -1,18 +1,5 @@
 -- What is pending at a child, and at the end of a location.
-use Rattle.std.proofs.Common.{◌≡◌, ℕ, zero, suc, ℤ, pos, negsuc, List, [], ◌∷◌, ◌++◌, Bool, true, false, ◌||◌, Some, refl, ap, ◌∙◌, inl, inr, arith, eq-eqb}
-use Rattle.serde_json.specs.Data.{Data}
-use Rattle.serde_json.specs.Events.{items_len}
-use Rattle.serde_json_path_nodes.specs.Location.{Step, by_position, child_at, at}
-use Rattle.serde_json_path_functions.specs.Functions.{FunctionSet}
-use Rattle.serde_json_path_syntax.specs.Lists.{IsIn}
-use Rattle.serde_json_path_syntax.specs.Stages.{selectors_of, selectors_list}
-use Rattle.serde_json_path_syntax.specs.Tree.{current, query, Segments, no_segments, segment, SegmentKind, child, descendant, Segment, dot_name, dot_wildcard, long_hand, Selectors, no_selectors, selector, Selector, name, wildcard, index, slice, filter}
-use Rattle.serde_json_path_core.specs.Derivation.{Triple, location_of}
-use Rattle.serde_json_path_core.specs.Meaning.{MayDescend, SelectsIndex, Derives, Admits, AdmitsBy, AdmitsIn}
-use Rattle.serde_json_path_core.proofs.Words.{bytes_eq-Decides, same_Some, option_and_then_some, ints}
-use Rattle.serde_json_path_reach.specs.Inside.Bits.{is_whole}
-use Rattle.serde_json_path_reach.specs.Inside.Queries.{queries_in_segment}
-use Rattle.serde_json_path_reach.specs.Inside.Steps.{may_admit, any_may_admit}
+use Rattle.serde_json_path_reach.proofs.Words.{Admits, AdmitsBy, AdmitsIn, Bool, Data, Derives, FunctionSet, IsIn, List, MayDescend, Segment, SegmentKind, Segments, Selector, Selectors, SelectsIndex, Some, Step, Triple, [], any_may_admit, ap, arith, at, by_position, bytes_eq-Decides, child, child_at, current, descendant, dot_name, dot_wildcard, eq-eqb, false, filter, index, inl, inr, ints, is_whole, items_len, location_of, long_hand, may_admit, name, negsuc, no_segments, no_selectors, option_and_then_some, pos, queries_in_segment, query, refl, same_Some, segment, selector, selectors_list, selectors_of, slice, suc, true, wildcard, zero, ℕ, ℤ, ◌++◌, ◌||◌, ◌∙◌, ◌∷◌, ◌≡◌}
 
 -- where segments are pending, all that their derivations come by is pending after each step
 pub record Leads (after : Step → ℕ → ℕ) (Includes : ℕ → Segments → Type 0) : Type 0 where

@@ -1,17 +1,5 @@
 -- A plan grows by rows for the queries in a part of a tree.
-use Rattle.std.proofs.Common.{◌≡◌, ℕ, List, [], ◌∷◌, ◌++◌, ◌+◌, ◌<◌, ◌≤◌, length, take, drop, get_or, true, Result, Ok, Err, IfOk, ◌⊎◌, refl, sym, ap, subst, ◌∙◌, inl, inr, add-one, drop-cons, arith}
-use Rattle.std.specs.Int.Bits.{bit_or}
-use Rattle.serde_json_path_syntax.specs.Branch.{Branch, a_query, a_segment, a_selector, an_or, an_and, a_basic, an_operand, a_call}
-use Rattle.serde_json_path_syntax.specs.Flat.{branch_at, branch_in, branches_named, segments_at, segment_kind_in, segment_in, selector_in, or_in, and_in, basic_in, operand_in, call_in, argument_in, selectors_in, ors_in, ands_in, arguments_in}
-use Rattle.serde_json_path_syntax.specs.Lists.{IsIn}
-use Rattle.serde_json_path_syntax.specs.Tree.{root, current, Query, query, Segments, no_segments, segment, SegmentKind, descendant}
-use Rattle.serde_json_path_core.proofs.Words.{in_append, take_more, map-append, flat_map-append, append-nil, drop_all}
-use Rattle.serde_json_path_syntax.specs.declared.node.Node.{Node}
-use Rattle.serde_json_path_syntax.specs.declared.node.Part.{Part}
-use Rattle.serde_json_path_reach.specs.Inside.Queries.{queries_of, queries_in_segments, queries_in_segment, queries_in_selectors, queries_in_selector, queries_in_or, queries_in_and, queries_in_basic, queries_in_operand, queries_in_call, queries_in_arguments, queries_in_argument, queries_in_branch, queries_in_branches}
-use Rattle.serde_json_path_reach.specs.Inside.Rows.{Includes, IsRight, AreRight, Covers, Grows, Gains, AddsRow, kind_of_row, segment_of_row, rest_of_row}
-use Rattle.serde_json_path_reach.specs.declared.plan.Plan.{Plan}
-use Rattle.serde_json_path_reach.specs.declared.row.Row.{Row}
+use Rattle.serde_json_path_reach.proofs.Words.{AddsRow, AreRight, Branch, Covers, Err, Gains, Grows, IfOk, Includes, IsIn, IsRight, List, Node, Ok, Part, Plan, Query, Result, Row, SegmentKind, Segments, [], a_basic, a_call, a_query, a_segment, a_selector, add-one, an_and, an_operand, an_or, and_in, ands_in, ap, append-nil, argument_in, arguments_in, arith, basic_in, bit_or, branch_at, branch_in, branches_named, call_in, current, descendant, drop, drop-cons, drop_all, flat_map-append, get_or, in_append, inl, inr, kind_of_row, length, map-append, no_segments, operand_in, or_in, ors_in, queries_in_and, queries_in_argument, queries_in_arguments, queries_in_basic, queries_in_branch, queries_in_branches, queries_in_call, queries_in_operand, queries_in_or, queries_in_segment, queries_in_segments, queries_in_selector, queries_in_selectors, queries_of, query, refl, rest_of_row, root, segment, segment_in, segment_kind_in, segment_of_row, segments_at, selector_in, selectors_in, subst, sym, take, take_more, true, ℕ, ◌++◌, ◌+◌, ◌<◌, ◌∙◌, ◌∷◌, ◌≡◌, ◌≤◌, ◌⊎◌}
 use Rattle.serde_json_path_reach.proofs.Rows.{meets_itself, includes_more, includes_left, includes_right}
 
 pub if_ok : {A E : Type 0} (P Q : A → Type 0) (r : Result A E) → ((a : A) → P a → Q a) → IfOk r P → IfOk r Q

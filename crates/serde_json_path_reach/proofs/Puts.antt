@@ -1,14 +1,7 @@
 -- Reading an object's members one after another: what is kept of them grows as they do.
-use Rattle.std.proofs.Common.{◌≡◌, ℕ, List, true, Option, Some, None, option_map, option_and_then, Ordering, Less, Equal, Greater, nat_cmp, is_eq, refl, sym, ap, subst, ◌∙◌}
+use Rattle.serde_json_path_reach.proofs.Words.{Data, Equal, Greater, Items, Less, List, Members, None, Option, Ordering, Some, Step, Token, ap, array, boolean, by_name, bytes_eq-Decides, is_eq, is_eq-slice_cmp, is_whole, item, kept, kept_member, match_ordering, max_depth, member, members_inside, nat_cmp, nat_list_cmp_total, no_items, no_members, none-some, null, number, object, of_items, of_json, of_members, option_and_then, option_and_then_some, option_map, ordering_reverse, put, read, refl, same_Some, slice_cmp, string, subst, sym, tied_itself, tokens, true, ℕ, ◌∙◌, ◌≡◌}
+use Rattle.serde_json.specs.Read.{number_of}
 use Rattle.json.specs.Json as json
-use Rattle.json.specs.Lex.{tokens}
-use Rattle.json.specs.Token.{Token}
-use Rattle.serde_json.specs.Data.{Data, null, boolean, number, string, array, object, Items, no_items, item, Members, no_members, member, put}
-use Rattle.serde_json.specs.Read.{of_json, of_items, of_members, number_of, read, max_depth}
-use Rattle.serde_json_path_nodes.specs.Location.{Step, by_name}
-use Rattle.serde_json_path_core.proofs.Words.{slice_cmp, match_ordering, ordering_reverse, nat_list_cmp_total, tied_itself, is_eq-slice_cmp, bytes_eq-Decides, none-some, same_Some, option_and_then_some}
-use Rattle.serde_json_path_reach.specs.Inside.Bits.{is_whole}
-use Rattle.serde_json_path_reach.specs.Inside.Kept.{kept_member, members_inside, kept}
 use Rattle.serde_json_path_reach.proofs.Ordered.{IsBelow, AreRising, IsOrdered, AreOrderedItems, AreOrderedMembers}
 use Rattle.serde_json_path_reach.proofs.Children.{below_inside}
 

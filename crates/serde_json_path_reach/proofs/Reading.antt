@@ -1,18 +1,6 @@
 -- What a reader's loops over items and members have kept so far.
-use Rattle.std.proofs.Common.{◌≡◌, ℕ, zero, suc, ◌+◌, List, [], ◌∷◌, ◌++◌, Bool, true, false, Option, Some, None, if◌then◌else◌, ◌⊎◌, Ordering, Less, Equal, Greater, nat_cmp, is_eq, refl, sym, ap, subst, ◌∙◌, inl, inr, arith}
-use Rattle.json.specs.Token.{Token}
-use Rattle.json.specs.Json.{parse_map}
-use Rattle.serde_json.specs.Data.{Data, null, array, object, Items, no_items, item, Members, no_members, member, put}
-use Rattle.serde_json.specs.Events.{items_len}
-use Rattle.serde_json_path_nodes.specs.Location.{Step, by_name, by_position}
-use Rattle.serde_json_path_core.proofs.Words.{slice_cmp, match_ordering, is_eq-slice_cmp, bytes_eq-Decides, cases_Bool}
-use Rattle.serde_json_path_reach.specs.Inside.Bits.{is_whole}
-use Rattle.serde_json_path_reach.specs.Inside.Kept.{in_place, in_places, any_kept, kept_object, kept_member, items_inside, members_inside, kept}
-
--- the items of both
-abbrev pub joined : Items → Items → Items
-joined no_items more = more
-joined (item d ds) more = item d (joined ds more)
+use Rattle.serde_json_path_reach.proofs.Words.{Bool, Data, Equal, Greater, Items, Less, List, Members, None, Option, Ordering, Some, Step, Token, [], any_kept, ap, arith, array, by_name, by_position, bytes_eq-Decides, cases_Bool, false, if◌then◌else◌, in_place, in_places, inl, inr, inside, is_eq, is_eq-slice_cmp, is_whole, item, items_inside, items_len, kept, kept_object, match_ordering, member, members_inside, nat_cmp, no_items, no_members, null, object, parse_map, put, refl, slice_cmp, subst, suc, sym, true, zero, ℕ, ◌++◌, ◌+◌, ◌∙◌, ◌∷◌, ◌≡◌, ◌⊎◌}
+use Rattle.serde_json_path_reach.proofs.Tokens.{joined, joined-nil, joined-joined}
 
 abbrev pub nulls : ℕ → Items
 nulls zero = no_items
@@ -21,14 +9,6 @@ nulls (suc n) = item null (nulls n)
 abbrev pub has_items : Items → Bool
 has_items no_items = false
 has_items (item d ds) = true
-
-joined-nil : (ds : Items) → joined ds no_items ≡ ds
-joined-nil no_items = refl
-joined-nil (item d ds) = ap (item d) (joined-nil ds)
-
-pub joined-joined : (a b c : Items) → joined (joined a b) c ≡ joined a (joined b c)
-joined-joined no_items b c = refl
-joined-joined (item d a) b c = ap (item d) (joined-joined a b c)
 
 one_more_null : (n : ℕ) → joined (nulls n) (item null no_items) ≡ nulls (suc n)
 one_more_null zero = refl
@@ -53,21 +33,20 @@ any_kept-some [] d = refl
 any_kept-some (None ∷ os) d = any_kept-some os d
 any_kept-some (Some e ∷ os) d = refl
 
-pub items_turn : (done : Items) (d : Data) (rest : Option (Items × List Token)) → parse_map (joined done) (parse_map (item d) rest) ≡ parse_map (joined (joined done (item d no_items))) rest
-items_turn done d None = refl
-items_turn done d (Some p) = ap (λ ds. Some (ds, p.1)) (sym (joined-joined done (item d no_items) p.0))
-
-pub items_done : (done : Items) (rest : List Token) → parse_map (joined done) (Some (no_items, rest)) ≡ Some (done, rest)
-items_done done rest = ap (λ ds. Some (ds, rest)) (joined-nil done)
-
-same_text : (k l : List ℕ) → slice_cmp nat_cmp k l ≡ Equal → k ≡ l
-same_text k l e = (bytes_eq-Decides k l).0 (sym (is_eq-slice_cmp k l) ∙ ap is_eq e)
-
 pub next_place : (a : Items) (d : Data) → items_len (joined a (item d no_items)) ≡ suc (items_len a)
 next_place no_items d = refl
 next_place (item e a) d = ap suc (next_place a d)
 
 module _ (after : Step → ℕ → ℕ) where
+  pub kept_whole : (pending : ℕ) (d : Data) → is_whole pending ≡ true → kept after pending d ≡ Some d
+  kept_whole pending d e = rw e refl
+
+  pub kept_not : (pending : ℕ) (d : Data) → inside after pending d ≡ None → is_whole pending ≡ false → kept after pending d ≡ None
+  kept_not pending d i e = rw e i
+
+  pub kept_there : (pending below : ℕ) (s : Step) (d : Data) (o : Option Data) → below ≡ after s pending → o ≡ kept after below d → kept after (after s pending) d ≡ o
+  kept_there pending below s d o same k = rw (← same) (sym k)
+
   -- one more item is read
   one_more : (pending : ℕ) (i : ℕ) (done : Items) (d : Data)
       → items_inside after pending i (joined done (item d no_items)) ≡ items_inside after pending i done ++ kept after (after (by_position (i + items_len done)) pending) d ∷ []
@@ -87,12 +66,12 @@ module _ (after : Step → ℕ → ℕ) where
   none_so_far pending = record { places = refl; any = refl }
 
   -- an item of which nothing is kept
-  pub passed_one : (pending : ℕ) (done found : Items) (passed : ℕ) (d : Data) → AreSoFar pending done found passed
-      → kept after (after (by_position (items_len done)) pending) d ≡ None → AreSoFar pending (joined done (item d no_items)) found (suc passed)
-  passed_one pending done found passed d so_far dropped =
+  pub passed_one : (pending : ℕ) (done found : Items) (passed n : ℕ) (d : Data) → AreSoFar pending done found passed → items_len done ≡ n
+      → kept after (after (by_position n) pending) d ≡ None → AreSoFar pending (joined done (item d no_items)) found (suc passed)
+  passed_one pending done found passed n d so_far place dropped =
       let os = items_inside after pending 0 done in
       let next : items_inside after pending 0 (joined done (item d no_items)) ≡ os ++ None ∷ [] =
-      one_more pending 0 done d ∙ ap (λ n. os ++ kept after (after (by_position n) pending) d ∷ []) (omega arith) ∙ ap (λ o. os ++ o ∷ []) dropped in
+      one_more pending 0 done d ∙ ap (λ m. os ++ kept after (after (by_position m) pending) d ∷ []) (omega (arith, place)) ∙ ap (λ o. os ++ o ∷ []) dropped in
       record {
         places = ap in_places next ∙ in_places-append os (None ∷ []) ∙ ap (λ xs. joined xs (item null no_items)) so_far.places
             ∙ joined-joined found (nulls passed) (item null no_items) ∙ ap (joined found) (one_more_null passed);
@@ -100,32 +79,18 @@ module _ (after : Step → ℕ → ℕ) where
       }
 
   -- an item of which something is kept
-  pub found_one : (pending : ℕ) (done found : Items) (passed : ℕ) (d e : Data) → AreSoFar pending done found passed
-      → kept after (after (by_position (items_len done)) pending) d ≡ Some e
+  pub found_one : (pending : ℕ) (done found : Items) (passed n : ℕ) (d e : Data) → AreSoFar pending done found passed → items_len done ≡ n
+      → kept after (after (by_position n) pending) d ≡ Some e
       → AreSoFar pending (joined done (item d no_items)) (joined found (joined (nulls passed) (item e no_items))) 0
-  found_one pending done found passed d e so_far keeps =
+  found_one pending done found passed n d e so_far place keeps =
       let os = items_inside after pending 0 done in
       let next : items_inside after pending 0 (joined done (item d no_items)) ≡ os ++ Some e ∷ [] =
-      one_more pending 0 done d ∙ ap (λ n. os ++ kept after (after (by_position n) pending) d ∷ []) (omega arith) ∙ ap (λ o. os ++ o ∷ []) keeps in
+      one_more pending 0 done d ∙ ap (λ m. os ++ kept after (after (by_position m) pending) d ∷ []) (omega (arith, place)) ∙ ap (λ o. os ++ o ∷ []) keeps in
       record {
         places = ap in_places next ∙ in_places-append os (Some e ∷ []) ∙ ap (λ xs. joined xs (item e no_items)) so_far.places
             ∙ joined-joined found (nulls passed) (item e no_items) ∙ sym (joined-nil (joined found (joined (nulls passed) (item e no_items))));
         any = ap any_kept next ∙ any_kept-some os e ∙ sym (has_joined found (nulls passed) e);
       }
-
-  -- a member of a name of which nothing is ever kept changes nothing
-  pub passed_member : (pending : ℕ) (k : List ℕ) (d : Data) (ms : Members) → ((c : Data) → kept after (after (by_name k) pending) c ≡ None)
-      → members_inside after pending (put k d ms) ≡ members_inside after pending ms
-  passed_member pending k d no_members dropped = rw (dropped d)
-  passed_member pending k d (member l e ms) dropped = by (slice_cmp nat_cmp k l) refl (passed_member pending k d ms dropped)
-    where
-      by : (o : Ordering) → slice_cmp nat_cmp k l ≡ o → members_inside after pending (put k d ms) ≡ members_inside after pending ms
-          → members_inside after pending (match_ordering o (member k d (member l e ms)) (member l d ms) (member l e (put k d ms))) ≡ members_inside after pending (member l e ms)
-      by Less is later = rw (dropped d)
-      by Equal is later =
-          let at_l = λ (c : Data). subst (λ m. kept after (after (by_name m) pending) c ≡ None) (same_text k l is) (dropped c) in
-          ap (λ o. kept_member l o (members_inside after pending ms)) (at_l d ∙ sym (at_l e))
-      by Greater is later = ap (kept_member l (kept after (after (by_name l) pending) e)) later
 
 module _ (after : Step → ℕ → ℕ) (stays : (s : Step) (pending : ℕ) → is_whole pending ≡ true → is_whole (after s pending) ≡ true) where
   all_whole : (pending : ℕ) (i : ℕ) (ds : Items) → is_whole pending ≡ true → in_places (items_inside after pending i ds) ≡ ds

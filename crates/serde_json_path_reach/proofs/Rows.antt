@@ -1,21 +1,6 @@
 -- What is pending by the rows of a plan: what their segments come by is pending after each step.
-use Rattle.std.proofs.Common.{◌≡◌, ℕ, suc, ◌<◌, List, [], ◌∷◌, Bool, true, false, true≢false, Option, Some, None, ◌⊎◌, refl, sym, ap, subst, ◌∙◌, inl, inr, arith}
-use Rattle.std.specs.Prelude.{◌==◌, ◌||◌, min, max, if◌then◌else◌}
-use Rattle.std.specs.Int.{bit_at}
-use Rattle.std.specs.Int.Bits.{bit_and, bit_or}
-use Rattle.std.proofs.lemmas.Nat.Bits.{bit_at_and, bit_at_or, bit_at-zero, same_from_bits}
-use Rattle.serde_json.specs.Data.{Data, array, object, Items, no_items, item, Members, no_members, member}
-use Rattle.serde_json_path_nodes.specs.Location.{Step, by_name, by_position}
-use Rattle.serde_json_path_syntax.specs.Lists.{IsIn}
-use Rattle.serde_json_path_syntax.specs.Stages.{selectors_of, selectors_list}
-use Rattle.serde_json_path_syntax.specs.Tree.{current, Query, query, Segments, no_segments, segment, SegmentKind, descendant, Segment, long_hand, Selectors, no_selectors, selector, Selector, filter}
-use Rattle.serde_json_path_core.proofs.Words.{cases_Bool, in_append}
-use Rattle.serde_json_path_reach.specs.Inside.Bits.{meets, is_whole}
-use Rattle.serde_json_path_reach.specs.Inside.Kept.{any_kept, kept_object, inside, items_inside, members_inside, kept}
-use Rattle.serde_json_path_reach.specs.Inside.Queries.{queries_in_segment, queries_in_selectors, queries_in_selector}
-use Rattle.serde_json_path_reach.specs.Inside.Rows.{Includes, IsRight, AreRight, after, after_rows, onward, kind_of_row, segment_of_row, selectors_of_row, rest_of_row}
-use Rattle.serde_json_path_reach.specs.Inside.Steps.{any_may_admit, may_admit}
-use Rattle.serde_json_path_reach.specs.declared.row.Row.{Row}
+use Rattle.serde_json_path_reach.proofs.Words.{AreRight, Bool, Data, Includes, IsIn, IsRight, Items, List, Members, None, Option, Query, Row, Segment, SegmentKind, Segments, Selector, Selectors, Some, Step, [], after, after_rows, any_kept, any_may_admit, ap, arith, array, bit_and, bit_at, bit_at-zero, bit_at_and, bit_at_or, bit_or, by_name, by_position, cases_Bool, current, descendant, false, filter, if◌then◌else◌, in_append, inl, inr, inside, is_whole, item, items_inside, kept, kept_object, kind_of_row, long_hand, max, may_admit, member, members_inside, min, no_items, no_members, no_segments, no_selectors, object, onward, queries_in_segment, queries_in_selector, queries_in_selectors, query, refl, rest_of_row, same_from_bits, segment, segment_of_row, selector, selectors_list, selectors_of, selectors_of_row, subst, suc, sym, true, true≢false, ℕ, ◌<◌, ◌==◌, ◌||◌, ◌∙◌, ◌∷◌, ◌≡◌, ◌⊎◌}
+use Rattle.serde_json_path_reach.specs.Inside.Bits.{meets}
 use Rattle.serde_json_path_reach.proofs.Pending.{Leads}
 
 -- ---- bits

@@ -1,22 +1,5 @@
 -- Queries select the same from what they reach of a document.
-use Rattle.std.proofs.Common.{◌≡◌, ℕ, zero, suc, Bool, true, false, List, [], ◌∷◌, ◌++◌, flat_map, Option, Some, None, option_map, ◌⊎◌, ◌↔◌, refl, sym, ap, subst, ◌∙◌, inl, inr}
-use Rattle.std.specs.List.{AllZip}
-use Rattle.serde_json.specs.Data.{Data, Items}
-use Rattle.serde_json.specs.Find.{as_array}
-use Rattle.serde_json.specs.Events.{items_len}
-use Rattle.serde_json_path_nodes.specs.Location.{Step, child_at, at, Located}
-use Rattle.serde_json_path_functions.specs.Functions.{FunctionSet, Kind, of_value, of_nodes, of_logical, Term, value}
-use Rattle.serde_json_path_syntax.specs.Lists.{IsIn}
-use Rattle.serde_json_path_syntax.specs.Tree.{QueryKind, root, current, Query, query, segments_of, Segments, no_segments, segment, SegmentKind, Segment, dot_name, dot_wildcard, long_hand, Selectors, no_selectors, selector, Selector, name, wildcard, index, slice, filter, LogicalOr, no_or, or, LogicalAnd, no_and, and, Basic, paren, relation, test, Operand, literal, queried, called, Call, call, Arguments, no_arguments, argument, Argument, operand, logical_argument}
-use Rattle.serde_json_path_core.specs.Compared.{Compared}
-use Rattle.serde_json_path_core.specs.Derivation.{Triple, location_of, BelongsTo}
-use Rattle.serde_json_path_core.specs.Meaning.{MayDescend, SelectsIndex, IsPositionOf, AnswersYes, NotIf, IsTruthOf, params_of, Derives, AdmitsIn, AdmitsBy, Admits, Holds, HoldsAll, HoldsBasic, HoldsTest, Exists, IsResult, IsComparedAs, Answers, AreArguments, IsArgument, IsTakenAs}
-use Rattle.serde_json_path_core.specs.Slices.{SelectsPosition}
-use Rattle.serde_json_path_core.specs.Selects.{Selects}
-use Rattle.serde_json_path_core.proofs.Words.{in_append, in_flat_map, none-some, same_Some}
-use Rattle.serde_json_path_reach.specs.Inside.Bits.{is_whole}
-use Rattle.serde_json_path_reach.specs.Inside.Kept.{in_place, kept}
-use Rattle.serde_json_path_reach.specs.Inside.Queries.{queries_of, queries_in_segments, queries_in_segment, queries_in_selectors, queries_in_selector, queries_in_or, queries_in_and, queries_in_basic, queries_in_operand, queries_in_call, queries_in_arguments, queries_in_argument}
+use Rattle.serde_json_path_reach.proofs.Words.{Admits, AdmitsBy, AdmitsIn, AllZip, Answers, AnswersYes, AreArguments, Argument, Arguments, Basic, BelongsTo, Bool, Call, Compared, Data, Derives, Exists, FunctionSet, Holds, HoldsAll, HoldsBasic, HoldsTest, IsArgument, IsComparedAs, IsIn, IsPositionOf, IsResult, IsTakenAs, IsTruthOf, Items, Kind, List, Located, LogicalAnd, LogicalOr, MayDescend, None, NotIf, Operand, Option, Query, QueryKind, Segment, SegmentKind, Segments, Selector, Selectors, Selects, SelectsIndex, SelectsPosition, Some, Step, Term, Triple, [], and, ap, argument, as_array, at, call, called, child_at, current, dot_name, dot_wildcard, false, filter, flat_map, in_append, in_flat_map, in_place, index, inl, inr, is_whole, items_len, kept, literal, location_of, logical_argument, long_hand, name, no_and, no_arguments, no_or, no_segments, no_selectors, none-some, of_logical, of_nodes, of_value, operand, option_map, or, params_of, paren, queried, queries_in_and, queries_in_argument, queries_in_arguments, queries_in_basic, queries_in_call, queries_in_operand, queries_in_or, queries_in_segment, queries_in_segments, queries_in_selector, queries_in_selectors, queries_of, query, refl, relation, root, same_Some, segment, segments_of, selector, slice, subst, suc, sym, test, true, value, wildcard, zero, ℕ, ◌++◌, ◌↔◌, ◌∙◌, ◌∷◌, ◌≡◌, ◌⊎◌}
 use Rattle.serde_json_path_reach.proofs.Ordered.{IsOrdered}
 use Rattle.serde_json_path_reach.proofs.Pending.{Leads, along, at_step, still, admits_any, end_pending}
 use Rattle.serde_json_path_reach.proofs.Children.{ordered_child, ordered_at, child_kept, child_back, held, at_kept, at_back, array_len, len_kept}

@@ -1,10 +1,5 @@
 -- Whether some selector of a list may admit a step, from a place in the list on.
-use Rattle.std.proofs.Common.{◌≡◌, ℕ, zero, suc, ◌<◌, ◌||◌, List, [], ◌∷◌, drop, length, true, false, Option, Some, None, refl, sym, ap, arith}
-use Rattle.std.specs.Prelude.{slice_get}
-use Rattle.serde_json_path_nodes.specs.Location.{Step}
-use Rattle.serde_json_path_syntax.specs.Tree.{Selector}
-use Rattle.serde_json_path_core.proofs.Words.{none-some, same_Some}
-use Rattle.serde_json_path_reach.specs.Inside.Steps.{any_may_admit, may_admit}
+use Rattle.serde_json_path_reach.proofs.Words.{List, None, Option, Selector, Some, Step, [], any_may_admit, ap, arith, drop, false, length, may_admit, none-some, refl, same_Some, slice_get, suc, sym, true, zero, ℕ, ◌<◌, ◌||◌, ◌∷◌, ◌≡◌}
 
 pub any_here : (sels : List Selector) (n : ℕ) (sel : Selector) (s : Step) → slice_get sels n ≡ Some sel
     → (any_may_admit (drop n sels) s ≡ (may_admit sel s || any_may_admit (drop (suc n) sels) s)) × (n < length sels)

@@ -12,3 +12,5 @@ pub mod Steps
 pub mod Rows
 -- values that are no arrays and no objects, by their tokens
 pub mod Leaves
+-- what is read of tokens
+pub mod Tokens

@@ -1,9 +1,9 @@
 //! Values that are passed over.
 
-ghost use Rattle.std.specs.Prelude.{◌≡◌, ◌<◌, length, Some, OnOk};
-ghost use Rattle.json.specs.Json.{value, items, members};
+ghost use Rattle.std.specs.Prelude.{◌<◌, length, OnOk};
+ghost use Rattle.json.specs.Json.{value};
 ghost use Rattle.serde_json.specs.Data.{Data, Items, Members, no_members};
-ghost use Rattle.serde_json.specs.Read.{of_json, of_items, of_members, converted};
+ghost use Rattle.serde_json_path_reach.specs.Inside.Tokens.{AreItems, AreMembers, IsRead};
 
 use crate::leaf::pass_leaf;
 use crate::refused::Refused;
@@ -14,7 +14,7 @@ use json::{Reader, Token};
 #[inline(always)]
 pub(crate) fn pass(reader: &mut Reader<'_>, depth: usize) -> Result<(), Refused>
     ensures ok { OnOk result ((d : Data)
-        × (converted of_json (value depth reader.old) ≡ Some (d, reader.new))) }
+        × IsRead (value depth) reader.old reader.new d) }
     ensures shorter { OnOk result (length reader.new < length reader.old) }
 {
     let token = reader.next().ok_or(Refused)?;
@@ -40,8 +40,7 @@ pub(crate) fn pass(reader: &mut Reader<'_>, depth: usize) -> Result<(), Refused>
 #[inline(never)]
 fn pass_items(reader: &mut Reader<'_>, depth: usize) -> Result<(), Refused>
     ensures ok { OnOk result ((ds : Items)
-        × (converted of_items (items (value depth) (length reader.old) reader.old)
-        ≡ Some (ds, reader.new))) }
+        × AreItems (value depth) (length reader.old) reader.old reader.new ds) }
     ensures shorter { OnOk result (length reader.new < length reader.old) }
 {
     'items: while !reader.take_end_array() {
@@ -55,8 +54,7 @@ fn pass_items(reader: &mut Reader<'_>, depth: usize) -> Result<(), Refused>
 #[inline(never)]
 fn pass_members(reader: &mut Reader<'_>, depth: usize) -> Result<(), Refused>
     ensures ok { OnOk result ((ms : Members)
-        × (converted (λ js. of_members js no_members)
-        (members (value depth) (length reader.old) reader.old) ≡ Some (ms, reader.new))) }
+        × AreMembers (value depth) (length reader.old) reader.old reader.new no_members ms) }
     ensures shorter { OnOk result (length reader.new < length reader.old) }
 {
     'members: while let Some(_) = reader.next_key()? {

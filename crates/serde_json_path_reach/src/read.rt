@@ -1,13 +1,14 @@
 //! Reads of a text what is pending there.
 
 ghost use Rattle.std.specs.Prelude.{◌≡◌, ◌<◌, ◌++◌, length, option_map, replicate, Some, IfOk, OnOk};
-ghost use Rattle.json.specs.Json.{value, items, members};
+ghost use Rattle.json.specs.Json.{value};
 ghost use Rattle.serde_json.specs.Data.{Data, Items, Members, array, object, no_members};
-ghost use Rattle.serde_json.specs.Read.{of_json, of_items, of_members, converted, read as read_text};
+ghost use Rattle.serde_json.specs.Read.{read as read_text};
 ghost use Rattle.serde_json.specs.View.{view};
 ghost use Rattle.serde_json.specs.declared.value.Value.TheVariants.{Null};
 ghost use Rattle.serde_json_path_reach.specs.Inside.Kept.{kept};
 ghost use Rattle.serde_json_path_reach.specs.Inside.Rows.{after};
+ghost use Rattle.serde_json_path_reach.specs.Inside.Tokens.{AreItems, AreMembers, IsRead};
 
 use crate::bits::is_whole;
 use crate::leaf::{leaf, pass_leaf};
@@ -51,7 +52,7 @@ fn read(
     pending: u64,
 ) -> Result<Option<Value>, Refused>
     ensures ok { IfOk result (λ v.
-        (d : Data) × (converted of_json (value depth reader.old) ≡ Some (d, reader.new))
+        (d : Data) × IsRead (value depth) reader.old reader.new d
         × (option_map view v ≡ kept (after plan.now.rows.items) pending d)) }
     ensures shorter { OnOk result (length reader.new < length reader.old) }
 {
@@ -94,8 +95,7 @@ fn read_items(
 ) -> Result<Option<Value>, Refused>
     ensures ok { IfOk result (λ v.
         (ds : Items)
-        × (converted of_items (items (value depth) (length reader.old) reader.old)
-        ≡ Some (ds, reader.new))
+        × AreItems (value depth) (length reader.old) reader.old reader.new ds
         × (option_map view v ≡ kept (after plan.now.rows.items) pending (array ds))) }
     ensures shorter { OnOk result (length reader.new < length reader.old) }
 {
@@ -138,8 +138,7 @@ fn read_members(
 ) -> Result<Option<Value>, Refused>
     ensures ok { IfOk result (λ v.
         (ms : Members)
-        × (converted (λ js. of_members js no_members)
-        (members (value depth) (length reader.old) reader.old) ≡ Some (ms, reader.new))
+        × AreMembers (value depth) (length reader.old) reader.old reader.new no_members ms
         × (option_map view v ≡ kept (after plan.now.rows.items) pending (object ms))) }
     ensures shorter { OnOk result (length reader.new < length reader.old) }
 {

@@ -1,8 +1,6 @@
-use Rattle.std.proofs.Common.{◌≡◌, ℕ, ◌+◌, ◌*◌, ◌≤◌, length}
-use Rattle.json.specs.Json.{items, members, value, parse_map}
-use Rattle.serde_json.specs.Data.{Items, Members, no_members}
-use Rattle.serde_json.specs.Read.{of_items, of_members, converted}
-use Rattle.serde_json_path_reach.proofs.Reading.{joined}
+use Rattle.serde_json_path_reach.proofs.Words.{Items, Members, length, ◌*◌, ◌+◌}
+use Rattle.json.specs.Json.{value}
+use Rattle.serde_json_path_reach.proofs.Tokens.{ItemsSoFar, MembersSoFar}
 use Rattle.serde_json_path_reach.proofs.passed.+passed.Given as goal
 
 abbrev pub decreases-pass : goal.decreases-pass
@@ -15,25 +13,13 @@ abbrev pub decreases-pass_members : goal.decreases-pass_members
 decreases-pass_members l = 2 * l.depth + 1
 
 abbrev pub invariant-pass_items-items : goal.invariant-pass_items-items
-invariant-pass_items-items l = record {
-  turns : ℕ;
-  done : Items;
-  enough : length l.reader ≤ turns;
-  all : converted of_items (items (value l.depth) (length l.initial.reader) l.initial.reader) ≡ parse_map (joined done) (converted of_items (items (value l.depth) turns l.reader));
-  shorter : length l.reader ≤ length l.initial.reader;
-}
+invariant-pass_items-items l = (done : Items) × ItemsSoFar (value l.depth) l.initial.reader l.reader done
 
 abbrev pub decreases-pass_items-items : goal.decreases-pass_items-items
 decreases-pass_items-items l = length l.reader
 
 abbrev pub invariant-pass_members-members : goal.invariant-pass_members-members
-invariant-pass_members-members l = record {
-  turns : ℕ;
-  done : Members;
-  enough : length l.reader ≤ turns;
-  all : converted (λ ms. of_members ms no_members) (members (value l.depth) (length l.initial.reader) l.initial.reader) ≡ converted (λ ms. of_members ms done) (members (value l.depth) turns l.reader);
-  shorter : length l.reader ≤ length l.initial.reader;
-}
+invariant-pass_members-members l = (done : Members) × MembersSoFar (value l.depth) l.initial.reader l.reader done
 
 abbrev pub decreases-pass_members-members : goal.decreases-pass_members-members
 decreases-pass_members-members l = length l.reader

@@ -1,13 +1,8 @@
-use Rattle.std.proofs.Common.{◌≡◌, ℕ, ◌+◌, ◌*◌, ◌≤◌, length}
-use Rattle.json.specs.Json.{items, members, value, parse_map}
-use Rattle.serde_json.specs.Data.{Items, Members, no_members}
-use Rattle.serde_json.specs.Events.{items_len}
-use Rattle.serde_json.specs.Read.{of_items, of_members, converted}
-use Rattle.serde_json.specs.View.{items_view, members_view}
-use Rattle.serde_json_path_reach.specs.Inside.Kept.{members_inside}
-use Rattle.serde_json_path_reach.specs.Inside.Rows.{after}
+use Rattle.serde_json_path_reach.proofs.Words.{Items, Members, after, items_len, items_view, length, members_inside, members_view, ◌*◌, ◌+◌, ◌≡◌}
+use Rattle.json.specs.Json.{value}
 use Rattle.serde_json_path_reach.proofs.Ordered.{AreRising}
-use Rattle.serde_json_path_reach.proofs.Reading.{joined, AreSoFar}
+use Rattle.serde_json_path_reach.proofs.Reading.{AreSoFar}
+use Rattle.serde_json_path_reach.proofs.Tokens.{ItemsSoFar, MembersSoFar}
 use Rattle.serde_json_path_reach.proofs.read.+read.Given as goal
 
 abbrev pub decreases-read : goal.decreases-read
@@ -21,13 +16,10 @@ decreases-read_members l = 2 * l.depth + 1
 
 abbrev pub invariant-read_items-items : goal.invariant-read_items-items
 invariant-read_items-items l = record {
-  turns : ℕ;
   done : Items;
-  enough : length l.reader ≤ turns;
-  all : converted of_items (items (value l.depth) (length l.initial.reader) l.initial.reader) ≡ parse_map (joined done) (converted of_items (items (value l.depth) turns l.reader));
+  tokens : ItemsSoFar (value l.depth) l.initial.reader l.reader done;
   so_far : AreSoFar (after l.plan.rows.items) l.pending done (items_view l.found.items) l.passed;
   place : items_len done ≡ l.position;
-  shorter : length l.reader ≤ length l.initial.reader;
 }
 
 abbrev pub decreases-read_items-items : goal.decreases-read_items-items
@@ -35,13 +27,10 @@ decreases-read_items-items l = length l.reader
 
 abbrev pub invariant-read_members-members : goal.invariant-read_members-members
 invariant-read_members-members l = record {
-  turns : ℕ;
   done : Members;
-  enough : length l.reader ≤ turns;
-  all : converted (λ ms. of_members ms no_members) (members (value l.depth) (length l.initial.reader) l.initial.reader) ≡ converted (λ ms. of_members ms done) (members (value l.depth) turns l.reader);
+  tokens : MembersSoFar (value l.depth) l.initial.reader l.reader done;
   rising : AreRising done;
   kept : members_view l.found.entries ≡ members_inside (after l.plan.rows.items) l.pending done;
-  shorter : length l.reader ≤ length l.initial.reader;
 }
 
 abbrev pub decreases-read_members-members : goal.decreases-read_members-members

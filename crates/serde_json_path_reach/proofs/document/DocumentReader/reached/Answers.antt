@@ -1,11 +1,4 @@
-use Rattle.std.proofs.Common.{◌≡◌, Some, option_map, rules, sym, ap, ◌∙◌}
-use Rattle.serde_json.specs.Data.{Data, null}
-use Rattle.serde_json.specs.Read.{read}
-use Rattle.serde_json.specs.View.{view}
-use Rattle.serde_json.specs.declared.value.Value.{Null, the_lemmas}
-use Rattle.serde_json_path_core.proofs.Words.{subst}
-use Rattle.serde_json_path_reach.specs.Alike.{SelectAlike}
-use Rattle.serde_json_path_reach.specs.Inside.Kept.{in_place}
+use Rattle.serde_json_path_reach.proofs.Words.{Data, Null, SelectAlike, Some, ap, in_place, null, option_map, read, rules, subst, sym, the_lemmas, view, ◌∙◌, ◌≡◌}
 use Rattle.serde_json_path_reach.proofs.Documents.{alike}
 use Rattle.serde_json_path_reach.proofs.document.DocumentReader.reached.Goals as goal
 

@@ -1,10 +1,5 @@
 -- A plan grows by rows for the queries in a part of a tree.
-use Rattle.std.proofs.Common.{◌≡◌, ◌+◌, ◌-◌, ◌<◌, ◌≤◌, ◌++◌, ◌∷◌, [], length, drop, take, get_or, refl, sym, ap, ◌∙◌, arith, rules}
-use Rattle.serde_json_path_syntax.specs.Words.{a_query, branch_at, branch_in, branches, branches_named, nodes_in, is_segment, number_of, operand_in, parts_bound, segments_at}
-use Rattle.serde_json_path_syntax.specs.declared.node.Part.{Part}
-use Rattle.serde_json_path_core.proofs.Words.{common_steps, length-drop, one_is, take_all, within_get}
-use Rattle.serde_json_path_reach.specs.Inside.Queries.{queries_in_branch, queries_in_branches, queries_in_segments}
-use Rattle.serde_json_path_reach.specs.Inside.Rows.{Gains, Includes}
+use Rattle.serde_json_path_reach.proofs.Words.{Gains, Includes, Part, [], a_query, ap, arith, branch_at, branch_in, branches, branches_named, common_steps, drop, get_or, is_segment, length, length-drop, nodes_in, number_of, one_is, operand_in, parts_bound, queries_in_branch, queries_in_branches, queries_in_segments, refl, rules, segments_at, sym, take, take_all, within_get, ◌++◌, ◌+◌, ◌-◌, ◌<◌, ◌∙◌, ◌∷◌, ◌≡◌, ◌≤◌}
 use Rattle.serde_json_path_reach.proofs.Plans.{if_ok, selectors_there, ors_there, ands_there, arguments_there, sides_there, gains_none, gains_some, gains_both, gains_current, gains_root, gains_row, gains_segment, one_more_part, first_part, no_part}
 use Rattle.serde_json_path_reach.proofs.Rows.{whole_one}
 use Rattle.serde_json_path_reach.proofs.plan.Plan.+plan.Goals as goal

@@ -1,7 +1,4 @@
-use Rattle.std.proofs.Common.{◌+◌, ◌*◌, ◌≤◌, drop, take, length}
-use Rattle.serde_json_path_syntax.specs.Words.{branches, branches_named, nodes_in, parts_bound, segments_at}
-use Rattle.serde_json_path_reach.specs.Inside.Queries.{queries_in_branches, queries_in_segments}
-use Rattle.serde_json_path_reach.specs.Inside.Rows.{Gains, Includes}
+use Rattle.serde_json_path_reach.proofs.Words.{Gains, Includes, branches, branches_named, drop, length, nodes_in, parts_bound, queries_in_branches, queries_in_segments, segments_at, take, ◌*◌, ◌+◌, ◌≤◌}
 use Rattle.serde_json_path_reach.proofs.plan.Plan.+plan.Given as goal
 
 abbrev pub decreases-add : goal.decreases-add

@@ -1,7 +1,4 @@
-use Rattle.std.proofs.Common.{◌≡◌, refl, sym, ap, ◌∙◌}
-use Rattle.serde_json_path_syntax.specs.Parts.{nodes_in, tree_of}
-use Rattle.serde_json_path_syntax.specs.Flat.{segments_at}
-use Rattle.serde_json_path_syntax.specs.Tree.{kind_of, root, Query, query, segments_of, Segments}
+use Rattle.serde_json_path_reach.proofs.Words.{Query, Segments, ap, kind_of, nodes_in, query, refl, root, segments_at, segments_of, sym, tree_of, ◌∙◌, ◌≡◌}
 use Rattle.serde_json_path_reach.proofs.Plans.{gains_root}
 use Rattle.serde_json_path_reach.proofs.plan.Plan.add_path.Goals as goal
 

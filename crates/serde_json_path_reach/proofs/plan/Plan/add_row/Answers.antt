@@ -1,9 +1,4 @@
-use Rattle.std.proofs.Common.{◌≡◌, sym, ap, ◌∙◌}
-use Rattle.serde_json_path_syntax.specs.Flat.{segment_kind_view}
-use Rattle.serde_json_path_syntax.specs.Parts.{nodes_in}
-use Rattle.serde_json_path_syntax.specs.Tree.{descendant}
-use Rattle.serde_json_path_core.proofs.Words.{common_steps}
-use Rattle.serde_json_path_reach.specs.Inside.Rows.{segment_kind_at}
+use Rattle.serde_json_path_reach.proofs.Words.{ap, common_steps, descendant, nodes_in, segment_kind_at, segment_kind_view, sym, ◌∙◌, ◌≡◌}
 use Rattle.serde_json_path_reach.proofs.Plans.{adds_row}
 use Rattle.serde_json_path_reach.proofs.plan.Plan.add_row.Goals as goal
 use Rattle.serde_json_path_reach.proofs.plan.Plan.add_row.Goals.{in-Child, in-Descendant}

@@ -1,6 +1,4 @@
-use Rattle.std.proofs.Common.{◌≡◌, drop}
-use Rattle.serde_json_path_nodes.specs.Views.{step_view}
-use Rattle.serde_json_path_reach.specs.Inside.Rows.{after_rows}
+use Rattle.serde_json_path_reach.proofs.Words.{after_rows, drop, step_view, ◌≡◌}
 use Rattle.serde_json_path_reach.proofs.plan.Plan.after.Given as goal
 
 abbrev pub invariant-loop-row : goal.invariant-loop-row

@@ -1,9 +1,4 @@
-use Rattle.std.proofs.Common.{◌≡◌, ◌+◌, ◌++◌, ◌∷◌, [], List, flat_map, map, take, get_or, ap, ◌∙◌, inl, inr}
-use Rattle.serde_json_path_syntax.specs.Parts.{tree_of}
-use Rattle.serde_json_path_syntax.specs.Tree.{root, query}
-use Rattle.serde_json_path_core.proofs.Words.{common_steps, take_more, map-append, flat_map-append, append-nil, in_append}
-use Rattle.serde_json_path_reach.specs.Alike.{trees_of}
-use Rattle.serde_json_path_reach.specs.Inside.Queries.{queries_of}
+use Rattle.serde_json_path_reach.proofs.Words.{List, [], ap, append-nil, common_steps, flat_map, flat_map-append, get_or, in_append, inl, inr, map, map-append, queries_of, query, root, take, take_more, tree_of, trees_of, ◌++◌, ◌+◌, ◌∙◌, ◌∷◌, ◌≡◌}
 use Rattle.serde_json_path_reach.proofs.plan.Plan.of.Goals as goal
 
 pub loop-path-preserved : goal.loop-path-preserved

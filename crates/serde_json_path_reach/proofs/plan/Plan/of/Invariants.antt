@@ -1,6 +1,4 @@
-use Rattle.std.proofs.Common.{take}
-use Rattle.serde_json_path_reach.specs.Alike.{trees_of}
-use Rattle.serde_json_path_reach.specs.Inside.Rows.{AreRight, AsksAll}
+use Rattle.serde_json_path_reach.proofs.Words.{AreRight, AsksAll, take, trees_of}
 use Rattle.serde_json_path_reach.proofs.plan.Plan.of.Given as goal
 
 abbrev pub invariant-loop-path : goal.invariant-loop-path

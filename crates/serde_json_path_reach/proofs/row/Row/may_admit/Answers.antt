@@ -1,11 +1,4 @@
-use Rattle.std.proofs.Common.{◌≡◌, ◌||◌, true, false, Some, None, option_map, sym, ap, ◌∙◌, add-one, arith}
-use Rattle.std.specs.Prelude.{slice_get}
-use Rattle.serde_json_path_nodes.specs.Views.{step_view}
-use Rattle.serde_json_path_syntax.specs.Parts.{nodes_in}
-use Rattle.serde_json_path_syntax.specs.Stages.{selector_view}
-use Rattle.serde_json_path_core.proofs.Words.{common_steps}
-use Rattle.serde_json_path_reach.specs.Inside.Rows.{selectors_of_row}
-use Rattle.serde_json_path_reach.specs.Inside.Steps.{may_admit}
+use Rattle.serde_json_path_reach.proofs.Words.{None, Some, add-one, ap, arith, common_steps, false, may_admit, nodes_in, option_map, selector_view, selectors_of_row, slice_get, step_view, sym, true, ◌||◌, ◌∙◌, ◌≡◌}
 use Rattle.serde_json_path_reach.proofs.Selectors.{any_here, any_past}
 use Rattle.serde_json_path_reach.proofs.row.Row.may_admit.Goals as goal
 

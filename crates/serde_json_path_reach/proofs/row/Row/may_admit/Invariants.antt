@@ -1,7 +1,4 @@
-use Rattle.std.proofs.Common.{◌≡◌, ◌-◌, drop, length}
-use Rattle.serde_json_path_nodes.specs.Views.{step_view}
-use Rattle.serde_json_path_reach.specs.Inside.Rows.{selectors_of_row}
-use Rattle.serde_json_path_reach.specs.Inside.Steps.{any_may_admit}
+use Rattle.serde_json_path_reach.proofs.Words.{any_may_admit, drop, length, selectors_of_row, step_view, ◌-◌, ◌≡◌}
 use Rattle.serde_json_path_reach.proofs.row.Row.may_admit.Given as goal
 
 abbrev pub invariant-selectors : goal.invariant-selectors
