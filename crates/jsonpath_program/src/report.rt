@@ -8,10 +8,9 @@ use jsonpath_document::{DocumentError as ReadError, DocumentFault, read_document
 use jsonpath_lines::{Form, Output, write_nodes};
 use serde_json::Value;
 use serde_json_path::functions::{Both, CachedPatterns, Functions, PatternStore};
-use serde_json_path::{Numbers, ParseError, QueryError};
+use serde_json_path::{DocumentReader, Numbers, ParseError, QueryError};
 use serde_json_path_core::walk;
 use serde_json_path_parser::{TextSource, parse};
-use serde_json_path_reach::DocumentReader;
 use serde_json_path_syntax::Checked;
 use std::alloc::Global;
 use thiserror::Error;

@@ -28,6 +28,16 @@
 //! The built-in functions are `length`, `count`, `value`, `match` and `search`; a [`functions::Functions`] of your own adds
 //! others ([`JsonPath::parse_with`]).
 //!
+//! # Documents
+//!
+//! [`read_for`] reads of a document's bytes what some paths can reach, and passes over the rest: each path selects from the value
+//! what it selects from the whole document. A [`DocumentReader`] does so for many documents.
+//!
+//! ```text
+//! let document = read_for(alloc, bytes, &[path.tree()])?;
+//! let nodes = path.query_located(alloc, &document)?;
+//! ```
+//!
 //! # Limits
 //!
 //! Filters, parentheses and calls may be nested 128 deep. Indexes go up to 2^53 - 1. Unless the path takes all numbers
@@ -75,4 +85,5 @@ pub use serde_json_path_parser::{
     ParseError, ParseErrorKind, PathSource, TextSource, law_all_numbers_read_more,
     law_one_tree_at_most, law_print,
 };
+pub use serde_json_path_reach::{DocumentReader, read_for};
 pub use source::parse_source;
