@@ -1,6 +1,5 @@
 -- The handles, as structs of one pointer that own what they hold.
-use Rattle.std.proofs.Common.{refl}
-use Rattle.nullable_box.proofs.Moved.{Owner}
+use Rattle.jsonpath_c.proofs.Words.{refl, Owner}
 use Rattle.jsonpath_c.specs.contracts.handle.path.PathHandle as path_handle
 use Rattle.jsonpath_c.specs.contracts.compiled.Compiled as path
 use Rattle.jsonpath_c.specs.contracts.handle.document.DocumentHandle as document_handle

@@ -7,11 +7,9 @@ pub use Rattle.jsonpath_c.specs.declared.bounded.BoundedLines.{BoundedLines}
 pub use Rattle.jsonpath_c.specs.declared.bounded_list.BoundedList.{BoundedList}
 pub use Rattle.jsonpath_c.specs.declared.limits.Limits.{Limits}
 pub use Rattle.jsonpath_lines.proofs.Pieces.{lines_pushed}
-pub use Rattle.jsonpath_lines.specs.Distinct.{AreEnough}
+pub use Rattle.jsonpath_lines.proofs.Words.{AreEnough}
 pub use Rattle.jsonpath_program.specs.declared.report.DocumentError.TheVariants.{NotJson}
 pub use Rattle.jsonpath_program.specs.declared.report.ReportError.TheVariants.{Document, Path, Query}
-pub use Rattle.serde_json_path_functions.specs.declared.error.QueryError.{QueryError}
-pub use Rattle.serde_json_path_functions.specs.declared.error.QueryError.TheVariants.{Pattern}
-pub use Rattle.std.proofs.lemmas.List.{drop_more, length_push, map-append, map_push, take-append-drop}
-pub use Rattle.std.proofs.lemmas.List.Sums.{sum_by_push}
-pub use Rattle.std.specs.Borrow.{Bor}
+pub use Rattle.nullable_box.proofs.Moved.{Owner, moved, nullable_box}
+pub use Rattle.serde_json_path_nodes.proofs.Words.{Bool, Err, List, Ok, Result, Some, [], ap, append-nil, append_assoc, arith, drop, drop_more, false, inl, inr, length, length-append, length_push, map, map-append, map_push, refl, rules, string_bytes, subst, sum_by_push, sym, take, take-append-drop, true, ℕ, ◌++◌, ◌+◌, ◌<◌, ◌∙◌, ◌∷◌, ◌≡◌, ◌≤◌, ◌⊎◌}
+pub use Rattle.serde_json_path_syntax.proofs.Words.{Bor, Pattern, QueryError}

@@ -1,6 +1,6 @@
 -- What clauses and definitions take from the crates below, from one place.
 pub use Rattle.jsonpath_document.specs.Document.{ReadsAs, is_too_deep_at}
-pub use Rattle.jsonpath_lines.specs.Output.{IsJsonOf, IsLine, IsLineOfEach, compact_lines}
+pub use Rattle.jsonpath_lines.specs.Words.{IsJsonOf, IsLine, IsLineOfEach, compact_lines}
 pub use Rattle.jsonpath_lines.specs.declared.forms.Form.{Form}
 pub use Rattle.jsonpath_lines.specs.declared.forms.Form.TheVariants.{Location, LocationAndValue, Value}
 pub use Rattle.jsonpath_owned_nodes.specs.Kept.{KeptNode, kept, known_of, location_of}
@@ -8,31 +8,17 @@ pub use Rattle.jsonpath_owned_nodes.specs.declared.node_info.NodeInfo.{NodeInfo}
 pub use Rattle.jsonpath_owned_nodes.specs.declared.node_info.NodeInfo.TheVariants.{Array, Double, False, Integer, Null, Object, String, True, Unsigned}
 pub use Rattle.jsonpath_program.specs.Report.{CallsByPatternOn, IsNoPath, IsReportIn}
 pub use Rattle.nullable_box.specs.Held.{held}
-pub use Rattle.serde_json.specs.Data.{Data, string}
-pub use Rattle.serde_json.specs.View.{view}
 pub use Rattle.serde_json_path.specs.Fitting.{FitsBuiltin, FitsBuiltin-prop}
-pub use Rattle.serde_json_path.specs.Paths.{IsRead, path_rule, path_signatures, path_tree, with_rule_of}
-pub use Rattle.serde_json_path_core.specs.PatternCalls.{CallsByPattern}
-pub use Rattle.serde_json_path_core.specs.Selects.{OnlyMemoryOrPattern, Selects}
-pub use Rattle.serde_json_path_core.specs.Walks.{document_of, query_of, rest, set_of}
-pub use Rattle.serde_json_path_functions.specs.Functions.{FunctionSet, Numbers, all_numbers, whole_numbers}
-pub use Rattle.serde_json_path_functions.specs.Patterns.{builtin_functions}
-pub use Rattle.serde_json_path_functions.specs.Terms.{numbers_view}
-pub use Rattle.serde_json_path_functions.specs.declared.error.QueryError.TheVariants.{Memory}
+pub use Rattle.serde_json_path.specs.Words.{IsRead, document_of, kind_of, message_of, path_rule, path_signatures, path_tree, position_of, query_of, rest, set_of, with_rule_of}
+pub use Rattle.serde_json_path_core.specs.Inside.Words.{CallsByPattern, OnlyMemoryOrPattern, Selects}
+pub use Rattle.serde_json_path_functions.specs.Words.{FunctionSet, Numbers, all_numbers, builtin_functions, numbers_view, whole_numbers}
 pub use Rattle.serde_json_path_hints.specs.Hints.{hint_of}
-pub use Rattle.serde_json_path_nodes.specs.Lists.{first_places}
-pub use Rattle.serde_json_path_nodes.specs.Location.{Located, Step, at, by_name, by_position}
-pub use Rattle.serde_json_path_nodes.specs.Text.{normal, pointer}
-pub use Rattle.serde_json_path_nodes.specs.Views.{located}
+pub use Rattle.serde_json_path_nodes.specs.Words.{Data, IsUtf8, Located, Step, at, by_name, by_position, chars, first_places, located, normal, pointer, string, sum_by, view}
 pub use Rattle.serde_json_path_parser.specs.Accepted.{IsAccepted}
-pub use Rattle.serde_json_path_parser.specs.Errors.{kind_of, message_of, position_of}
 pub use Rattle.serde_json_path_parser.specs.declared.error.ParseError.{ParseError}
 pub use Rattle.serde_json_path_parser.specs.declared.error.ParseErrorKind.{ParseErrorKind}
 pub use Rattle.serde_json_path_parser.specs.declared.error.ParseErrorKind.TheVariants.{BadEscape, BadMemberName, ControlCharacter, ExpectedClosingBracket, ExpectedClosingParenthesis, ExpectedComparisonOperator, ExpectedEndingQuote, ExpectedExpression, ExpectedRoot, ExpectedSelector, ExponentOrEmptyFraction, FractionTooLong, IntegerOutOfRange, NestedTooDeep, NoMemory, NonSingularQuery, NumberOutOfRange, TextAfterPath, UndefinedFunction, WrongArgumentType, WrongNumberOfArguments, WrongReturnType}
-pub use Rattle.serde_json_path_syntax.specs.Text.{query_text}
-pub use Rattle.serde_json_path_syntax.specs.Tree.{Query}
+pub use Rattle.serde_json_path_syntax.specs.Words.{Memory, Query, query_text}
 pub use Rattle.std.specs.Coded.{coded_option}
 pub use Rattle.std.specs.Float.{float_zero}
-pub use Rattle.std.specs.List.{sum_by}
 pub use Rattle.std.specs.Option.{MatchOption, unwrap_or}
-pub use Rattle.std.specs.Str.{IsUtf8, chars}

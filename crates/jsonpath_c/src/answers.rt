@@ -1,8 +1,7 @@
 //! What compiled paths select from documents that are read: lines, how many nodes, whether there is one.
 
 ghost use Rattle.std.specs.Prelude.{◌≡◌, ◌≢◌, ◌⊎◌, ◌↔◌, [], Err, IfOk, List, false, length};
-ghost use Rattle.jsonpath_c.specs.Words.{Located};
-ghost use Rattle.jsonpath_c.specs.Handles.{AnswersLinesOf, AreLent, BothHold, CallsByPatternFrom, IsAsked, SelectThose, SelectsFrom, form_of};
+ghost use Rattle.jsonpath_c.specs.Clauses.{Located, AnswersLinesOf, AreLent, BothHold, CallsByPatternFrom, IsAsked, SelectThose, SelectsFrom, form_of};
 
 use crate::bounded::first_lines;
 use crate::compiled::Compiled;

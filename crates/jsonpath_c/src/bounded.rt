@@ -1,8 +1,6 @@
 //! Lines within limits.
 
-ghost use Rattle.std.specs.Prelude.{IfOk, string_bytes};
-ghost use Rattle.jsonpath_c.specs.Words.{OnlyMemoryOrPattern, document_of, query_of, rest, set_of};
-ghost use Rattle.jsonpath_c.specs.Handles.{AreFirstLines};
+ghost use Rattle.jsonpath_c.specs.Clauses.{IfOk, string_bytes, OnlyMemoryOrPattern, document_of, query_of, rest, set_of, AreFirstLines};
 
 use crate::limits::Limits;
 use jsonpath_lines::{Form, Output, push_line};

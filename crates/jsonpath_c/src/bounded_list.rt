@@ -1,9 +1,7 @@
 //! A list of nodes that is filled within limits.
 
 ghost use Rattle.std.specs.Prelude.{◌≡◌, ◌<◌, ◌+◌, ◌++◌, ◌∷◌, [], Ok, true, false};
-ghost use Rattle.jsonpath_c.specs.Words.{MatchOption, located, kept};
-ghost use Rattle.jsonpath_c.specs.Handles.{name_bytes};
-ghost use Rattle.jsonpath_c.specs.Inside.{HasNoRoomFor, IsLeftAfter};
+ghost use Rattle.jsonpath_c.specs.Clauses.{MatchOption, located, kept, name_bytes, HasNoRoomFor, IsLeftAfter};
 
 use crate::limits::Limits;
 use jsonpath_owned_nodes::OwnedNodes;

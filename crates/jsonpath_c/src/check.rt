@@ -1,8 +1,7 @@
 //! Whether a text is a path.
 
 ghost use Rattle.std.specs.Prelude.{◌≡◌, ◌⊎◌, ◌↔◌};
-ghost use Rattle.jsonpath_c.specs.Words.{IsUtf8, message_of};
-ghost use Rattle.jsonpath_c.specs.Exports.{AnswersPath, AnswersText, IsPath, IsTold, hint_text, rule_of};
+ghost use Rattle.jsonpath_c.specs.Clauses.{IsUtf8, message_of, AnswersPath, AnswersText, IsPath, IsTold, hint_text, rule_of};
 
 use crate::output::put;
 use crate::paths::rule;

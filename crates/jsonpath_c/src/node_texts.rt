@@ -1,9 +1,7 @@
 //! The texts of selected nodes: their locations, and what stands there in a document.
 
 ghost use Rattle.std.specs.Prelude.{◌≡◌, ◌⊎◌, ℕ, List, None, IfOk, slice_get, string_bytes, ⊤};
-ghost use Rattle.jsonpath_c.specs.Words.{MatchOption, string, normal, pointer, location_of, IsJsonOf};
-ghost use Rattle.jsonpath_c.specs.Exports.{AnswersText};
-ghost use Rattle.jsonpath_c.specs.Handles.{AreLent, HasValueAt, IsLent, IsOfNode, IsPast, StandsAt, location_text};
+ghost use Rattle.jsonpath_c.specs.Clauses.{MatchOption, string, normal, pointer, location_of, IsJsonOf, AnswersText, AreLent, HasValueAt, IsLent, IsOfNode, IsPast, StandsAt, location_text};
 
 use crate::handle::document::{Document, DocumentHandle};
 use crate::handle::nodes::{Nodes, NodesHandle};

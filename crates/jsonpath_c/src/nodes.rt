@@ -1,8 +1,7 @@
 //! Lists of selected nodes.
 
 ghost use Rattle.std.specs.Prelude.{◌≡◌, ◌≢◌, ◌⊎◌, List, None, Err, IfOk, length, true, false};
-ghost use Rattle.jsonpath_c.specs.Words.{MatchOption, Located, known_of};
-ghost use Rattle.jsonpath_c.specs.Handles.{AreFirstNodes, CallsByPatternFrom, HasNode, HoldsFirst, IsAsked, IsLent, IsPast, SelectThose, SelectsFrom, asked_of, told_of};
+ghost use Rattle.jsonpath_c.specs.Clauses.{MatchOption, Located, known_of, AreFirstNodes, CallsByPatternFrom, HasNode, HoldsFirst, IsAsked, IsLent, IsPast, SelectThose, SelectsFrom, asked_of, told_of};
 
 use crate::answers::query_status;
 use crate::compiled::Compiled;

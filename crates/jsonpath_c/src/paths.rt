@@ -1,9 +1,7 @@
 //! Paths that are compiled once.
 
 ghost use Rattle.std.specs.Prelude.{◌≡◌, ◌≢◌, ◌⊎◌, None};
-ghost use Rattle.jsonpath_c.specs.Words.{MatchOption, path_tree, numbers_view, query_text};
-ghost use Rattle.jsonpath_c.specs.Exports.{AnswersPath, AnswersText, rule_of};
-ghost use Rattle.jsonpath_c.specs.Handles.{AreLent, BothHold, HoldsPathOf, IsLent};
+ghost use Rattle.jsonpath_c.specs.Clauses.{MatchOption, path_tree, numbers_view, query_text, AnswersPath, AnswersText, rule_of, AreLent, BothHold, HoldsPathOf, IsLent};
 
 use crate::compiled::Compiled;
 use crate::handle::path::PathHandle;

@@ -1,8 +1,7 @@
 //! Why a path is refused, as C sees it.
 
 ghost use Rattle.std.specs.Prelude.{◌≡◌, ◌≢◌};
-ghost use Rattle.jsonpath_c.specs.Words.{kind_of, position_of, NoMemory};
-ghost use Rattle.jsonpath_c.specs.Exports.{number_of};
+ghost use Rattle.jsonpath_c.specs.Clauses.{kind_of, position_of, NoMemory, number_of};
 
 use crate::status::{NO_MEMORY, PATH_REFUSED};
 use serde_json_path::{ParseError, ParseErrorKind};

@@ -1,8 +1,6 @@
 //! Lists of nodes within limits.
 
-ghost use Rattle.std.specs.Prelude.{IfOk, map};
-ghost use Rattle.jsonpath_c.specs.Words.{located, OnlyMemoryOrPattern, document_of, query_of, rest, set_of, first_places};
-ghost use Rattle.jsonpath_c.specs.Handles.{AreFirstNodes};
+ghost use Rattle.jsonpath_c.specs.Clauses.{IfOk, map, located, OnlyMemoryOrPattern, document_of, query_of, rest, set_of, first_places, AreFirstNodes};
 
 use crate::bounded_list::BoundedList;
 use crate::limits::Limits;

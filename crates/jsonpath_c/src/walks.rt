@@ -1,8 +1,7 @@
 //! Walks over what compiled paths select.
 
 ghost use Rattle.std.specs.Prelude.{◌≡◌, IfErr, IfOk};
-ghost use Rattle.jsonpath_c.specs.Words.{view, document_of, query_of, rest, set_of, Memory, path_tree};
-ghost use Rattle.jsonpath_c.specs.Handles.{SelectsFrom, functions_of};
+ghost use Rattle.jsonpath_c.specs.Clauses.{view, document_of, query_of, rest, set_of, Memory, path_tree, SelectsFrom, functions_of};
 
 use crate::compiled::Compiled;
 use crate::handle::document::Document;

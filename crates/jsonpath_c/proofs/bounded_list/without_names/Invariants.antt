@@ -1,5 +1,4 @@
-use Rattle.std.proofs.Common.{◌≡◌, ◌+◌}
-use Rattle.jsonpath_c.proofs.Words.{name_bytes}
+use Rattle.jsonpath_c.proofs.Words.{◌≡◌, ◌+◌, name_bytes}
 use Rattle.jsonpath_c.proofs.bounded_list.without_names.Given as goal
 
 abbrev pub invariant-loop-element : goal.invariant-loop-element

@@ -1,6 +1,5 @@
 -- What is put is the hint's text by its name: the search would look into the table of slips.
-use Rattle.std.proofs.Common.{◌≡◌, ap, ◌∙◌, inr, refl, rules}
-use Rattle.jsonpath_c.proofs.Words.{IsRefusedWith, IsTold, hint_text, rule_of}
+use Rattle.jsonpath_c.proofs.Words.{◌≡◌, ap, ◌∙◌, inr, refl, rules, IsRefusedWith, IsTold, hint_text, rule_of}
 use Rattle.jsonpath_c.proofs.check.jsonpath_hint.Goals as goal
 
 pub returns-clause-text : goal.returns-clause-text

@@ -1,5 +1,4 @@
-use Rattle.std.proofs.Common.{inr, refl, rules}
-use Rattle.jsonpath_c.proofs.Words.{IsRefusedWith, IsTold, message_of, rule_of}
+use Rattle.jsonpath_c.proofs.Words.{inr, refl, rules, IsRefusedWith, IsTold, message_of, rule_of}
 use Rattle.jsonpath_c.proofs.check.jsonpath_message.Goals as goal
 
 pub returns-clause-text : goal.returns-clause-text

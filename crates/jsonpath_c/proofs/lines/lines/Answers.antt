@@ -1,5 +1,4 @@
-use Rattle.std.proofs.Common.{◌≡◌, ◌⊎◌, ℕ, Err, rules, sym, ◌∙◌}
-use Rattle.jsonpath_c.proofs.Words.{IsUtf8, builtin_functions, Pattern, CallsByPatternOn, IsNoPath, IsReportIn, NotJson, Path, Document, Query, IsRefusedWith, whole_numbers}
+use Rattle.jsonpath_c.proofs.Words.{◌≡◌, ◌⊎◌, ℕ, Err, rules, sym, ◌∙◌, IsUtf8, builtin_functions, Pattern, CallsByPatternOn, IsNoPath, IsReportIn, NotJson, Path, Document, Query, IsRefusedWith, whole_numbers}
 use Rattle.jsonpath_c.proofs.lines.lines.Goals as goal
 
 pub returns-in-Ok-report_under : goal.returns-in-Ok-report_under

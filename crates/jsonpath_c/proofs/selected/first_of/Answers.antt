@@ -1,5 +1,4 @@
-use Rattle.std.proofs.Common.{◌≡◌, ◌+◌, ◌∙◌, ◌∷◌, ◌++◌, List, Ok, false, map, take, drop, sym, ap, subst, arith, rules}
-use Rattle.jsonpath_c.proofs.Words.{drop_more, map-append, take-append-drop, located, KeptNode, AreFirstNodes}
+use Rattle.jsonpath_c.proofs.Words.{◌≡◌, ◌+◌, ◌∙◌, ◌∷◌, ◌++◌, List, Ok, false, map, take, drop, sym, ap, subst, arith, rules, drop_more, map-append, take-append-drop, located, KeptNode, AreFirstNodes}
 use Rattle.jsonpath_c.proofs.Firsts.{cut_within}
 use Rattle.jsonpath_c.proofs.selected.first_of.Goals as goal
 

@@ -1,5 +1,4 @@
-use Rattle.std.proofs.Common.{map, take}
-use Rattle.jsonpath_c.proofs.Words.{located, AreWithin}
+use Rattle.jsonpath_c.proofs.Words.{map, take, located, AreWithin}
 use Rattle.jsonpath_c.proofs.selected.first_of.Given as goal
 
 abbrev pub invariant-loop-node : goal.invariant-loop-node

@@ -1,5 +1,4 @@
-use Rattle.std.proofs.Common.{map}
-use Rattle.jsonpath_c.proofs.Words.{first_places, located, rest}
+use Rattle.jsonpath_c.proofs.Words.{map, first_places, located, rest}
 use Rattle.jsonpath_c.proofs.Firsts.{first_of_enough}
 use Rattle.jsonpath_c.proofs.selected.first_unique_nodes.Goals as goal
 

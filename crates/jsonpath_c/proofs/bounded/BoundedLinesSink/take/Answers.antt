@@ -1,5 +1,4 @@
-use Rattle.std.proofs.Common.{◌≡◌, ◌+◌, ◌≤◌, ◌∙◌, [], ◌++◌, length, string_bytes, ap, arith, refl}
-use Rattle.jsonpath_c.proofs.Words.{located, IsLine, compact_lines}
+use Rattle.jsonpath_c.proofs.Words.{◌≡◌, ◌+◌, ◌≤◌, ◌∙◌, [], ◌++◌, length, string_bytes, ap, arith, refl, located, IsLine, compact_lines}
 use Rattle.jsonpath_c.proofs.Firsts.{line_taken}
 use Rattle.jsonpath_c.proofs.bounded.BoundedLinesSink.take.Goals as goal
 

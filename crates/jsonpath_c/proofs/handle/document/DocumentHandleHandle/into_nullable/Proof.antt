@@ -1,5 +1,5 @@
 -- The pointer goes from the handle into the nullable box.
-use Rattle.nullable_box.proofs.Moved.{nullable_box, moved}
+use Rattle.jsonpath_c.proofs.Words.{nullable_box, moved}
 use Rattle.jsonpath_c.specs.contracts.handle.document.Document.{the_row}
 use Rattle.jsonpath_c.specs.contracts.handle.document.DocumentHandleHandle.into_nullable.Key.{name as key}
 use Rattle.jsonpath_c.proofs.Owners.{document_owner as owner}

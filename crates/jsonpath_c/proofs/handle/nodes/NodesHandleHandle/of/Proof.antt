@@ -1,5 +1,5 @@
 -- The pointer goes from the nullable box into the handle.
-use Rattle.nullable_box.proofs.Moved.{nullable_box, moved}
+use Rattle.jsonpath_c.proofs.Words.{nullable_box, moved}
 use Rattle.jsonpath_c.specs.contracts.handle.nodes.Nodes.{the_row}
 use Rattle.jsonpath_c.specs.contracts.handle.nodes.NodesHandleHandle.of.Key.{name as key}
 use Rattle.jsonpath_c.proofs.Owners.{nodes_owner as owner}

@@ -1,5 +1,5 @@
 -- The pointer goes from the handle into the nullable box.
-use Rattle.nullable_box.proofs.Moved.{nullable_box, moved}
+use Rattle.jsonpath_c.proofs.Words.{nullable_box, moved}
 use Rattle.jsonpath_c.specs.contracts.compiled.Compiled.{the_row}
 use Rattle.jsonpath_c.specs.contracts.handle.path.PathHandleHandle.into_nullable.Key.{name as key}
 use Rattle.jsonpath_c.proofs.Owners.{path_owner as owner}
