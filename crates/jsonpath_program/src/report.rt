@@ -62,11 +62,17 @@ fn document(alloc: Global, bytes: &[u8]) -> Result<Value, DocumentError>
     Ok(read_document(alloc, bytes)?)
 }
 
+/// A document of fewer bytes is read whole: that takes less than to find out what a path can reach.
+const SHORT: usize = 512;
+
 /// Reads of a document what a path can reach.
 fn document_for(alloc: Global, bytes: &[u8], path: &Checked) -> Result<Value, DocumentError>
     ensures ok { IfOk result (λ value. IsReadFor bytes.now (tree_of path.now ∷ []) (view value)) }
     ensures not_json { result ≡ Err DocumentError.NotJson → (d : Data) → ReadsAs bytes.now d → ⊥ }
 {
+    if bytes.len() < SHORT {
+        return document(alloc, bytes);
+    }
     if let Ok(reader) = DocumentReader::new(alloc, &[path]) {
         if let Some(value) = reader.reach(alloc, bytes) {
             return Ok(value);
