@@ -1,5 +1,5 @@
 -- The computed children of a value are those that a step leads to, in document order.
-use Rattle.serde_json_path_core.proofs.Words.{nat_tests, common_steps, ◌≡◌, ℕ, zero, suc, ◌+◌, ◌<◌, ◌≤◌, ℤ, List, Ordering, Less, Equal, Greater, nat_cmp, is_eq, false, bytes_eq, Option, Some, ◌↔◌, inl, inr, refl, sym, ap, subst, ◌∙◌, arith, true≢false, option_to_list, ◌-◌, pos, negsuc, option_map, option_and_then, slice_cmp, ordering_reverse, match_ordering, nat_list_cmp_total, tied_itself, is_eq-slice_cmp, none-some, option_and_then_some, same_Some, bytes_eq-Decides, Data, array, object, Items, no_items, item, Members, no_members, member, put, get_item, get_member, get_member-put, get_member-put_other, Step, by_name, by_position, child_at, StepBefore, IsIn, IsInOrder, SelectsIndex, IsPositionOf, child_by, item_at, position_in, children, items_from, members_all, in_order, cases_Bool, in_option, nat_lt, ints, items_len}
+use Rattle.serde_json_path_core.proofs.Words.{nat_tests, common_steps, ◌≡◌, ℕ, zero, suc, ◌+◌, ◌<◌, ℤ, List, Ordering, Less, Equal, Greater, nat_cmp, is_eq, false, bytes_eq, Option, Some, ◌↔◌, inl, inr, refl, sym, ap, subst, ◌∙◌, arith, true≢false, option_to_list, pos, negsuc, option_map, option_and_then, slice_cmp, ordering_reverse, match_ordering, nat_list_cmp_total, tied_itself, is_eq-slice_cmp, none-some, option_and_then_some, same_Some, bytes_eq-Decides, Data, array, object, Items, no_items, item, Members, no_members, member, put, get_item, get_member, get_member-put, get_member-put_other, Step, by_name, by_position, child_at, StepBefore, IsIn, IsInOrder, SelectsIndex, IsPositionOf, child_by, item_at, position_in, children, items_from, members_all, in_order, cases_Bool, in_option, items_len}
 
 -- ---- the child at a step, and the item of an index
 

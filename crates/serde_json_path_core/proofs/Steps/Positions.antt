@@ -1,5 +1,5 @@
 -- The positions of a slice, and how they go on by one.
-use Rattle.serde_json_path_core.proofs.Words.{nat_tests, common_steps, ◌≡◌, ℕ, zero, suc, ◌+◌, ◌-◌, min, ◌<◌, ◌≤◌, List, [], ◌∷◌, drop, length, get_or, Bool, true, false, Some, None, ◌⊎◌, inl, inr, refl, sym, ap, ◌∙◌, arith, true≢false, cases_lt, view, items_view, Value, get_item_within, get_item_past, by_position, strided, next_position}
+use Rattle.serde_json_path_core.proofs.Words.{nat_tests, common_steps, ◌≡◌, ℕ, zero, suc, ◌+◌, ◌-◌, min, ◌<◌, ◌≤◌, List, [], ◌∷◌, drop, length, get_or, Bool, true, false, None, ◌⊎◌, inl, inr, refl, sym, ap, ◌∙◌, arith, true≢false, cases_lt, view, items_view, Value, get_item_within, get_item_past, by_position, strided, next_position}
 use Rattle.serde_json_path_core.proofs.Meaning.SlicePositions.{next_strided}
 
 pub first_is : {A : Type 0} {xs ys : List A} {x : A} → xs ≡ x ∷ ys → xs ≡ x ∷ drop 1 xs

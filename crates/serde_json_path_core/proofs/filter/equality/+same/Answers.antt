@@ -1,4 +1,4 @@
-use Rattle.serde_json_path_core.proofs.Words.{arith, nat_tests, common_steps, ◌≡◌, rules, suc, List, [], ◌∷◌, length, String, Global, string_bytes, bytes_eq, Bool, true, false, ◌&&◌, refl, sym, ap, ◌∙◌, Numbers, view, items_view, members_view, Value, same_data, same_items, same_members}
+use Rattle.serde_json_path_core.proofs.Words.{arith, nat_tests, common_steps, ◌≡◌, rules, suc, List, [], ◌∷◌, length, String, Global, Bool, true, false, ◌&&◌, refl, sym, ap, ◌∙◌, Numbers, view, items_view, members_view, Value, same_data, same_items, same_members}
 use Rattle.serde_json_path_core.proofs.filter.equality.+same.Goals as goal
 
 and-false : (b : Bool) → (b && false) ≡ false
