@@ -1,11 +1,5 @@
 -- What is answered, by what was found or by what `clap` says.
-use Rattle.jpq_options.proofs.Words.{◌≡◌, ◌∙◌, ◌⊎◌, ◌&&◌, inl, inr, Bool, true, false, not, cond, List, [], ◌∷◌, map, Option, Some, None, is_some, option_map, refl, sym, ap, ap₂, subst, Result, Ok, Err, IfOk, IsErr, filter, Bor, length-map, is_empty, App, IsAmong, Kinds, Row, Text, fault_of, is_simple, is_simple_and_free, matches_of, ValueParser, ArgumentConflict, OutOfMemory, jpq, IsRequestOf, AreOptions, IsRefusal, IsTold, checks_file, form_of_row, forms, given_forms, has_two, is_given, is_request, lacks_lines, lacks_path, misuse_by, misuse_in, texts, Form}
-use Rattle.std.specs.declared.alloc.AllocError.{AllocError}
-use Rattle.clap.specs.declared.error.kind.ErrorKind.{ErrorKind}
-use Rattle.clap.proofs.OnLiterals.{clap_on_literals}
-use Rattle.jpq_options.specs.declared.options.Options.{Options}
-use Rattle.jpq_options.specs.declared.options.Request.{Request}
-use Rattle.jpq_options.specs.declared.options.Request.TheVariants.{Run, Print, WrongUse}
+use Rattle.jpq_options.proofs.Words.{◌≡◌, ◌∙◌, ◌⊎◌, ◌&&◌, inl, inr, Bool, true, false, not, cond, List, [], ◌∷◌, map, Option, Some, None, is_some, option_map, refl, sym, ap, ap₂, subst, Result, Ok, Err, IfOk, IsErr, filter, Bor, length-map, is_empty, App, IsAmong, Kinds, Row, Text, fault_of, is_simple, is_simple_and_free, matches_of, ValueParser, ArgumentConflict, OutOfMemory, jpq, IsRequestOf, AreOptions, IsRefusal, IsTold, checks_file, form_of_row, forms, given_forms, has_two, is_given, is_request, lacks_lines, lacks_path, misuse_by, misuse_in, texts, Form, AllocError, ErrorKind, clap_on_literals, Options, Request, Run, Print, WrongUse}
 
 -- ---- forms
 

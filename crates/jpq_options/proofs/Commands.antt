@@ -1,7 +1,5 @@
 -- What `clap` reads of a command as it is built.
-use Rattle.jpq_options.proofs.Words.{◌≡◌, ◌∙◌, ◌<◌, true, codes, refl, ◌+◌, ℕ, List, [], ◌∷◌, map, fold, take, length, get_or, ap, sym, ap₂, map_more, App, Rule, new_app, with_rule, on_top, ValueParser, file_rule, jpq, path_rule, rule_of_setting, setting_of, settings}
-use Rattle.std.proofs.lemmas.List.Sums.{fold-append}
-use Rattle.jpq_options.specs.declared.options.OptionRow.{OptionRow}
+use Rattle.jpq_options.proofs.Words.{◌≡◌, ◌∙◌, ◌<◌, true, codes, refl, ◌+◌, ℕ, List, [], ◌∷◌, map, fold, take, length, get_or, ap, sym, ap₂, map_more, App, Rule, new_app, with_rule, on_top, ValueParser, file_rule, jpq, path_rule, rule_of_setting, setting_of, settings, fold-append, OptionRow}
 
 abbrev pub rule_of_row : ValueParser → OptionRow → Rule
 rule_of_row colors row = rule_of_setting colors (setting_of row)

@@ -1,10 +1,5 @@
 -- What the getters of `clap` give, by rows.
-use Rattle.jpq_options.proofs.Words.{◌≡◌, ◌∙◌, List, [], Option, Some, None, ℕ, option_map, refl, sym, ap, subst, find, option_and_then, unwrap_or, Bor, Row, Text, matched_of, one_of, one_text, raw_values, rows_of, row_of, find_row, one_text-rows, raw_values-rows, IsNumberIn, is_given, is_of_words, texts, values_of}
-use Rattle.std.specs.Str.{bytes_eq}
-use Rattle.clap.specs.Facts.{Entry}
-use Rattle.clap.specs.declared.parser.matches.Found.{Found}
-use Rattle.clap.specs.declared.parser.matches.MatchedArg.{MatchedArg}
-use Rattle.clap.specs.declared.parser.matches.ValueSource.{ValueSource}
+use Rattle.jpq_options.proofs.Words.{◌≡◌, ◌∙◌, List, [], Option, Some, None, ℕ, option_map, refl, sym, ap, subst, find, option_and_then, unwrap_or, Bor, Row, Text, matched_of, one_of, one_text, raw_values, rows_of, row_of, find_row, one_text-rows, raw_values-rows, IsNumberIn, is_given, is_of_words, texts, values_of, bytes_eq, Entry, Found, MatchedArg, ValueSource}
 
 pub source-rows : (f : Found) (id : Text)
     → option_and_then (λ a. a.source) (matched_of f id) ≡ option_and_then (λ r. r.source) (find (λ r. bytes_eq r.id id) (rows_of f))

@@ -1,6 +1,5 @@
 -- A line without the carriage return at its end.
-use Rattle.jpq_options.proofs.Words.{◌≡◌, ◌∙◌, ◌≢◌, ◌-◌, ◌<◌, ◌≤◌, ◌+◌, ◌++◌, ℕ, List, [], ◌∷◌, Option, Some, None, cond, length, take, get_or, refl, ap, sym, arith, eq-eqb, ne_eqb, MatchOption, unwrap_or, Bor, strip_carriage_return, take_all, take_more}
-use Rattle.std.proofs.lemmas.Grind.{common_steps}
+use Rattle.jpq_options.proofs.Words.{◌≡◌, ◌∙◌, ◌≢◌, ◌-◌, ◌<◌, ◌≤◌, ◌+◌, ◌++◌, ℕ, List, [], ◌∷◌, Option, Some, None, cond, length, take, get_or, refl, ap, sym, arith, eq-eqb, ne_eqb, MatchOption, unwrap_or, Bor, strip_carriage_return, take_all, take_more, common_steps}
 
 stripped : (l x : List ℕ) → l ≡ x ++ (13 ∷ []) → x ≡ strip_carriage_return l
 stripped l x e =

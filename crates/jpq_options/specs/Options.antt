@@ -1,23 +1,18 @@
 -- What the words of `jpq` ask for.
-use Rattle.std.specs.Prelude.{◌≡◌, ◌⊎◌, ◌++◌, ◌&&◌, ◌||◌, not, ℕ, Bool, true, false, if◌then◌else◌}
-use Rattle.std.specs.Prelude.{List, [], ◌∷◌, map, codes, find}
-use Rattle.std.specs.Prelude.{Option, Some, None, is_some, option_map, option_and_then, unwrap_or}
+use Rattle.std.specs.Prelude.{◌≡◌, ◌⊎◌, ◌++◌, ◌&&◌, ◌||◌, not, ℕ, Bool, true, false, if◌then◌else◌, List, [], ◌∷◌, map, codes, find, Option, Some, None, is_some, option_map, option_and_then, unwrap_or}
 use Rattle.std.specs.List.{filter}
 use Rattle.std.specs.Str.{bytes_eq}
 use Rattle.std.specs.Borrow.{Bor}
 use Rattle.std.specs.Str.Parse.{ParsesUnsigned, ExplainsUnsignedError, HasUnsignedDigitsIfOk}
-use Rattle.clap.specs.Words.{IsAmong, Kinds, ReadsOne, Row, Text, all_of, fault_of, first_of}
-use Rattle.clap.specs.Words.{matches_of, one_of}
+use Rattle.clap.specs.Words.{IsAmong, Kinds, ReadsOne, Row, Text, all_of, fault_of, first_of, matches_of, one_of}
 use Rattle.clap.specs.Walk.{is_empty}
 use Rattle.clap.specs.declared.builder.value_parser.ValueParser.{ValueParser}
 use Rattle.clap.specs.declared.error.kind.ErrorKind.{ErrorKind}
-use Rattle.clap.specs.declared.error.kind.ErrorKind.TheVariants.{ArgumentConflict, DisplayHelp, DisplayVersion}
-use Rattle.clap.specs.declared.error.kind.ErrorKind.TheVariants.{MissingRequiredArgument}
+use Rattle.clap.specs.declared.error.kind.ErrorKind.TheVariants.{ArgumentConflict, DisplayHelp, DisplayVersion, MissingRequiredArgument}
 use Rattle.clap.specs.declared.parser.matches.ValueSource.{ValueSource}
 use Rattle.clap.specs.declared.parser.matches.ValueSource.TheVariants.{CommandLine}
 use Rattle.jpq_options.specs.Table.{IsColorParser, jpq}
 use Rattle.jsonpath_lines.specs.declared.forms.Form.{Form}
-use Rattle.jsonpath_lines.specs.declared.forms.Form.TheVariants as form
 use Rattle.jsonpath_lines.specs.declared.forms.Layout.{Layout}
 use Rattle.jsonpath_lines.specs.declared.forms.Layout.TheVariants.{Compact, Pretty}
 use Rattle.jsonpath_lines.specs.declared.forms.LineEnd.{LineEnd}
@@ -28,8 +23,8 @@ use Rattle.jpq_options.specs.declared.options.Options.{Options}
 use Rattle.jpq_options.specs.declared.options.Request.{Request}
 use Rattle.jpq_options.specs.declared.options.Request.TheVariants.{Run, Print, WrongUse}
 use Rattle.jpq_options.specs.declared.options.Misuse.{Misuse}
-use Rattle.jpq_options.specs.declared.options.Misuse.TheVariants.{TwoForms, NoPath, CheckOfFile}
-use Rattle.jpq_options.specs.declared.options.Misuse.TheVariants.{StrictWithoutLines}
+use Rattle.jpq_options.specs.declared.options.Misuse.TheVariants.{TwoForms, NoPath, CheckOfFile, StrictWithoutLines}
+use Rattle.jsonpath_lines.specs.declared.forms.Form.TheVariants as form
 
 -- ---- what was found, a row for each argument
 

@@ -5,11 +5,10 @@ use Rattle.clap.specs.Words.{App, Rule, Text, new_rule}
 use Rattle.clap.specs.Simple.{new_shape}
 use Rattle.clap.specs.declared.builder.action.ArgAction.TheVariants.{Set, Append, SetTrue}
 use Rattle.clap.specs.declared.builder.value_parser.ValueParser.{ValueParser}
-use Rattle.clap.specs.declared.builder.value_parser.ValueParser.TheVariants as parser
 use Rattle.jpq_options.specs.declared.options.Takes.{Takes}
-use Rattle.jpq_options.specs.declared.options.Takes.TheVariants.{Nothing, Path, File, Number}
-use Rattle.jpq_options.specs.declared.options.Takes.TheVariants.{When}
+use Rattle.jpq_options.specs.declared.options.Takes.TheVariants.{Nothing, Path, File, Number, When}
 use Rattle.jpq_options.specs.declared.options.OptionRow.{OptionRow}
+use Rattle.clap.specs.declared.builder.value_parser.ValueParser.TheVariants as parser
 
 -- an option: its long name, its letter, and what the word after it is
 pub record Setting : Type 0 where

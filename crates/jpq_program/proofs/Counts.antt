@@ -1,7 +1,5 @@
 -- Whether a node is chosen, by how many are.
-use Rattle.std.proofs.Common.{◌≡◌, ◌↔◌, ℕ, false, arith, nat_lt, length, List, [], ◌∷◌, refl}
-use Rattle.serde_json_path_nodes.specs.Location.{Located}
-use Rattle.jsonpath_lines.specs.Output.{IsCountIn}
+use Rattle.jsonpath_lines.proofs.Words.{◌≡◌, ◌↔◌, ℕ, false, arith, nat_lt, length, List, [], ◌∷◌, refl, Located, IsCountIn}
 use Rattle.jsonpath_lines.specs.declared.forms.Form.{Form}
 use Rattle.jsonpath_lines.specs.declared.forms.Form.TheVariants as forms
 

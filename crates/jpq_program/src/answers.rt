@@ -1,10 +1,7 @@
 //! What a path selects from a document, in a form.
 
 ghost use Rattle.std.specs.Prelude.{◌≡◌, ◌↔◌, ◌++◌, ℕ, List, [], IfErr, IfOk, OnOk, false, string_bytes};
-ghost use Rattle.serde_json.specs.View.{view};
-ghost use Rattle.serde_json_path_nodes.specs.Location.{Located};
-ghost use Rattle.serde_json_path_functions.specs.Functions.{Fits};
-ghost use Rattle.serde_json_path_core.specs.Selects.{OnlyMemoryOrPattern, Selects};
+ghost use Rattle.serde_json_path_core.specs.Inside.Words.{view, Located, Fits, OnlyMemoryOrPattern, Selects};
 ghost use Rattle.serde_json_path.specs.Paths.{path_signatures, path_tree, with_rule_of};
 ghost use Rattle.jsonpath_lines.specs.Output.{AreLines, chosen};
 

@@ -99,8 +99,7 @@ module _ (F : FunctionSet) (q : Query) where
   sound-bracketed : (sels : Selectors) (n : ℕ) (sel : Selector) → slice_get (selectors_list sels) n ≡ Some sel
       → IsSound F q AreTypedSelectors calls_in_selectors sels → IsSound F q IsTypedSelector calls_in_selector sel
   sound-bracketed no_selectors n sel e h = absurd (none-some sel e)
-  sound-bracketed (selector first more) zero sel e h =
-      subst (IsSound F q IsTypedSelector calls_in_selector) (same_Some first sel e) (h.0.0, (both-calls q _ _ h.1).0)
+  sound-bracketed (selector first more) zero sel e h = grind (arith, nat_tests, common_steps, same_Some, both-calls)
   sound-bracketed (selector first more) (suc n) sel e h = sound-bracketed more n sel e (h.0.1, (both-calls q _ _ h.1).1)
 
   -- the selector of that number

@@ -1,5 +1,5 @@
 -- Whole numbers, compared by their billionths, are compared as exact numbers.
-use Rattle.serde_json_path_core.proofs.Words.{◌≡◌, ℤ, true, Option, Some, None, refl, sym, ap, ◌∙◌, arith, ints, int_lt, int_eq, Num, number, float, as_integer, document_number, Numbers, whole_numbers, all_numbers, Compared, amount_of, nothing, billionths, exact_of, of_both, rising_sides, same_number, same_sides, whole_of, nat_tests, eq, lt, pos, int_div, is_some, ◌*ℤ◌, unsigned, negative, as_i64, integer, literal_double, integers_less, integers_same, whole_amount, whole_number}
+use Rattle.serde_json_path_core.proofs.Words.{common_steps, ◌≡◌, ℤ, true, Option, Some, None, refl, sym, ap, ◌∙◌, arith, ints, int_lt, int_eq, Num, number, float, as_integer, document_number, Numbers, whole_numbers, all_numbers, Compared, amount_of, nothing, billionths, exact_of, of_both, rising_sides, same_number, same_sides, whole_of, nat_tests, eq, lt, pos, int_div, is_some, ◌*ℤ◌, unsigned, negative, as_i64, integer, literal_double, integers_less, integers_same, whole_amount, whole_number}
 use Rattle.serde_json_path_core.specs.Compared.{value}
 
 -- an integer, of so many billionths
@@ -53,10 +53,7 @@ amount_of_whole (value v) amount e = e
 amount_of_whole nothing amount e = e
 
 pub same_whole : (numbers : Numbers) (a b : Compared) → is_some (whole_of a) ≡ true → is_some (whole_of b) ≡ true → of_both int_eq (whole_of a) (whole_of b) ≡ same_sides numbers a b
-same_whole whole_numbers a b is_x is_y =
-    let x = some_of (whole_of a) is_x in
-    let y = some_of (whole_of b) is_y in
-    rw (x.1, y.1, amount_of_whole a x.0 x.1, amount_of_whole b y.0 y.1) refl
+same_whole whole_numbers a b is_x is_y = grind (arith, nat_tests, common_steps, some_of, amount_of_whole)
 same_whole all_numbers a b is_x is_y = equal a b is_x is_y
 
 pub rising_whole : (numbers : Numbers) (a b : Compared) (x y : ℤ) → whole_of a ≡ Some x → whole_of b ≡ Some y → int_lt x y ≡ rising_sides numbers a b

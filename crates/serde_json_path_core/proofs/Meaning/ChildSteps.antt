@@ -1,5 +1,5 @@
 -- The computed children of a value are those that a step leads to, in document order.
-use Rattle.serde_json_path_core.proofs.Words.{nat_tests, common_steps, ◌≡◌, ℕ, zero, suc, ◌+◌, ◌<◌, ◌≤◌, ℤ, List, Ordering, Less, Equal, Greater, nat_cmp, is_eq, false, bytes_eq, Option, Some, ◌↔◌, inl, inr, refl, sym, ap, subst, ◌∙◌, arith, true≢false, option_to_list, ◌-◌, pos, negsuc, option_map, option_and_then, slice_cmp, ordering_reverse, match_ordering, nat_list_cmp_total, tied_itself, is_eq-slice_cmp, none-some, option_and_then_some, same_Some, bytes_eq-Decides, Data, array, object, Items, no_items, item, Members, no_members, member, put, get_item, get_member, get_member-put, get_member-put_other, Step, by_name, by_position, child_at, StepBefore, IsIn, IsInOrder, SelectsIndex, IsPositionOf, child_by, item_at, position_in, children, items_from, members_all, in_order, cases_Bool, in_option, nat_lt, ints, items_len}
+use Rattle.serde_json_path_core.proofs.Words.{nat_tests, common_steps, ◌≡◌, ℕ, zero, suc, ◌+◌, ◌<◌, ℤ, List, Ordering, Less, Equal, Greater, nat_cmp, is_eq, false, bytes_eq, Option, Some, ◌↔◌, inl, inr, refl, sym, ap, subst, ◌∙◌, arith, true≢false, option_to_list, pos, negsuc, option_map, option_and_then, slice_cmp, ordering_reverse, match_ordering, nat_list_cmp_total, tied_itself, is_eq-slice_cmp, none-some, option_and_then_some, same_Some, bytes_eq-Decides, Data, array, object, Items, no_items, item, Members, no_members, member, put, get_item, get_member, get_member-put, get_member-put_other, Step, by_name, by_position, child_at, StepBefore, IsIn, IsInOrder, SelectsIndex, IsPositionOf, child_by, item_at, position_in, children, items_from, members_all, in_order, cases_Bool, in_option, items_len}
 
 -- ---- the child at a step, and the item of an index
 
@@ -12,18 +12,8 @@ in_child_by v s c = grind (arith, nat_tests, common_steps, in_option, by_step)
 
 -- the position that an index means is the one that it selects
 selects_index : (i : ℤ) (len p : ℕ) → (position_in i len ≡ Some p) ↔ SelectsIndex i len p
-selects_index (pos q) len p =
-    (λ e. inl (ap pos (same_Some q p e)), elim [ inl e ↦ ap Some (omega (arith, ints, e)) | inr h ↦ absurd (let below = h.0 in omega (arith, ints)) ])
-selects_index (negsuc k) len p = elim (cases_Bool (nat_lt k len)) [
-  | inl e ↦ let less : k < len = grind (arith, e) in rw e (
-    λ f. let same = same_Some (len - (k + 1)) p f in inr (omega (arith, ints), omega (arith, ints)),
-    elim [ inl f ↦ absurd (omega (arith, ints, f)) | inr h ↦ let is = h.1 in ap Some (omega (arith, ints)) ],
-  )
-  | inr e ↦ let most : len ≤ k = grind (arith, e) in rw e (
-    λ f. absurd (none-some p f),
-    elim [ inl f ↦ absurd (omega (arith, ints, f)) | inr h ↦ absurd (let is = h.1 in omega (arith, ints)) ],
-  )
-]
+selects_index (pos q) len p = grind (arith, nat_tests, common_steps, same_Some)
+selects_index (negsuc k) len p = grind (arith, nat_tests, common_steps, none-some, same_Some, cases_Bool)
 
 -- the one child at an index
 pub in_item_at : (v : Data) (i : ℤ) (c : Step × Data) → IsIn c (option_to_list (item_at v i)) ↔ (IsPositionOf (SelectsIndex i) v c.0 × (child_at v c.0 ≡ Some c.1))
@@ -46,10 +36,8 @@ in_items i (item d more) c (inr h) = let k = in_items (i + 1) more c h in (suc k
 
 items_in : (i p : ℕ) (items : Items) (c : Data) → get_item p items ≡ Some c → IsIn {A = Step × Data} (by_position (i + p), c) (items_from i items)
 items_in i p no_items c e = absurd (none-some c e)
-items_in i zero (item d more) c e =
-    let f = same_Some d c e in let s : by_position (i + 0) ≡ by_position i = ap by_position (omega arith) in inl (λ j. (s j, sym f j))
-items_in i (suc p) (item d more) c e =
-    inr (subst (λ s. IsIn {A = Step × Data} (s, c) (items_from (i + 1) more)) (ap by_position (omega arith)) (items_in (i + 1) p more c e))
+items_in i zero (item d more) c e = grind (arith, nat_tests, common_steps, same_Some)
+items_in i (suc p) (item d more) c e = grind (arith, nat_tests, common_steps, items_in (i + 1) p more c e)
 
 items_ordered : (i : ℕ) (items : Items) → IsInOrder (λ (a b : Step × Data). StepBefore a.0 b.0) (items_from i items)
 items_ordered i no_items = tt
@@ -78,11 +66,7 @@ apart q k e s = true≢false (sym ((bytes_eq-Decides q k).1 s) ∙ e)
 -- a name finds the same among the members in order
 get_member-in_order : (q : List ℕ) (ms : Members) → get_member q (in_order ms) ≡ get_member q ms
 get_member-in_order q no_members = refl
-get_member-in_order q (member k d ms) = elim (cases_Bool (bytes_eq q k)) [
-  | inl e ↦ subst (λ x. get_member x (put k d (in_order ms)) ≡ get_member x (member k d ms)) (sym ((bytes_eq-Decides q k).0 e))
-      (get_member-put k d (in_order ms) ∙ sym (found_here k d ms))
-  | inr e ↦ get_member-put_other q k d (in_order ms) (apart q k e) ∙ get_member-in_order q ms ∙ sym (found_later q k d ms e)
-]
+get_member-in_order q (member k d ms) = grind (arith, nat_tests, common_steps, bytes_eq-Decides, get_member-put, get_member-put_other, cases_Bool, found_here, found_later, apart, get_member-in_order q ms)
 
 -- the name is before each of the members' names
 abbrev pub IsBelow : List ℕ → Members → Type 0
@@ -104,10 +88,7 @@ below_found k q (member l d ms) c a e = elim (cases_Bool (bytes_eq q l)) [
 in_members : (ms : Members) (c : Step × Data) → AreRising ms → IsIn c (members_all ms) → (k : List ℕ) × (c.0 ≡ by_name k) × (get_member k ms ≡ Some c.1)
 in_members no_members c r h = absurd h
 in_members (member k d ms) c r (inl e) = (k, ap (λ (x : Step × Data). x.0) e, found_here k d ms ∙ ap (λ (x : Step × Data). Some x.1) (sym e))
-in_members (member k d ms) c r (inr h) =
-    let (q, is, there) = in_members ms c r.1 h in
-    let before = nat_list_cmp_total.antisymm q k ∙ ap ordering_reverse (below_found k q ms c.1 r.0 there) in
-    (q, is, found_later q k d ms (sym (is_eq-slice_cmp q k) ∙ ap is_eq before) ∙ there)
+in_members (member k d ms) c r (inr h) = grind (arith, nat_tests, common_steps, nat_list_cmp_total, is_eq-slice_cmp, found_later, below_found, in_members ms c r.1 h)
 
 members_in : (ms : Members) (k : List ℕ) (c : Data) → get_member k ms ≡ Some c → IsIn {A = Step × Data} (by_name k, c) (members_all ms)
 members_in no_members k c e = absurd (none-some c e)
@@ -128,11 +109,7 @@ below_trans k l (member m d ms) h a = (nat_list_cmp_total.trans k l m h a.0, bel
 
 below-put : (l k : List ℕ) (d : Data) (ms : Members) → slice_cmp nat_cmp l k ≡ Less → IsBelow l ms → IsBelow l (put k d ms)
 below-put l k d no_members h a = (h, tt)
-below-put l k d (member m e ms) h a = elim (slice_cmp nat_cmp k m) as (λ o. IsBelow l (match_ordering o (member k d (member m e ms)) (member m d ms) (member m e (put k d ms)))) [
-  | Less ↦ (h, a)
-  | Equal ↦ a
-  | Greater ↦ (a.0, below-put l k d ms h a.1)
-]
+below-put l k d (member m e ms) h a = grind (arith, nat_tests, common_steps, below-put l k d ms h a.1)
 
 rising-put : (k : List ℕ) (d : Data) (ms : Members) → AreRising ms → AreRising (put k d ms)
 rising-put k d no_members r = (tt, tt)
@@ -166,8 +143,7 @@ children_sound (object ms) c h =
 children_sound _ c h = absurd h
 
 children_complete : (v : Data) (s : Step) (c : Data) → child_at v s ≡ Some c → IsIn {A = Step × Data} (s, c) (children v)
-children_complete (array items) (by_position p) c e =
-    subst (λ q. IsIn {A = Step × Data} (by_position q, c) (items_from 0 items)) (omega arith) (items_in 0 p items c e)
+children_complete (array items) (by_position p) c e = grind (arith, nat_tests, common_steps, items_in)
 children_complete (object ms) (by_name k) c e = members_in (in_order ms) k c (get_member-in_order k ms ∙ e)
 children_complete _ _ c e = absurd (none-some c e)
 

@@ -1,5 +1,5 @@
 -- Where derivations end, and what is beneath.
-use Rattle.serde_json_path_core.proofs.Words.{◌≡◌, suc, List, [], ◌∷◌, ◌++◌, map, flat_map, inl, inr, option_to_list, refl, sym, ap, ◌∙◌, arith, append_assoc, append-nil, map-append, flat_map-map, Data, Step, by_name, Located, StepBefore, DescentBefore, SegmentKind, child, descendant, Segments, no_segments, segment, Segment, dot_name, dot_wildcard, long_hand, Selectors, no_selectors, selector, Selector, name, wildcard, index, slice, filter, FunctionSet, Triple, location_of, SelectedBefore, TripleBefore, Before, beneath, IsIn, IsInOrder, child_by, item_at, itself, children, descents, reached, placed, results_from, chosen, chosen_by, selected, is_true, in_append, in_map, weaker, in_order-append, in_order-map, in_order-flat_map, in_order-keep, in_order-option, flat_map-same, flat_map-flat_map, map-flat_map, map-map}
+use Rattle.serde_json_path_core.proofs.Words.{nat_tests, common_steps, ◌≡◌, suc, List, [], ◌∷◌, ◌++◌, map, flat_map, inl, inr, option_to_list, refl, sym, ap, ◌∙◌, arith, append_assoc, append-nil, map-append, flat_map-map, Data, Step, by_name, Located, StepBefore, DescentBefore, SegmentKind, child, descendant, Segments, no_segments, segment, Segment, dot_name, dot_wildcard, long_hand, Selectors, no_selectors, selector, Selector, name, wildcard, index, slice, filter, FunctionSet, Triple, location_of, SelectedBefore, TripleBefore, Before, beneath, IsIn, IsInOrder, child_by, item_at, itself, children, descents, reached, placed, results_from, chosen, chosen_by, selected, is_true, in_append, in_map, weaker, in_order-append, in_order-map, in_order-flat_map, in_order-keep, in_order-option, flat_map-same, flat_map-flat_map, map-flat_map, map-map}
 use Rattle.serde_json_path_core.proofs.Meaning.ChildSteps.{children_ordered}
 use Rattle.serde_json_path_core.proofs.Meaning.Descents.{descents_ordered}
 use Rattle.serde_json_path_core.proofs.Meaning.SlicePositions.{sliced_ordered}
@@ -37,8 +37,7 @@ child_of n t = record { location = n.location ++ (t.0.descent ++ t.0.step ∷ []
 
 node_at-after : (n : Located) (t : Triple × Data) (es : List End) → map (node_at (child_of n t)) es ≡ map (node_at n) (map (after t) es)
 node_at-after n t [] = refl
-node_at-after n t (e ∷ es) =
-    rw (append_assoc n.location (t.0.descent ++ t.0.step ∷ []) (location_of e.0), node_at-after n t es) refl
+node_at-after n t (e ∷ es) = grind (arith, nat_tests, common_steps, node_at-after n t es)
 
 child_of-triple : (n : Located) (down : List Step) (cs : List (Step × Data)) → map (child_of n) (map (triple_at down) cs) ≡ map (placed (n.location ++ down)) cs
 child_of-triple n down [] = refl
@@ -112,8 +111,7 @@ module _ (F : FunctionSet) (top : Data) where
 
   picks_ordered : (seg : Segment) (down : List Step) (v : Data) → IsInOrder (λ (t u : Triple × Data). TripleBefore seg t.0 u.0) (picks seg down v)
   picks_ordered (dot_name k) down v = in_order-map _ (triple_at down) (option_to_list (child_by v (by_name k))) (in_order-option _ (child_by v (by_name k)))
-  picks_ordered dot_wildcard down v =
-      in_order-map _ (triple_at down) (children v) (weaker _ _ (children v) (λ a b h. inr (refl, inr (refl, h))) (children_ordered v))
+  picks_ordered dot_wildcard down v = grind (arith, nat_tests, common_steps, weaker, in_order-map, children_ordered)
   picks_ordered (long_hand sels) down v = picks_by_ordered sels down v
 
   through_ordered : (kind : SegmentKind) (seg : Segment) (v : Data) → IsInOrder (λ (t u : Triple × Data). TripleBefore seg t.0 u.0) (through kind seg v)
@@ -138,8 +136,7 @@ module _ (F : FunctionSet) (top : Data) where
   child_of-picks_by : (sels : Selectors) (n : Located) (down : List Step) (v : Data)
       → map (child_of n) (picks_by sels down v) ≡ map (placed (n.location ++ down)) (chosen_by F top sels v)
   child_of-picks_by no_selectors n down v = refl
-  child_of-picks_by (selector sel more) n down v =
-      rw (map-append, child_of-triple n down (selected F top sel v), map-map, child_of-picks_by more n down v, map-append) refl
+  child_of-picks_by (selector sel more) n down v = grind (arith, nat_tests, common_steps, map-append, map-map, child_of-triple, child_of-picks_by more n down v)
 
   child_of-picks : (seg : Segment) (n : Located) (down : List Step) (v : Data) → map (child_of n) (picks seg down v) ≡ map (placed (n.location ++ down)) (chosen F top seg v)
   child_of-picks (dot_name k) n down v = child_of-triple n down (option_to_list (child_by v (by_name k)))

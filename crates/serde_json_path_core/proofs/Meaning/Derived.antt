@@ -24,10 +24,7 @@ at_below v down d s c rest p q = grind (arith, nat_tests, common_steps, at-appen
 
 -- the values at which selectors are applied are those that the segment may descend to
 in_levels : (kind : SegmentKind) (v : Data) (m : Located) → IsIn m (levels kind v) ↔ (MayDescend kind m.location × (at v m.location ≡ Some m.value))
-in_levels child v m = (
-  elim [ inl e ↦ (ap (λ (n : Located). n.location) e, subst (λ (n : Located). at v n.location ≡ Some n.value) (sym e) refl) | inr h ↦ absurd h ],
-  λ h. let same = same_Some v m.value (ap (at v) (sym h.0) ∙ h.1) in inl (λ i. record { location = h.0 i; value = sym same i }),
-)
+in_levels child v m = grind (arith, nat_tests, common_steps, same_Some)
 in_levels descendant v m = let d = in_descents v m in (λ h. (tt, d.0 h), λ h. d.1 h.1)
 
 -- the triples of children
@@ -53,11 +50,7 @@ truth_of P b t d = (λ h. h.1 ∙ ap logical (same_from_decides h.0 b h.2 d), λ
 -- a relation of what the sides stand for
 relation_right : (numbers : Numbers) (op : Operator) (o p : Option Compared) (A B : Compared → Type 0) → ((x : Compared) → A x ↔ (o ≡ Some x)) → ((y : Compared) → B y ↔ (p ≡ Some y))
     → Decides (compare_sides numbers op o p) ((x y : Compared) × A x × B y × Compares numbers op x y)
-relation_right numbers op (Some a) (Some b) A B f g =
-    let d = Decides-compare numbers op a b in (
-      λ e. (a, b, (f a).1 refl, (g b).1 refl, d.0 e),
-      λ h. d.1 (subst (λ x. Compares numbers op x b) (sym (same_Some a h.0 ((f h.0).0 h.2))) (subst (Compares numbers op h.0) (sym (same_Some b h.1 ((g h.1).0 h.3))) h.4)),
-    )
+relation_right numbers op (Some a) (Some b) A B f g = grind (arith, nat_tests, common_steps, same_Some, Decides-compare)
 relation_right numbers op None p A B f g = (λ e. absurd (true≢false (sym e)), λ h. absurd (none-some h.0 ((f h.0).0 h.2)))
 relation_right numbers op (Some a) None A B f g = (λ e. absurd (true≢false (sym e)), λ h. absurd (none-some h.1 ((g h.1).0 h.3)))
 
@@ -76,9 +69,7 @@ answer_side there a A f x = (λ h. ap answer_compared (sym ((f.1 (value h.0)).0 
 
 -- an answer as a test
 answer_test : (there : Bool) (a : Term) (A : Term → Type 0) → IsAnswer there a A → Decides (answer_holds a) ((t : Term) × A t × AnswersYes t)
-answer_test true a A f =
-    let d = yes_decides a in
-    (λ e. (a, (f.1 a).1 (refl, refl), d.0 e), λ h. d.1 (subst AnswersYes ((f.1 h.0).0 h.1).1 h.2))
+answer_test true a A f = grind (arith, nat_tests, common_steps, yes_decides)
 answer_test false a A f = (λ e. absurd (true≢false (sym e ∙ ap answer_holds (f.0 refl))), λ h. absurd (true≢false (sym ((f.1 h.0).0 h.1).0)))
 
 -- an answer as an argument of type Logical
@@ -93,8 +84,7 @@ plainly f = (λ p. (refl, f.0 p), λ h. f.1 h.1)
 -- one argument and those after it
 one_more : (first others : Bool) (P Q : Type 0) (t a : Term) (ts more : List Term) → P ↔ ((first ≡ true) × (t ≡ a)) → Q ↔ ((others ≡ true) × (ts ≡ more))
     → (P × Q) ↔ (((first && others) ≡ true) × ((t ∷ ts) ≡ (a ∷ more)))
-one_more true others P Q t a ts more f g =
-    (λ h. ((g.0 h.1).0, λ i. (f.0 h.0).1 i ∷ (g.0 h.1).1 i), λ (e, same). (f.1 (refl, cc), g.1 (e, cc)))
+one_more true others P Q t a ts more f g = grind (arith, nat_tests, common_steps)
 one_more false others P Q t a ts more f g = (λ h. absurd (true≢false (sym (f.0 h.0).0)), λ e. absurd (true≢false (sym e.0)))
 
 module _ (F : FunctionSet) (top : Data) where

@@ -1,5 +1,5 @@
 -- The computed values below a value are those at its locations, in document order.
-use Rattle.serde_json_path_core.proofs.Words.{◌≡◌, ℕ, zero, suc, ◌+◌, ◌≤◌, max, length, List, [], ◌∷◌, ◌++◌, map, flat_map, Ordering, Less, nat_cmp, Some, option_and_then, ◌↔◌, inl, inr, refl, sym, ap, subst, ◌∙◌, arith, insert_entry, slice_cmp, match_ordering, same_Some, option_and_then_some, Data, array, object, Items, no_items, item, Members, no_members, member, put, Step, by_name, by_position, child_at, at, Located, DescentBefore, IsIn, IsInOrder, beneath, children, items_from, members_all, in_order, itself, below_member, descents, items_descents, members_descents, in_map, in_flat_map, weaker, in_order-map, in_order-flat_map}
+use Rattle.serde_json_path_core.proofs.Words.{nat_tests, common_steps, ◌≡◌, ℕ, zero, suc, ◌+◌, ◌≤◌, max, length, List, [], ◌∷◌, ◌++◌, map, flat_map, Ordering, Less, nat_cmp, Some, option_and_then, ◌↔◌, inl, inr, refl, sym, ap, subst, ◌∙◌, arith, insert_entry, slice_cmp, match_ordering, same_Some, option_and_then_some, Data, array, object, Items, no_items, item, Members, no_members, member, put, Step, by_name, by_position, child_at, at, Located, DescentBefore, IsIn, IsInOrder, beneath, children, items_from, members_all, in_order, itself, below_member, descents, items_descents, members_descents, in_map, in_flat_map, weaker, in_order-map, in_order-flat_map}
 use Rattle.serde_json_path_core.proofs.Meaning.ChildSteps.{in_children, children_ordered}
 
 -- ---- child by child
@@ -23,15 +23,11 @@ blocks-match_ordering _ a b c = refl
 
 blocks-put : (k : List ℕ) (d : Data) (ms : Members) → insert_entry (slice_cmp nat_cmp) (blocks ms) k (descents d) ≡ blocks (put k d ms)
 blocks-put k d no_members = refl
-blocks-put k d (member l e more) =
-    let first = blocks (member k d (member l e more)) in
-    ap (λ later. match_ordering (slice_cmp nat_cmp k l) first (blocks (member l d more)) ((l, descents e) ∷ later)) (blocks-put k d more)
-    ∙ blocks-match_ordering (slice_cmp nat_cmp k l) (member k d (member l e more)) (member l d more) (member l e (put k d more))
+blocks-put k d (member l e more) = grind (arith, nat_tests, common_steps, blocks-match_ordering, blocks-put k d more)
 
 members_descents-in_order : (ms : Members) → members_descents ms ≡ blocks (in_order ms)
 members_descents-in_order no_members = refl
-members_descents-in_order (member k d more) =
-    ap (λ later. insert_entry (slice_cmp nat_cmp) later k (descents d)) (members_descents-in_order more) ∙ blocks-put k d (in_order more)
+members_descents-in_order (member k d more) = grind (arith, nat_tests, common_steps, blocks-put, members_descents-in_order more)
 
 blocks-children : (ms : Members) → flat_map below_member (blocks ms) ≡ flat_map below_child (members_all ms)
 blocks-children no_members = refl
@@ -40,8 +36,7 @@ blocks-children (member k d more) = ap (λ ns. below_child (by_name k, d) ++ ns)
 -- a value and all below it are the value, and each child and all below it
 pub descents_are : (v : Data) → descents v ≡ itself v ∷ flat_map below_child (children v)
 descents_are (array items) = ap (λ ns. itself (array items) ∷ ns) (items_descents-children 0 items)
-descents_are (object ms) =
-    ap (λ ns. itself (object ms) ∷ ns) (ap (flat_map below_member) (members_descents-in_order ms) ∙ blocks-children (in_order ms))
+descents_are (object ms) = grind (arith, nat_tests, common_steps, members_descents-in_order, blocks-children)
 descents_are _ = refl
 
 -- ---- membership

@@ -81,8 +81,7 @@ same_pair start xs n m h g = grind (arith, nat_tests, common_steps, same_Some)
 
 same_pairs : (start : Data) (ds : List (List Triple)) (ns ms : List Located) → AllZip (BelongsTo start) ds ns → AllZip (BelongsTo start) ds ms → ns ≡ ms
 same_pairs start [] [] [] h g = refl
-same_pairs start (d ∷ ds) (n ∷ ns) (m ∷ ms) h g =
-    ap (λ x. x ∷ ns) (same_pair start d n m h.0 g.0) ∙ ap (λ xs. m ∷ xs) (same_pairs start ds ns ms h.1 g.1)
+same_pairs start (d ∷ ds) (n ∷ ns) (m ∷ ms) h g = grind (arith, nat_tests, common_steps, same_pair, same_pairs start ds ns ms h.1 g.1)
 same_pairs start _ _ _ h g = absurd (assumption (h, g))
 
 -- a query has one result at most

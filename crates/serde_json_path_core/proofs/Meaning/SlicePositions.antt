@@ -156,17 +156,7 @@ strides_less : (i j k : ℕ) → i < j → i * suc k < j * suc k
 strides_less i j k h = mul-lt-mul_of_pos_right h (omega arith)
 
 is_course : (z : ℤ) (s : Slice) (len : ℕ) → step_of s ≡ z → ArePositions s len (positions_by z s len)
-is_course (pos zero) s len e = record {
-  selects = λ p. (
-    elim [
-      | inl h ↦ absurd (let up = subst (λ z. pos 0 <ℤ z) e h.0 in omega (arith, ints))
-      | inr h ↦ absurd (let down = subst (λ z. z <ℤ pos 0) e h.0 in omega (arith, ints))
-    ],
-    λ h. absurd (let k = h.1 in omega arith),
-  );
-  there = λ j h. absurd (omega arith);
-  before = λ i j h g. absurd (omega arith);
-}
+is_course (pos zero) s len e = grind (arith, nat_tests, common_steps)
 is_course (pos (suc k)) s len e =
     let i = nat_abs (low s len k) in
     let w = nat_abs (high s len k) - i in

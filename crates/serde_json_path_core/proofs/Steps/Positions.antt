@@ -1,5 +1,5 @@
 -- The positions of a slice, and how they go on by one.
-use Rattle.serde_json_path_core.proofs.Words.{◌≡◌, ℕ, zero, suc, ◌+◌, ◌-◌, min, ◌<◌, ◌≤◌, List, [], ◌∷◌, drop, length, get_or, Bool, true, false, Some, None, ◌⊎◌, inl, inr, refl, sym, ap, ◌∙◌, arith, true≢false, cases_lt, view, items_view, Value, get_item_within, get_item_past, by_position, strided, next_position}
+use Rattle.serde_json_path_core.proofs.Words.{nat_tests, common_steps, ◌≡◌, ℕ, zero, suc, ◌+◌, ◌-◌, min, ◌<◌, ◌≤◌, List, [], ◌∷◌, drop, length, get_or, Bool, true, false, None, ◌⊎◌, inl, inr, refl, sym, ap, ◌∙◌, arith, true≢false, cases_lt, view, items_view, Value, get_item_within, get_item_past, by_position, strided, next_position}
 use Rattle.serde_json_path_core.proofs.Meaning.SlicePositions.{next_strided}
 
 pub first_is : {A : Type 0} {xs ys : List A} {x : A} → xs ≡ x ∷ ys → xs ≡ x ∷ drop 1 xs
@@ -16,19 +16,13 @@ pub strided-first : (items : List Value) (count : ℕ) (upwards : Bool) (first s
     → strided count upwards first stride (items_view items)
     ≡ (by_position first, view (get_or items first d)) ∷ strided (count - 1) upwards (next_position upwards first stride) stride (items_view items)
 strided-first items zero upwards first stride d some within = absurd (some refl)
-strided-first items (suc count) upwards first stride d some within =
-    next_strided count upwards first stride (items_view items) (Some (view (get_or items first d))) (sym (get_item_within items first d within))
-    ∙ ap (λ n. (by_position first, view (get_or items first d)) ∷ strided n upwards (next_position upwards first stride) stride (items_view items)) (omega arith)
+strided-first items (suc count) upwards first stride d some within = grind (arith, nat_tests, common_steps, get_item_within, next_strided)
 
 -- upwards, a position that stops at some number past the items has no item, as the one that it stands for
 pub strided-up : (items : List Value) (count : ℕ) (upwards : Bool) (first stride next greatest : ℕ) → upwards ≡ true → next ≡ min (first + stride) greatest → length items ≤ greatest
     → strided count upwards (next_position upwards first stride) stride (items_view items) ≡ strided count upwards next stride (items_view items)
 strided-up items count false first stride next greatest up is most = absurd (true≢false (sym up))
-strided-up items count true first stride next greatest up is most =
-    elim (cases_lt greatest (first + stride)) [
-      | inl beyond ↦ strided-none items count true (first + stride) stride (inr (omega arith)) ∙ sym (strided-none items count true next stride (inr (omega arith)))
-      | inr within ↦ ap (λ p. strided count true p stride (items_view items)) (omega arith)
-    ]
+strided-up items count true first stride next greatest up is most = grind (arith, nat_tests, common_steps, cases_lt, strided-none)
 
 -- downwards, a position stops at 0
 pub strided-down : (items : List Value) (count : ℕ) (upwards : Bool) (first stride next : ℕ) → upwards ≡ false → next ≡ first - stride

@@ -19,8 +19,7 @@ chain-split First (q ∷ qs) p h = let above = chain-split (IsAtChild q.value) q
 -- the last frame is replaced by one at the same value
 chain-held : (First : Frame → Type 0) (ps : List Frame) (p m : Frame) → (First p → First m) → IsSameFrame p m → IsChain First (ps ++ p ∷ []) → IsChain First (ps ++ m ∷ [])
 chain-held First [] p m stays same h = (stays h.0, same.3 h.1, tt)
-chain-held First (r ∷ rs) p m stays same h =
-    (h.0, h.1, chain-held (IsAtChild r.value) rs p m (λ at. (at.0, same.0 ∙ at.1, at.2 ∙ ap Some (sym same.1))) same h.2)
+chain-held First (r ∷ rs) p m stays same h = grind (arith, nat_tests, common_steps, chain-held (IsAtChild r.value) rs p m (λ at. (at.0, same.0 ∙ at.1, at.2 ∙ ap Some (sym same.1))) same h.2)
 
 -- a frame at a child of the last one is put above
 chain-above : (First : Frame → Type 0) (ps : List Frame) (m q : Frame) → IsChain First (ps ++ m ∷ []) → IsAtChild m.value q → IsOfValue q → IsChain First ((ps ++ m ∷ []) ++ q ∷ [])
@@ -29,10 +28,7 @@ chain-above First (r ∷ rs) m q h at left = (h.0, h.1, chain-above (IsAtChild r
 
 chain-height : (First : Frame → Type 0) (n : ℕ) (ps : List Frame) → ((p : Frame) → First p → height p.value < n) → IsChain First ps → length ps ≤ n
 chain-height First n [] low h = omega arith
-chain-height First n (p ∷ ps) low h =
-    let lower = low p h.0 in
-    let above = chain-height (IsAtChild p.value) (height p.value) ps (λ q at. height-child_at p.value at.0 q.value at.2) h.2 in
-    omega arith
+chain-height First n (p ∷ ps) low h = grind (arith, nat_tests, common_steps, height, height-child_at, chain-height (IsAtChild p.value) (height p.value) ps (λ q at. height-child_at p.value at.0 q.value at.2) h.2)
 
 -- ---- stacks
 

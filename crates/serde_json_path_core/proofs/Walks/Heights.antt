@@ -1,5 +1,5 @@
 -- A document's height, computed.
-use Rattle.serde_json_path_core.proofs.Words.{◌≡◌, ℕ, ◌<◌, List, [], ◌∷◌, length, flat_map, Some, option_and_then, inl, inr, refl, sym, subst, ap, ◌∙◌, arith, cases_lt, Data, Step, child_at, at, Located, IsIn, children, descents, itself, IsHeight}
+use Rattle.serde_json_path_core.proofs.Words.{nat_tests, common_steps, ◌≡◌, ℕ, ◌<◌, List, [], ◌∷◌, length, flat_map, Some, option_and_then, inl, inr, refl, sym, subst, ap, ◌∙◌, arith, cases_lt, Data, Step, child_at, at, Located, IsIn, children, descents, itself, IsHeight}
 use Rattle.serde_json_path_core.proofs.Meaning.Descents.{below_child, descents_are, in_descents, longest, no_longer}
 
 some_longest : (n : Located) (ns : List Located) → (m : Located) × IsIn m (n ∷ ns) × (length m.location ≡ longest (n ∷ ns))
@@ -33,7 +33,4 @@ height-child_at v s c e =
 
 -- a document has one height
 pub same_height : (v : Data) (m n : ℕ) → IsHeight v m → IsHeight v n → m ≡ n
-same_height v m n (most, (location, w, there, long)) (most_too, (other, u, there_too, long_too)) =
-    let above = most_too location w there in
-    let below = most other u there_too in
-    omega arith
+same_height v m n (most, (location, w, there, long)) (most_too, (other, u, there_too, long_too)) = grind (arith, nat_tests, common_steps)

@@ -1,5 +1,5 @@
 -- Stacks of frames: what is left of a walk, and the stack with which one begins.
-use Rattle.serde_json_path_core.proofs.Words.{nat_tests, common_steps, ◌≡◌, ℕ, ◌+◌, List, [], ◌∷◌, ◌++◌, map, drop, flat_map, Option, Some, refl, ap, ◌∙◌, sym, append_assoc, ◌<◌, ◌≤◌, length, true, arith, length-append, None, flat_map-append, append-nil, drop-drop, flat_map-map, Step, Located, SegmentKind, child, descendant, Selector, name, wildcard, beneath, children, descents, placed, reached, Stage, Frame, candidates, lower, entered, frame_arrivals, is_leaf, here, stack_path, visit, visit_rest, visit_place, visit_stack, admitted, unfiltered, rest_of, work, flat_map-same, flat_map-flat_map, FunctionSet, Data, Query, query, kind_of, segments_of, Segments, no_segments, segment, Segment, dot_name, dot_wildcard, long_hand, Selectors, no_selectors, selector, filter, start_of, results, results_from, chosen, chosen_by, selected, selectors_of, selectors_list, stages, array, object}
+use Rattle.serde_json_path_core.proofs.Words.{nat_tests, common_steps, ◌≡◌, ℕ, ◌+◌, List, [], ◌∷◌, ◌++◌, map, drop, flat_map, Option, Some, refl, ap, ◌∙◌, sym, append_assoc, ◌<◌, ◌≤◌, length, true, arith, length-append, None, flat_map-append, append-nil, drop-drop, flat_map-map, Step, Located, SegmentKind, child, descendant, Selector, name, wildcard, beneath, placed, reached, Stage, Frame, candidates, lower, entered, frame_arrivals, is_leaf, here, stack_path, visit, visit_rest, visit_place, visit_stack, admitted, unfiltered, rest_of, work, flat_map-same, flat_map-flat_map, FunctionSet, Data, Query, query, kind_of, segments_of, Segments, no_segments, segment, Segment, dot_name, dot_wildcard, long_hand, Selectors, no_selectors, selector, filter, start_of, results, results_from, chosen, chosen_by, selected, selectors_of, selectors_list, stages, array, object}
 use Rattle.serde_json_path_core.proofs.Meaning.Descents.{below_child, descents_are}
 use Rattle.serde_json_path_core.proofs.Walks.Frames.{next_opened}
 
@@ -18,12 +18,7 @@ module _ {A : Type 0} (make : Located → List A) where
   -- a node, and then its children with all below them
   pub unrolled : (kind : SegmentKind) (n : Located) → flat_map make (reached kind n) ≡ make n ++ flat_map (λ c. flat_map make (reached kind (placed n.location c))) (lower kind n.value)
   unrolled child n = refl
-  unrolled descendant n =
-      flat_map-map make (beneath n.location) (descents n.value)
-      ∙ ap (flat_map (λ m. make (beneath n.location m))) (descents_are n.value)
-      ∙ ap (λ location. make (located location n.value) ++ flat_map (λ m. make (beneath n.location m)) (flat_map below_child (children n.value))) (append-nil n.location)
-      ∙ ap (λ xs. make n ++ xs)
-      (flat_map-flat_map (λ m. make (beneath n.location m)) below_child (children n.value) ∙ flat_map-same _ _ (below-placed n) (children n.value))
+  unrolled descendant n = grind (arith, nat_tests, common_steps, flat_map-map, flat_map-same, flat_map-flat_map, below_child, descents_are, below-placed)
 
 -- ---- stacks
 
@@ -58,9 +53,7 @@ module _ (admit : Selector → List (Step × Data) → List (Step × Data)) {A :
   of_stack-last : (above : List Step) (ps : List Frame) (p : Frame)
       → visit_stack admit before leaf all above (ps ++ p ∷ []) ≡ visit_place admit before leaf all (here (stack_path above ps) p) p ++ visit_stack admit before leaf all above ps
   of_stack-last above [] p = sym (append-nil _)
-  of_stack-last above (q ∷ qs) p =
-      ap (λ xs. xs ++ visit_place admit before leaf all (here above q) q) (of_stack-last (here above q) qs p)
-      ∙ append_assoc (visit_place admit before leaf all (here (stack_path (here above q) qs) p) p) _ _
+  of_stack-last above (q ∷ qs) p = grind (arith, nat_tests, common_steps, of_stack-last (here above q) qs p)
 
   -- the last frame gives its node
   pub gives : (ps : List Frame) (p : Frame) → drop p.segment all ≡ [] → of_stack (ps ++ p ∷ []) ≡ leaf (located (stack_path [] (ps ++ p ∷ [])) p.value) ++ of_stack ps
@@ -171,8 +164,7 @@ module _ (F : FunctionSet) (top : Data) where
 
   chosen_by-list : (sels : Selectors) (v : Data) → flat_map (λ s. admitted F top s (candidates s v)) (selectors_list sels) ≡ chosen_by F top sels v
   chosen_by-list no_selectors v = refl
-  chosen_by-list (selector sel more) v =
-      rw (selected-admitted sel v, chosen_by-list more v) refl
+  chosen_by-list (selector sel more) v = grind (arith, nat_tests, common_steps, selected-admitted, chosen_by-list more v)
 
   pub chosen-list : (seg : Segment) (v : Data) → flat_map (λ s. admitted F top s (candidates s v)) (selectors_of seg) ≡ chosen F top seg v
   chosen-list (dot_name k) v = append-nil _
@@ -194,5 +186,4 @@ module _ (F : FunctionSet) (top : Data) where
   -- at the query's start, it is the query's result
   pub begun-results : (q : Query) (here start : Data) (segs : Segments) (ps : List Frame) → segs ≡ segments_of q → start ≡ start_of (kind_of q) top here → ps ≡ entered None 0 (stages segs) start ∷ []
       → rest_of F top (stages segs) ps ≡ results F top q here
-  begun-results (query kind more) here start segs ps e s begins =
-      rest-started segs start ps begins ∙ ap (λ ss. results_from F top ss (located [] start)) e ∙ ap (λ v. results_from F top more (located [] v)) s
+  begun-results (query kind more) here start segs ps e s begins = grind (arith, nat_tests, common_steps, begins, rest-started)

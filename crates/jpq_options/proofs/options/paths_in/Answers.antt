@@ -1,8 +1,4 @@
-use Rattle.jpq_options.proofs.Words.{arith, rules, tests, strip_carriage_return}
-use Rattle.std.proofs.lemmas.Iterator.{YieldsList-from_map_by}
-use Rattle.std.proofs.lemmas.Iterator.Consumers.{YieldsList-at, YieldsList-from_filter, map_from_collect}
-use Rattle.std.proofs.lemmas.Iterator.Splits.{YieldsList-from_str_split}
-use Rattle.jpq_options.specs.Paths.{is_path_line}
+use Rattle.jpq_options.proofs.Words.{arith, rules, tests, strip_carriage_return, YieldsList-from_map_by, YieldsList-at, YieldsList-from_filter, map_from_collect, YieldsList-from_str_split, is_path_line}
 use Rattle.jpq_options.proofs.options.paths_in.Goals as goal
 
 pub returns : goal.returns

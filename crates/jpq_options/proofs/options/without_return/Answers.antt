@@ -1,5 +1,4 @@
-use Rattle.jpq_options.proofs.Words.{◌∙◌, ap, arith}
-use Rattle.std.proofs.lemmas.Str.Pattern.{strip_suffix_char}
+use Rattle.jpq_options.proofs.Words.{◌∙◌, ap, arith, strip_suffix_char}
 use Rattle.jpq_options.proofs.Returns.{without}
 use Rattle.jpq_options.proofs.options.without_return.Goals as goal
 

@@ -1,5 +1,4 @@
-use Rattle.std.proofs.Common.{string_bytes}
-use Rattle.serde_json_path_core.specs.Walks.{rest}
+use Rattle.serde_json_path_core.proofs.Words.{string_bytes, rest}
 use Rattle.jpq_program.proofs.Counts.{counted}
 use Rattle.jpq_program.proofs.answers.push_answer.Goals as goal
 

@@ -1,5 +1,4 @@
 use Rattle.std.proofs.Common.{inl, inr, refl}
-use Rattle.jpq_program.proofs.run.run.Goals.{in-Ok-Run, in-Ok-Print, in-Err}
 use Rattle.jpq_program.proofs.run.run.Goals as goal
 
 pub returns-in-Ok-WrongUse-clause-status : goal.returns-in-Ok-WrongUse-clause-status
@@ -8,7 +7,7 @@ returns-in-Ok-WrongUse-clause-status g c =
 
 pub returns-clause-status : goal.returns-clause-status
 returns-clause-status g c = elim c.match-read.branch [
-  | in-Ok-Run w ↦ inl (w.in-Ok-Run.field-0, rw w.in-Ok-Run.is at c.read.ensures, rw w.in-Ok-Run.field-0-is c.exit_status.ensures.few)
-  | in-Ok-Print w ↦ inl (w.in-Ok-Print.field-0, rw w.in-Ok-Print.is at c.read.ensures, rw w.in-Ok-Print.field-0-is c.exit_status.ensures.few)
-  | in-Err w ↦ inr (c.exit_status.ensures.memory w.ended-is)
+  | goal.in-Ok-Run w ↦ inl (w.in-Ok-Run.field-0, rw w.in-Ok-Run.is at c.read.ensures, rw w.in-Ok-Run.field-0-is c.exit_status.ensures.few)
+  | goal.in-Ok-Print w ↦ inl (w.in-Ok-Print.field-0, rw w.in-Ok-Print.is at c.read.ensures, rw w.in-Ok-Print.field-0-is c.exit_status.ensures.few)
+  | goal.in-Err w ↦ inr (c.exit_status.ensures.memory w.ended-is)
 ]

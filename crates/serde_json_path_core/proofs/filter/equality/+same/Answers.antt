@@ -1,4 +1,4 @@
-use Rattle.serde_json_path_core.proofs.Words.{◌≡◌, rules, suc, List, [], ◌∷◌, length, String, Global, string_bytes, bytes_eq, Bool, true, false, ◌&&◌, refl, sym, ap, ◌∙◌, Numbers, view, items_view, members_view, Value, same_data, same_items, same_members}
+use Rattle.serde_json_path_core.proofs.Words.{arith, nat_tests, common_steps, ◌≡◌, rules, suc, List, [], ◌∷◌, length, String, Global, Bool, true, false, ◌&&◌, refl, sym, ap, ◌∙◌, Numbers, view, items_view, members_view, Value, same_data, same_items, same_members}
 use Rattle.serde_json_path_core.proofs.filter.equality.+same.Goals as goal
 
 and-false : (b : Bool) → (b && false) ≡ false
@@ -14,8 +14,7 @@ items_differ numbers _ _ h = refl
 -- objects of two sizes are not equal
 members_differ : (numbers : Numbers) (xs ys : List (String Global × Value)) → (length xs ≡ length ys → ⊥) → false ≡ same_members numbers (members_view xs) (members_view ys)
 members_differ numbers [] [] h = absurd (h refl)
-members_differ numbers (x ∷ xs) (y ∷ ys) h =
-    rw (sym (members_differ numbers xs ys (λ e. h (ap suc e))), and-false (same_data numbers (view x.1) (view y.1)), and-false (bytes_eq (string_bytes x.0) (string_bytes y.0))) refl
+members_differ numbers (x ∷ xs) (y ∷ ys) h = grind (arith, nat_tests, common_steps, and-false, members_differ numbers xs ys (λ e. h (ap suc e)))
 members_differ numbers _ _ h = refl
 
 pub same_items-returns-then-len : goal.same_items-returns-then-len
