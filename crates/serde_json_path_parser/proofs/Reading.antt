@@ -1,21 +1,18 @@
 -- Reading lists of characters, whatever is read: runs at the start, items one after another, and what a reader gives.
-use Rattle.serde_json_path_parser.proofs.Words.{cases_lt, eqb-true, encode_utf8_all, encode_utf8, ◌==◌, AllByRecursion, begins, is_blank, is_digit, value_from, front, past, length-append, IsBlank, past_blanks, Refusal, Parsed, ◌>>=◌, with_front, many_within, many, and_parts, begins_both, Joined, Failure, Fails, Signature, ParseErrorKind, ExpectedRoot, UndefinedFunction, TextAfterPath, NoMemory, IsUndeclared, byte_count, refusal, cases_Bool, false_from_ne_true, ◌≡◌, ℕ, ◌+◌, ◌-◌, ◌*◌, ◌<◌, ◌≤◌, min, Bool, true, false, true≢false, List, [], ◌∷◌, ◌++◌, length, refl, sym, ap, ◌∙◌, append_assoc, inl, inr, arith, zero, suc, Ok, Err, drop, Result, subst, ◌⊎◌, Option, cond, Memory, Refused, Context, append-nil, ◌||◌}
+use Rattle.serde_json_path_parser.proofs.Words.{cases_lt, eqb-true, encode_utf8_all, encode_utf8, ◌==◌, AllByRecursion, begins, is_blank, is_digit, value_from, front, past, length-append, IsBlank, past_blanks, Refusal, Parsed, ◌>>=◌, with_front, many_within, many, and_parts, begins_both, Joined, Failure, Fails, Signature, ParseErrorKind, ExpectedRoot, UndefinedFunction, TextAfterPath, NoMemory, IsUndeclared, byte_count, refusal, cases_Bool, false_from_ne_true, ◌≡◌, ℕ, ◌+◌, ◌-◌, ◌*◌, ◌<◌, ◌≤◌, min, Bool, true, false, true≢false, List, [], ◌∷◌, ◌++◌, length, refl, sym, ap, ◌∙◌, append_assoc, inl, inr, arith, zero, suc, Ok, Err, drop, Result, subst, ◌⊎◌, Option, cond, Context, append-nil, ◌||◌}
 
 -- ---- what begins a list
 
 pub some_begun : (p : ℕ → Bool) (t : List ℕ) → begins p t ≡ true → 0 < length t
-some_begun p [] e = absurd cc
-some_begun p (c ∷ t) e = omega arith
+some_begun p t h1 = grind (arith)
 
 -- a list begins as its front does, where that is there
 pub begins_front : (p : ℕ → Bool) (b : Bool) (t rest : List ℕ) → 0 < length t → begins p t ≡ b → begins p (t ++ rest) ≡ b
-begins_front p b [] rest l e = absurd (omega arith)
-begins_front p b (c ∷ t) rest l e = e
+begins_front p b t rest h1 h2 = grind (arith)
 
 -- a list begins so where each character that begins it so does
 pub begins_where : (p q : ℕ → Bool) (b : Bool) (cs : List ℕ) → ((c : ℕ) → p c ≡ true → q c ≡ b) → begins p cs ≡ true → begins q cs ≡ b
-begins_where p q b [] h e = absurd cc
-begins_where p q b (c ∷ cs) h e = h c e
+begins_where p q b cs h1 h2 = grind (arith)
 
 -- a list that begins with one of two characters, and not with the first, begins with the other
 pub begins_other : (a b : ℕ) (cs : List ℕ) → begins (λ c. c == a || c == b) cs ≡ true → begins (λ c. c == a) cs ≡ false → begins (λ c. c == b) cs ≡ true
@@ -49,20 +46,16 @@ front_each p (c ∷ cs) = elim (cases_Bool (p c)) [ inl e ↦ rw e (e, front_eac
 
 -- the front begins as the list does
 pub front_begins : (p q : ℕ → Bool) (cs : List ℕ) → ((c : ℕ) → q c ≡ true → p c ≡ true) → begins q cs ≡ true → begins q (front p cs) ≡ true
-front_begins p q [] sub e = absurd cc
-front_begins p q (c ∷ cs) sub e = rw (sub c e) e
+front_begins p q cs h1 h2 = grind (arith)
 
 pub front_begins_not : (p q : ℕ → Bool) (cs : List ℕ) → begins q cs ≡ false → begins q (front p cs) ≡ false
-front_begins_not p q [] e = refl
-front_begins_not p q (c ∷ cs) e = elim (cases_Bool (p c)) [ inl t ↦ rw t e | inr t ↦ rw t refl ]
+front_begins_not p q cs h1 = grind (arith, cases_Bool)
 
 pub front_end : (p : ℕ → Bool) (cs : List ℕ) → begins p cs ≡ false → front p cs ≡ []
-front_end p [] t = refl
-front_end p (c ∷ cs) t = rw t refl
+front_end p cs h1 = grind (arith)
 
 pub past_end : (p : ℕ → Bool) (cs : List ℕ) → begins p cs ≡ false → past p cs ≡ cs
-past_end p [] t = refl
-past_end p (c ∷ cs) t = rw t refl
+past_end p cs h1 = grind (arith)
 
 -- the front of a text that passes, and more
 pub front_through : (p : ℕ → Bool) (t rest : List ℕ) → AllByRecursion (λ c. p c ≡ true) t → front p (t ++ rest) ≡ t ++ front p rest
@@ -103,8 +96,7 @@ saturated n m limit ds e = grind (arith, value_least, cases_lt)
 
 pub digit_taken : (cs ds : List ℕ) (c n m limit whole : ℕ) → cs ≡ c ∷ ds → begins is_digit cs ≡ true → m ≡ min (n * 10 + (c - 48)) limit
     → min (value_from n (front is_digit cs)) limit ≡ whole → min (value_from m (front is_digit ds)) limit ≡ whole
-digit_taken cs ds c n m limit whole e t s h =
-    saturated m (n * 10 + (c - 48)) limit (front is_digit ds) s ∙ ap (λ (l : List ℕ). min (value_from n l) limit) (sym (front_more is_digit cs ds c e t)) ∙ h
+digit_taken cs ds c n m limit whole e t s h = grind (arith, front_more, saturated, whole)
 
 -- ---- texts: regrouped; blanks at the start; items in a row, with a sign and blanks between them
 
@@ -142,8 +134,7 @@ pub record Consumes {A : Type 0} (more : List ℕ → Bool) (item : List ℕ →
 module _ {A : Type 0} (more : List ℕ → Bool) (item : List ℕ → Parsed A) where
   stop : (n : ℕ) (cs : List ℕ) → more cs ≡ false → many_within more item n cs ≡ Ok ([], cs)
   unfolding many_within
-  stop zero cs m = refl
-  stop (suc n) cs m = rw m refl
+  stop n cs h1 = grind (arith)
 
   -- where no item begins there is none
   pub many_end : (cs : List ℕ) → more cs ≡ false → many more item cs ≡ Ok ([], cs)
@@ -163,8 +154,7 @@ module _ {A : Type 0} (more : List ℕ → Bool) (item : List ℕ → Parsed A) 
   one n cs t = rw t refl
 
   same_others : (n m : ℕ) (read : Parsed A) → ((x : A × List ℕ) → read ≡ Ok x → many_within more item n x.1 ≡ many_within more item m x.1) → (read >>= others n) ≡ (read >>= others m)
-  same_others n m (Ok x) same = ap (λ (r : Parsed (List A)). r >>= λ xs. Ok (x.0 ∷ xs.0, xs.1)) (same x refl)
-  same_others n m (Err f) same = refl
+  same_others n m read h1 = grind (arith)
 
   -- any amount of fuel serves that is no less than the length
   pub enough : (n m : ℕ) (cs : List ℕ) → length cs ≤ n → length cs ≤ m → many_within more item n cs ≡ many_within more item m cs
@@ -190,8 +180,7 @@ module _ {A : Type 0} (more : List ℕ → Bool) (item : List ℕ → Parsed A) 
 
 -- the value of a step that did not fail
 pub bind_ok : {A B : Type 0} (r : Result A Refusal) (f : A → Result B Refusal) (y : B) → (r >>= f) ≡ Ok y → (x : A) × (r ≡ Ok x) × (f x ≡ Ok y)
-bind_ok (Ok x) f y e = (x, refl, e)
-bind_ok (Err d) f y e = absurd cc
+bind_ok r f y h1 = grind (arith)
 
 abbrev pub done : {A : Type 0} → A → Result A Refusal
 done x = Ok x
@@ -200,14 +189,10 @@ pub ok_is : {A : Type 0} (x y : A) → done x ≡ done y → x ≡ y
 ok_is x y e = cc
 
 pub after_one : (k : ℕ) (cs : List ℕ) → begins (λ c. c == k) cs ≡ true → cs ≡ k ∷ drop 1 cs
-after_one k [] e = absurd cc
-after_one k (c ∷ cs) e = ap (λ (x : ℕ). x ∷ cs) (eqb-true c k e)
+after_one k cs h1 = grind (arith, eqb-true)
 
 pub after_two : (a b : ℕ) (cs : List ℕ) → begins_both a b cs ≡ true → cs ≡ a ∷ b ∷ drop 2 cs
-after_two a b [] e = absurd cc
-after_two a b (c ∷ cs) e =
-    let parts = and_parts (c == a) (begins (λ d. d == b) cs) e in
-    after_one a (c ∷ cs) parts.0 ∙ ap (λ (l : List ℕ). a ∷ l) (after_one b cs parts.1)
+after_two a b cs h1 = grind (arith, after_one, and_parts)
 
 -- ---- what was read
 
@@ -245,8 +230,7 @@ module _ {A : Type 0} {is : List ℕ → A → Type 0} {more : List ℕ → Bool
 
 -- what goes on after a first step fails where that does
 pub first_fails : {A B : Type 0} (s : Failure) (read : Result A Refusal) (f : A → Result B Refusal) → Fails s read → Fails s (read >>= f)
-first_fails Memory read f h = tt
-first_fails (Refused r) read f h = ap (λ (x : Result _ Refusal). x >>= f) h
+first_fails s read f h1 = grind (arith)
 
 -- ---- what a kind tells of the text from the refusal on
 
@@ -291,15 +275,13 @@ module _ {A : Type 0} {Is : A → Type 0} {Refuses : Refusal → Type 0} where
   refuses d h = record { reads = λ x e. absurd cc; stands = λ r e. let same : d ≡ r = cc in subst Refuses same h }
 
   pub choose : {b : Bool} {x y : Result A Refusal} → (b ≡ true → IsOutcome Is Refuses x) → (b ≡ false → IsOutcome Is Refuses y) → IsOutcome Is Refuses (cond b x y)
-  choose {b = true} f g = f refl
-  choose {b = false} f g = g refl
+  choose h1 h2 = grind (arith)
 
 module _ {A : Type 0} {Is : A → Type 0} {Refuses : Refusal → Type 0} where
   -- one step, and the next of what it reads
   pub onward : {B : Type 0} {Is_next : B → Type 0} {read : Result A Refusal} {next : A → Result B Refusal} → IsOutcome Is Refuses read
       → ((x : A) → read ≡ Ok x → Is x → IsOutcome Is_next Refuses (next x)) → IsOutcome Is_next Refuses (read >>= next)
-  onward {read = Ok x} h more = more x refl (h.reads x refl)
-  onward {read = Err d} h more = refuses d (h.stands d refl)
+  onward h1 h2 = grind (arith, refuses)
 
 -- what is read at cs, where a refusal stands in the text from start on
 abbrev pub OutcomeIn : {A : Type 0} → (List ℕ → A → Type 0) → (ParseErrorKind → List ℕ → Type 0) → List ℕ → List ℕ → Parsed A → Type 0

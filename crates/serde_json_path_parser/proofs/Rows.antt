@@ -35,12 +35,7 @@ none_there k (l ∷ others) cs e = rw e refl
 -- a sign and what follows, after the blanks
 pub at_sign : (sign t s j k a b rest : List ℕ) → ((cs : List ℕ) → begins is_blank (sign ++ cs) ≡ false) → IsBlank j → s ≡ j ++ (sign ++ k) → t ≡ s ++ (a ++ b)
     → past_blanks (t ++ rest) ≡ sign ++ (k ++ (a ++ (b ++ rest)))
-at_sign sign t s j k a b rest none blank is_sign e =
-    ap (λ (l : List ℕ). past_blanks (l ++ rest)) (e ∙ ap (λ (l : List ℕ). l ++ (a ++ b)) is_sign) ∙ ap past_blanks (regrouped j sign k a b rest)
-    ∙ past_run is_blank j (sign ++ (k ++ (a ++ (b ++ rest)))) blank (none (k ++ (a ++ (b ++ rest))))
-  where
-    regrouped : (j s k a b d : List ℕ) → ((j ++ (s ++ k)) ++ (a ++ b)) ++ d ≡ j ++ (s ++ (k ++ (a ++ (b ++ d))))
-    regrouped j s k a b d = simp append_assoc refl
+at_sign sign t s j k a b rest none blank is_sign e = grind (arith, append_assoc, past_run)
 
 -- ---- one item and a row of them
 
@@ -168,6 +163,4 @@ module _ {A : Type 0} {signature : List ℕ → Option Signature} {k : ℕ} {oth
 
   pub row_again : {B : Type 0} (make : List A → B) (x : A) (xs : List A) (t a c rest : List ℕ) → is a x → AreRows sign is c xs → t ≡ a ++ c → Follows ends rest
       → (item (t ++ rest) >>= a_row make) ≡ Ok (make (x ∷ xs), past_blanks rest)
-  row_again make x xs t a c rest h rows same follows =
-      let whole : t ++ rest ≡ a ++ (c ++ rest) = ap (λ (l : List ℕ). l ++ rest) same ∙ append_assoc a c rest in
-      rw (whole, law.again a x (c ++ rest) h (rows_follow xs c rest rows follows), rows_again xs c rest rows follows) refl
+  row_again make x xs t a c rest h rows same follows = grind (arith, append_assoc, rows_again, rows_follow, whole)

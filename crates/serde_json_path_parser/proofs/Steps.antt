@@ -1,5 +1,5 @@
 -- Steps of the code: rows of items that a loop reads, how the builder grows by them, arguments, and what stands in filters.
-use Rattle.serde_json_path_parser.proofs.Words.{◌||◌, begins_test, read_number, read_operand, with_front, Numbers, ◌↔◌, append-nil, map-append, name_of, names_of, calls_in_segments, calls_from, calls_in_arguments, KeepsParts, KeepsTrees, calls_in, AreDeclared, MayFinish, deepest, names_in, IsTyped, depth, Part, query, root, Segments, Call, call, Arguments, SyntaxBuilder, Signature, Grows, Parsed, Failure, Reader, Ghosts, SegmentKind, Segment, ArePartsOf, segment_list, length-append, Branch, IsPart, ArePartsFor, parts_for_kept, Fails, GrowsFrom, ◌>>=◌, many, Selector, LogicalOr, LogicalAnd, Basic, Deeper, a_selector, an_and, a_basic, segment_branch, segment_branches, selector_branches, or_branches, and_branches, calls_in_selectors, calls_in_or, calls_in_and, selector_list, or_list, and_list, past_blanks, is_at, are_at, begins, opens, opens_next, level, read_segment, read_selector, read_and, read_basic, argument, Argument, Kind, ExpectedClosingParenthesis, calls_in_argument, MakesArguments, refusal, ends_argument, read_argument, read_some_arguments, Literal, Operand, literal, of_value, kind_view, is_result, ◌==◌, filter, byte_count, read_or, read_call, IsTrue, is_singular, Query, IsSingular, result_kind, WrongReturnType, called, cond, ◌≡◌, ◌≤◌, ℕ, List, [], ◌∷◌, ◌++◌, inl, inr, Some, Option, Result, Ok, Err, refl, sym, ap, subst, ◌∙◌, append_assoc, ◌<◌, Bool, true, false, length, arith, drop, zero, suc, ◌-◌, Memory, Refused, Context, read_filter, LongHand, MakesSo, calls_in_branch, same_from_decides, IsComparable, argument_branch, read_comparable, queried, refusal_at, NonSingularQuery, read_negated_test, read_test, IsArgumentOf, IsSeenAs, result_of_operand, IsTested, null, operand, logical_argument, test}
+use Rattle.serde_json_path_parser.proofs.Words.{◌||◌, begins_test, read_number, read_operand, with_front, Numbers, ◌↔◌, append-nil, map-append, name_of, names_of, calls_in_segments, calls_from, calls_in_arguments, KeepsParts, KeepsTrees, calls_in, AreDeclared, MayFinish, deepest, names_in, IsTyped, depth, Part, query, root, Segments, Call, call, Arguments, SyntaxBuilder, Signature, Grows, Parsed, Failure, Reader, Ghosts, SegmentKind, Segment, ArePartsOf, segment_list, length-append, Branch, IsPart, ArePartsFor, parts_for_kept, Fails, GrowsFrom, ◌>>=◌, many, Selector, LogicalOr, LogicalAnd, Basic, Deeper, a_selector, an_and, a_basic, segment_branch, segment_branches, selector_branches, or_branches, and_branches, calls_in_selectors, calls_in_or, calls_in_and, selector_list, or_list, and_list, past_blanks, is_at, are_at, begins, opens, opens_next, level, read_segment, read_selector, read_and, read_basic, argument, Argument, Kind, ExpectedClosingParenthesis, calls_in_argument, MakesArguments, refusal, ends_argument, read_argument, read_some_arguments, Literal, Operand, literal, of_value, kind_view, is_result, ◌==◌, filter, byte_count, read_or, read_call, IsTrue, is_singular, Query, IsSingular, result_kind, called, ◌≡◌, ◌≤◌, ℕ, List, [], ◌∷◌, ◌++◌, inl, inr, Some, Option, Result, Ok, Err, refl, sym, ap, subst, ◌∙◌, append_assoc, ◌<◌, Bool, true, false, length, arith, drop, ◌-◌, Context, read_filter, LongHand, MakesSo, calls_in_branch, same_from_decides, IsComparable, argument_branch, read_comparable, read_negated_test, read_test, IsArgumentOf, IsSeenAs, result_of_operand, IsTested, null, operand, logical_argument, test}
 use Rattle.serde_json_path_syntax.proofs.Names.Finishing.{may_finish}
 use Rattle.serde_json_path_syntax.proofs.Lists.{in_append}
 use Rattle.serde_json_path_parser.proofs.Grammar.Calls.{level_laws}
@@ -81,14 +81,12 @@ none_for_none builder _ _ h = absurd h
 
 pub grown_so : {X A S : Type 0} {g : Ghosts S} (Is : X → A → Type 0) (Grown More : A → Type 0) (reader : Reader S g) (read : Parsed A) (result : Result X Failure)
     → MakesSo Is Grown result reader read → ((a : A) → Grown a → More a) → MakesSo Is More result reader read
-grown_so Is Grown More reader read (Ok x) h more = (h.0, h.1, h.2, more h.0 h.3)
-grown_so Is Grown More reader read (Err e) h more = h
+grown_so Is Grown More reader read result h1 h2 = grind (arith)
 
 -- the same, as what another reading gives
 pub made_as : {X A B S : Type 0} {g : Ghosts S} (Is : X → A → Type 0) (As : X → B → Type 0) (Grown : A → Type 0) (More : B → Type 0) (of : A → B) (reader : Reader S g) (read : Parsed A) (whole : Parsed B) (result : Result X Failure)
     → MakesSo Is Grown result reader read → whole ≡ (read >>= λ x. Ok (of x.0, x.1)) → ((x : X) (a : A) → Is x a → As x (of a)) → ((a : A) → Grown a → More (of a)) → MakesSo As More result reader whole
-made_as Is As Grown More of reader read whole (Ok x) h e is more = (of h.0, is x h.0 h.1, e ∙ ap (λ y. y >>= λ x. Ok (of x.0, x.1)) h.2, more h.0 h.3)
-made_as Is As Grown More of reader read whole (Err s) h e is more = rw e (first_fails s read _ h)
+made_as Is As Grown More of reader read whole result h1 h2 h3 h4 = grind (arith, first_fails)
 
 -- ---- items in a row, which a loop reads one after another and whose parts it lists
 
@@ -145,8 +143,7 @@ module _ {A B : Type 0} (row : Row A B) where
 
 module _ {A B : Type 0} {row : Row A B} (law : IsRow row) where
   regrouped : (items : List A) (x : A) (read : Parsed (List A)) → after row items (with_front (x ∷ []) read) ≡ after row (items ++ x ∷ []) read
-  regrouped items x (Ok xs) = ap (λ (l : List A). Ok (row.whole l, xs.1)) (sym (append_assoc items (x ∷ []) xs.0))
-  regrouped items x (Err d) = refl
+  regrouped items x read = grind (arith, append_assoc)
 
   -- the first one, of a row that has one at least
   pub begins_row : {signature : List ℕ → Option Signature} {old builder : SyntaxBuilder} {first : List Call} {empty parts : List Part} {part : Part} {cs : List ℕ} {read : Parsed B} (x : A)
@@ -164,9 +161,7 @@ module _ {A B : Type 0} {row : Row A B} (law : IsRow row) where
     -- an item is refused
     pub row_fails : {signature : List ℕ → Option Signature} {old builder : SyntaxBuilder} {first : List Call} {parts : List Part} {read : Parsed B} → SoFar row signature old builder first parts cs read
         → (s : Failure) → Fails s (row.item ds) → Fails s read
-    row_fails so_far Memory h = tt
-    row_fails so_far (Refused d) h =
-        sym so_far.reads ∙ ap (after row so_far.items) (many_err row.more (next row) law.consumes cs d there (ap row.item (sym past) ∙ h))
+    row_fails h1 s h2 = grind (arith, many_err)
 
     -- an item is made
     module _ {signature : List ℕ → Option Signature} {builder new : SyntaxBuilder} {part : Part} {rest : List ℕ}
@@ -190,9 +185,7 @@ module _ {A B : Type 0} {row : Row A B} (law : IsRow row) where
   -- no further item begins
   pub row_done : {signature : List ℕ → Option Signature} {old builder : SyntaxBuilder} {first : List Call} {parts : List Part} {cs rest : List ℕ} {read : Parsed B}
       → (so_far : SoFar row signature old builder first parts cs read) → row.more cs ≡ false → rest ≡ cs → read ≡ Ok (row.whole so_far.items, rest)
-  row_done {cs = cs} so_far ends stays =
-      sym so_far.reads ∙ ap (after row so_far.items) (many_end row.more (next row) cs ends) ∙ ap (λ l. Ok (row.whole l, cs)) (append-nil so_far.items)
-      ∙ ap (λ l. Ok (row.whole so_far.items, l)) (sym stays)
+  row_done so_far h1 h2 = grind (arith, append-nil, many_end)
 
 -- ---- the rows that are read at a level: segments, selectors, and what `||` and `&&` join
 
@@ -310,8 +303,7 @@ pub record LeadsTo {S : Type 0} (g : Ghosts S) (signature : List ℕ → Option 
 pub one_more : {S : Type 0} {g : Ghosts S} {signature : List ℕ → Option Signature} {old builder new : SyntaxBuilder} {before parts pushed : List Part} {part : Part} {read others whole : Parsed Arguments}
     (a : Argument) → LeadsTo g signature old builder before parts read whole → pushed ≡ parts ++ part ∷ [] → IsPart new part (argument_branch a) → Grows signature builder new (calls_in_argument a)
     → read ≡ (others >>= λ more. Ok (argument a more.0, more.1)) → LeadsTo g signature old new before pushed others whole
-one_more {parts = parts} {read = read} {others = others} a so_far put is grown e =
-    record { made = λ new after reader result made. so_far.made new after reader result (one_made a new parts after reader result others read put is grown e made) }
+one_more a h1 h2 h3 h4 h5 = grind (arith, one_made)
 
 -- ---- where the first of them is refused, or does not end
 
@@ -330,8 +322,7 @@ module _ (rule : Numbers) (signature : List ℕ → Option Signature) (deeper : 
 -- where no other operand begins, a number is read
 pub number_reads : (rule : Numbers) (signature : List ℕ → Option Signature) (deeper : Deeper) (cs : List ℕ) (l : Literal) (rest : List ℕ) → begins (λ c. c == 39 || c == 34 || begins_test c) cs ≡ false
     → read_number rule cs ≡ Ok (l, rest) → read_operand rule signature deeper cs ≡ Ok (literal l, past_blanks rest)
-number_reads rule signature deeper [] l rest other read = rw read refl
-number_reads rule signature deeper (c ∷ cs) l rest other read = grind (arith, other, read)
+number_reads rule signature deeper cs l rest h1 h2 = grind (arith)
 
 -- ---- the steps of the code within a filter
 
@@ -341,20 +332,16 @@ pub level_down : (rule : Numbers) (signature : List ℕ → Option Signature) (n
   call_of = λ start f cs. read_call rule signature (level rule signature m) start f (signature f) cs;
 }
 unfolding level
-level_down rule signature zero m l e = absurd (omega (arith, l))
-level_down rule signature (suc n) m l e = let same : m ≡ n = omega (arith, e) in rw same refl
+level_down rule signature n m h1 h2 = grind (arith)
 
 module _ (rule : Numbers) (signature : List ℕ → Option Signature) (deeper : Deeper) where
   -- a selector that begins with `?` is a filter
   pub at_mark : (cs : List ℕ) → is_at "?" cs ≡ true → read_selector (read_filter rule signature deeper) cs ≡ (deeper.expression (byte_count cs) (past_blanks (drop 1 cs)) >>= λ e. Ok (filter e.0, e.1))
-  at_mark cs mark =
-      let other : (k : ℕ) → (k == 63) ≡ false → begins (λ c. c == k) cs ≡ false = λ k differs. begins_differs (λ c. c == 63) k cs differs mark in
-      rw (other 39 refl, other 34 refl, other 42 refl, other 58 refl, mark) refl
+  at_mark cs mark = grind (arith, begins_differs)
 
 -- whether a result is a value
 pub value_kind : (kind : FunctionArgType) → is_result of_value (Some (kind_view kind)) ≡ sameb the_type kind results.Value
-value_kind results.Value = refl
-value_kind _ = refl
+value_kind kind = grind (arith)
 
 -- ---- the steps of the code at operands, and at what an argument's type is
 
@@ -372,41 +359,22 @@ module _ (rule : Numbers) (signature : List ℕ → Option Signature) (builder :
     -- what is no literal is read as a test after `!`
     pub no_literal : (form : ArgumentRef) → ((l : _) → form ≡ forms.Literal l → ⊥) → IsSeenAs builder part form (operand x)
         → read_negated_test rule signature deeper start x rest ≡ read_test rule signature deeper true start x rest
-    no_literal (forms.Literal l) other h = absurd (other l refl)
-    no_literal (forms.Query q) other h = rw (ap operand_of h.1) refl
-    no_literal (forms.Call kind) other h = rw (ap operand_of h.1) refl
-    no_literal forms.Logical other h = absurd cc
+    no_literal form h1 h2 = grind (arith)
 
     -- what is neither a query nor a call may be compared
     pub plain_read : (form : ArgumentRef) → ((q : _) → form ≡ forms.Query q → ⊥) → ((kind : _) → form ≡ forms.Call kind → ⊥) → IsSeenAs builder part form (operand x)
         → read_comparable rule signature deeper start x rest ≡ Ok (x, rest)
-    plain_read (forms.Literal l) other no_call h = rw (ap operand_of h) refl
-    plain_read (forms.Query q) other no_call h = absurd (other q refl)
-    plain_read (forms.Call kind) other no_call h = absurd (no_call kind refl)
-    plain_read forms.Logical other no_call h = absurd cc
+    plain_read form h1 h2 h3 = grind (arith)
 
     -- what is neither a literal nor a call may be tested
     pub plain_test : (negated : Bool) (form : ArgumentRef) → ((l : _) → form ≡ forms.Literal l → ⊥) → ((kind : _) → form ≡ forms.Call kind → ⊥) → IsSeenAs builder part form (operand x)
         → IsTested x × (read_test rule signature deeper negated start x rest ≡ Ok (test negated x, rest))
-    plain_test negated (forms.Literal l) other no_call h = absurd (other l refl)
-    plain_test negated (forms.Query q) other no_call h = rw (ap operand_of h.1) (tt, refl)
-    plain_test negated (forms.Call kind) other no_call h = absurd (no_call kind refl)
-    plain_test negated forms.Logical other no_call h = absurd cc
+    plain_test negated form h1 h2 h3 = grind (arith)
 
 -- what is read as a side of a comparison may be one
 pub comparable_read : (rule : Numbers) (signature : List ℕ → Option Signature) (deeper : Deeper) (start : ℕ) (o a : Operand) (cs rest : List ℕ) → read_comparable rule signature deeper start o cs ≡ Ok (a, rest) → IsComparable a
-comparable_read rule signature deeper start (literal l) a cs rest e = subst (λ (y : Operand × List ℕ). IsComparable y.0) (ok_is (literal l, cs) (a, rest) e) tt
-comparable_read rule signature deeper start (queried q) a cs rest e = by (is_singular q) refl e
-  where
-    by : (b : Bool) → is_singular q ≡ b → cond {A = Parsed Operand} b (Ok (queried q, cs)) (Err (refusal_at NonSingularQuery LongHand start)) ≡ Ok (a, rest) → IsComparable a
-    by true is e = subst (λ (y : Operand × List ℕ). IsComparable y.0) (ok_is (queried q, cs) (a, rest) e) (singular_query q is)
-    by false is e = absurd cc
-comparable_read rule signature deeper start (called c) a cs rest e = by (is_result of_value (result_kind signature c)) e
-  where
-    by : (b : Bool) → cond {A = Parsed Operand} b (Ok (called c, cs)) (Err (refusal_at WrongReturnType LongHand start)) ≡ Ok (a, rest) → IsComparable a
-    by true e = subst (λ (y : Operand × List ℕ). IsComparable y.0) (ok_is (called c, cs) (a, rest) e) tt
-    by false e = absurd cc
+comparable_read rule signature deeper start o a cs rest h1 = grind (arith, ok_is, singular_query)
 
 -- a test that says whether a query is a singular one
 pub singular_by : (b : Bool) (q : Query) → IsTrue b ↔ IsSingular q → is_singular q ≡ b
-singular_by b q h = same_from_decides (is_singular q) b (singular_query q, query_singular q) h
+singular_by b q h = grind (arith, query_singular, same_from_decides, singular_query)

@@ -1,5 +1,5 @@
 -- Bytes and the characters that they encode: the character at a place, by its first byte, and ASCII characters that are taken many at a time.
-use Rattle.serde_json_path_parser.proofs.Words.{slice_get_past, IsUtf8-from_ascii, encodes-chars, slice_get, IsUtf8, encode_utf8_all, StartsWithChar, get_or-drop, slice_get_within, slice_get-get_or, same_Some, none-some, length-drop, cases_lt, ◌==◌, is_utf8, chars, eqb-true, drop-drop, drop_all, IsUtf8-from_is_utf8, is_utf8-from_IsUtf8, chars-nil, chars_past_char, byte_from_char, char_from_byte, is_ascii, IsAhead, begins, nat_le, nat_lt, ◌^◌, IsAscii, and_parts, cases_Bool, take_more_set, encodes-append, encodes-IsAscii, AllPass, is_name_char, front, past, Observed, one_more, looked, LooksOn, is_ascii_name_char, Gathered, Stretched, IsSome, ◌≡◌, ℕ, ◌+◌, ◌*◌, ◌%◌, ◌<◌, ◌≤◌, inl, inr, true, List, [], ◌∷◌, length, get_or, drop, Some, refl, sym, ap, subst, ◌∙◌, arith, true≢false, Option, None, zero, suc, ◌-◌, Bool, ◌++◌, take, set, append_assoc, ◌&&◌, IsScalar, false, false_from_ne_true}
+use Rattle.serde_json_path_parser.proofs.Words.{slice_get_past, IsUtf8-from_ascii, encodes-chars, slice_get, IsUtf8, encode_utf8_all, StartsWithChar, get_or-drop, slice_get_within, slice_get-get_or, same_Some, none-some, length-drop, cases_lt, ◌==◌, is_utf8, chars, eqb-true, drop-drop, drop_all, IsUtf8-from_is_utf8, is_utf8-from_IsUtf8, chars-nil, chars_past_char, byte_from_char, char_from_byte, is_ascii, IsAhead, begins, nat_le, nat_lt, ◌^◌, IsAscii, and_parts, cases_Bool, take_more_set, encodes-append, encodes-IsAscii, AllPass, is_name_char, front, past, Observed, one_more, looked, LooksOn, is_ascii_name_char, Gathered, Stretched, IsSome, ◌≡◌, ℕ, ◌+◌, ◌*◌, ◌%◌, ◌<◌, ◌≤◌, inl, inr, true, List, [], ◌∷◌, length, get_or, drop, Some, refl, sym, ap, subst, ◌∙◌, arith, Option, None, zero, suc, ◌-◌, Bool, ◌++◌, take, set, append_assoc, ◌&&◌, IsScalar, false_from_ne_true}
 use Rattle.std.proofs.iter.FirstChar.{wide, in_one, in_two, in_three, in_four}
 use Rattle.serde_json_path_parser.proofs.Reading.{past_through, front_through}
 
@@ -58,10 +58,7 @@ ahead_some bs b (c ∷ more, (s, split)) l e =
     )
 
 pub ahead : (text : List ℕ) (at : ℕ) (o : Option ℕ) → is_utf8 (drop at text) ≡ true → o ≡ slice_get text at → IsAhead o (chars (drop at text))
-ahead text at None u e = ap chars (none_past text at (sym e)) ∙ chars-nil
-ahead text at (Some b) u e =
-    let w : at < length text = within text at b (IsUtf8-from_is_utf8 _ u) (sym e) in
-    ahead_some (drop at text) b (IsUtf8-from_is_utf8 _ u) (omega (arith, length-drop at text)) (lead_is text at b (IsUtf8-from_is_utf8 _ u) (sym e))
+ahead text at o h1 h2 = grind (arith, IsUtf8-from_is_utf8, ahead_some, chars-nil, lead_is, length-drop, none_past, within)
 
 -- a step over the character at a place
 pub record Step (text : List ℕ) (at c w : ℕ) : Type 0 where
@@ -70,13 +67,7 @@ pub record Step (text : List ℕ) (at c w : ℕ) : Type 0 where
   pub utf8 : is_utf8 (drop (at + w) text) ≡ true
 
 pub step : (text : List ℕ) (at c w : ℕ) → at ≤ length text → is_utf8 (drop at text) ≡ true → StartsWithChar (drop at text) c w → Step text at c w
-step text at c w l u s =
-    let past : drop w (drop at text) ≡ drop (at + w) text = drop-drop w at text in
-    record {
-      left = chars_past_char (drop at text) (drop w (drop at text)) c (IsUtf8-from_is_utf8 _ u) s.0 ∙ ap (λ (r : List ℕ). c ∷ chars r) past;
-      within = omega (arith, s.3, length-drop at text);
-      utf8 = is_utf8-from_IsUtf8 (drop (at + w) text) (subst IsUtf8 past s.4);
-    }
+step text at c w l u s = grind (arith, IsUtf8-from_is_utf8, chars_past_char, drop-drop, is_utf8-from_IsUtf8, length-drop, within)
 
 -- a step over an ASCII character
 pub step_one : (text : List ℕ) (at lead : ℕ) → at ≤ length text → is_utf8 (drop at text) ≡ true → slice_get text at ≡ Some lead → lead < 128 → Step text at lead 1
@@ -85,17 +76,11 @@ step_one text at lead l u e ascii = step text at lead 1 l u (one text at lead (I
 -- what the byte after an ASCII one tells of the characters after the first
 pub ahead_second : (text : List ℕ) (at : ℕ) (next second : Option ℕ) → at ≤ length text → is_utf8 (drop at text) ≡ true → next ≡ slice_get text at → is_ascii next ≡ true → second ≡ slice_get text (at + 1)
     → IsAhead second (drop 1 (chars (drop at text)))
-ahead_second text at None second l u e a f = absurd cc
-ahead_second text at (Some lead) second l u e a f =
-    let s = step_one text at lead l u (sym e) (grind (arith, a)) in
-    subst (IsAhead second) (sym (ap (drop 1) s.left)) (ahead text (at + 1) second s.utf8 f)
+ahead_second text at next second h1 h2 h3 h4 h5 = grind (arith, ahead, second, step_one)
 
 -- the byte that is next is ASCII where such a character is
 pub ascii_begun : (next : Option ℕ) (cs : List ℕ) (k : ℕ) → IsAhead next cs → k < 128 → begins (λ c. c == k) cs ≡ true → is_ascii next ≡ true
-ascii_begun None cs k a l e = absurd (true≢false (sym e ∙ ap (begins (λ c. c == k)) a))
-ascii_begun (Some b) cs k a l e =
-    let same : a.0 ≡ k = eqb-true a.0 k (sym (ap (begins (λ c. c == k)) a.1) ∙ e) in
-    elim (cases_lt b 128) [ inl lt ↦ grind (arith, lt) | inr le ↦ absurd (omega (arith, a.3 le, same, l)) ]
+ascii_begun next cs k h1 h2 h3 = grind (arith, cases_lt, eqb-true)
 
 -- where a character is left there is a byte
 pub some_next : (text : List ℕ) (at : ℕ) (next : Option ℕ) → next ≡ slice_get text at → 0 < length (chars (drop at text)) → IsSome next
@@ -124,13 +109,7 @@ all_more p (d ∷ cs) c h e = (h.0, all_more p cs c h.1 e)
 
 -- whether what is next passes a test for ASCII characters is seen from the byte ahead
 pub begins_ahead : (p : ℕ → Bool) → ((c : ℕ) → p c ≡ true → c < 128) → (b : ℕ) (cs : List ℕ) → IsAhead (Some b) cs → begins p cs ≡ p b
-begins_ahead p ascii b cs a = ap (begins p) a.1 ∙ elim (cases_lt b 128) [
-  | inl low ↦ ap p (a.2 low)
-  | inr high ↦ fails a.0 (a.3 high) ∙ sym (fails b high)
-]
-  where
-    fails : (c : ℕ) → 128 ≤ c → p c ≡ false
-    fails c high = false_from_ne_true (p c) (λ e. absurd (omega (arith, high, ascii c e)))
+begins_ahead p ascii b cs a = grind (arith, cases_lt, false_from_ne_true)
 
 pub fits_first : (p : ℕ → Bool) (text : List ℕ) (at b : ℕ) → ((c : ℕ) → p c ≡ true → c < 128) → is_utf8 (drop at text) ≡ true → Some b ≡ slice_get text at → begins p (chars (drop at text)) ≡ true → p b ≡ true
 fits_first p text at b ascii u is e = sym (begins_ahead p ascii b (chars (drop at text)) (ahead text at (Some b) u is)) ∙ e
@@ -167,13 +146,7 @@ more_gathered p text index at c part low le l is fits h =
 -- a text with a part after it, and then the rest of the name
 pub front_part : (cs part rest text : List ℕ) → AllPass is_ascii_name_char part → cs ≡ part ++ rest
     → (text ++ part) ++ encode_utf8_all (front is_name_char rest) ≡ text ++ encode_utf8_all (front is_name_char cs)
-front_part cs part rest text h e =
-    let inside : encode_utf8_all (front is_name_char cs) ≡ part ++ encode_utf8_all (front is_name_char rest) =
-    ap (λ (l : List ℕ). encode_utf8_all (front is_name_char l)) e
-    ∙ ap encode_utf8_all (front_through is_name_char part rest (all_in_name part h))
-    ∙ encodes-append part (front is_name_char rest)
-    ∙ ap (λ (l : List ℕ). l ++ encode_utf8_all (front is_name_char rest)) (encodes-IsAscii part (all_ascii is_ascii_name_char (λ c e. (ascii_that is_name_char c e).0) part h)) in
-    append_assoc text part _ ∙ ap (λ (l : List ℕ). text ++ l) (sym inside)
+front_part cs part rest text h e = grind (arith, all_ascii, all_in_name, append_assoc, ascii_that, encodes-IsAscii, encodes-append, front_through)
 
 -- the same of a stretch
 pub name_stretched : (cs rest old new : List ℕ) (ok : Bool) → ok ≡ true → Stretched is_ascii_name_char cs rest old new ok

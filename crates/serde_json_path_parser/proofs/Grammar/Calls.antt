@@ -1,5 +1,5 @@
 -- Arguments and calls, by what holds one level deeper; and the laws of these pieces at every level.
-use Rattle.serde_json_path_parser.proofs.Words.{unsigned_abs, text, is_number_argument, IsNumberArgument, MayBeArgument, whole_numbers, all_numbers, Numbers, Call, ◌==◌, ◌||◌, ℤ, ◌%◌, eqb-true, eq-eqb, or_parts, cases_Bool, LogicalOr, LogicalAnd, Basic, test, Argument, operand, logical_argument, number, Operator, no_or, or, no_and, and, result_kind, TakesResult, IsTypedArgument, argument_depth, Kind, of_value, of_nodes, of_logical, Signature, WrongReturnType, is_at, are_at, begins, begins_both, IsBlank, StandsAlone, ReadsArgument, ◌>>=◌, refusal, past_blanks, byte_count, Operand, literal, called, is_result, is_test, takes_result, suits, ends_argument, Deeper, read_operand, read_test, read_relation, read_basic_from, read_basic, read_next_basic, read_and_from, read_and, read_next_and, read_or_from, read_or, read_argument, is_blank, ReadsCall, append-nil, Parsed, codes, call, Arguments, no_arguments, argument, AreTypedArguments, IsTypedCall, arguments_depth, call_depth, ExpectedClosingParenthesis, WrongArgumentType, UndefinedFunction, WrongNumberOfArguments, IsFunctionName, ReadMoreArguments, ReadArguments, read_end, read_some_arguments, read_arguments, read_call, NestedTooDeep, level, cond, ◌≡◌, ℕ, ◌≤◌, inl, inr, Bool, true, false, List, [], ◌∷◌, ◌++◌, Option, Some, Ok, Err, refl, sym, ap, subst, ◌∙◌, append_assoc, arith, ◌+◌, zero, suc, drop, None, LongHand, queried, begins_operator, IsTypedOr, or_depth, ReadsOperand}
+use Rattle.serde_json_path_parser.proofs.Words.{text, is_number_argument, IsNumberArgument, MayBeArgument, Numbers, Call, ◌==◌, ◌||◌, ℤ, eqb-true, eq-eqb, or_parts, cases_Bool, LogicalOr, LogicalAnd, Basic, test, Argument, operand, logical_argument, Operator, no_or, or, no_and, and, result_kind, TakesResult, IsTypedArgument, argument_depth, Kind, of_value, of_logical, Signature, WrongReturnType, is_at, begins, begins_both, IsBlank, StandsAlone, ReadsArgument, ◌>>=◌, refusal, past_blanks, byte_count, Operand, literal, called, is_result, takes_result, suits, ends_argument, Deeper, read_operand, read_test, read_relation, read_basic_from, read_basic, read_and_from, read_and, read_or_from, read_or, read_argument, is_blank, ReadsCall, append-nil, Parsed, codes, call, Arguments, no_arguments, argument, AreTypedArguments, IsTypedCall, arguments_depth, call_depth, ExpectedClosingParenthesis, WrongArgumentType, UndefinedFunction, WrongNumberOfArguments, IsFunctionName, ReadMoreArguments, ReadArguments, read_end, read_some_arguments, read_arguments, read_call, NestedTooDeep, level, cond, ◌≡◌, ℕ, ◌≤◌, inl, inr, Bool, true, false, List, [], ◌∷◌, ◌++◌, Option, Some, Ok, Err, refl, sym, ap, subst, ◌∙◌, append_assoc, arith, ◌+◌, zero, suc, drop, None, LongHand, queried, begins_operator, IsTypedOr, or_depth, ReadsOperand}
 use Rattle.serde_json_path_parser.proofs.Reading.{split_again, blanks_of, spread, begins_where, differs, no_blank, begins_differs, Read, Spaced, bind_ok, ok_is, after_one, many_end, Inner, onward, choose, remade, read_as, Outcome, weaker_spaced, refused, past_text, Past, read_spaced, after_sign, past_spaced, past_through, past_run, front_each, whole, moved, begins_other}
 use Rattle.serde_json_path_parser.proofs.Grammar.LogicalForms.{query_singular, DeeperLaws, singular_query, ends_operand, ends_or, IsOperandText, IsOrText, begins_operand, begins_expression, operand_begins, as_expression, or_begins, no_blank_begins, IsGoodOperand, typed_good}
 use Rattle.serde_json_path_parser.proofs.Grammar.LogicalExpressions.{or_again, or_outcome, and_from_outcome, or_from_outcome}
@@ -10,50 +10,33 @@ use Rattle.serde_json_path_parser.proofs.Rows.{Follows, at_sign}
 
 -- the types of an argument's parts, as they are read
 takes : (signature : List ℕ → Option Signature) (kind : Kind) (result : Option Kind) → takes_result kind result ≡ true → TakesResult signature kind result
-takes signature of_value (Some of_value) e = refl
-takes signature of_nodes (Some of_nodes) e = refl
-takes signature of_logical (Some of_nodes) e = inl refl
-takes signature of_logical (Some of_logical) e = inr refl
-takes signature _ _ e = absurd cc
+takes signature kind result h1 = grind (arith)
 
 -- a result that a parameter takes is seen to be one
 taken : (signature : List ℕ → Option Signature) (kind : Kind) (result : Option Kind) → TakesResult signature kind result → takes_result kind result ≡ true
-taken signature of_value result h = ap (is_result of_value) h
-taken signature of_nodes result h = ap (is_result of_nodes) h
-taken signature of_logical result (inl e) = ap is_test e
-taken signature of_logical result (inr e) = ap is_test e
+taken signature kind result h1 = grind (arith)
 
 -- a number that may be an argument is seen to be one
 number_suits : (rule : Numbers) (amount : ℤ) → IsNumberArgument rule amount → is_number_argument rule amount ≡ true
-number_suits whole_numbers amount h = eq-eqb (unsigned_abs amount % 1000000000) 0 h
-number_suits all_numbers amount h = refl
+number_suits rule amount h1 = grind (arith, eq-eqb)
 
 -- and what is seen to be one may be an argument
 suits_number : (rule : Numbers) (amount : ℤ) → is_number_argument rule amount ≡ true → IsNumberArgument rule amount
-suits_number whole_numbers amount e = eqb-true (unsigned_abs amount % 1000000000) 0 e
-suits_number all_numbers amount e = tt
+suits_number rule amount h1 = grind (arith, eqb-true)
 
 typed_suits : (rule : Numbers) (signature : List ℕ → Option Signature) (a : Argument) (kind : Kind) (t : List ℕ) → ReadsArgument rule a t → IsTypedArgument signature a kind
     → suits rule signature a kind ≡ true
-typed_suits rule signature (operand (literal (number amount))) of_value t is h = number_suits rule amount is.0
-typed_suits rule signature (operand (literal l)) of_value t is h = refl
-typed_suits rule signature (operand (queried q)) of_value t is h = query_singular q h.1
-typed_suits rule signature (operand (queried q)) kind t is h = refl
-typed_suits rule signature (operand (called c)) kind t is h = taken signature kind (result_kind signature c) h.1
-typed_suits rule signature (logical_argument e) of_logical t is h = refl
-typed_suits rule signature _ _ t is h = absurd h
+typed_suits rule signature a kind t h1 h2 = grind (arith, number_suits, query_singular, taken)
 
 -- ---- what follows an argument
 
 -- no further part stands there
 no_sign : (k : ℕ) (cs : List ℕ) → ends_argument k ≡ false → begins ends_argument cs ≡ true → begins_both k k cs ≡ false
-no_sign k [] fails e = refl
-no_sign k (c ∷ cs) fails e = rw (differs ends_argument k c fails e) refl
+no_sign k cs h1 h2 = grind (arith, differs)
 
 -- what begins neither with `(` nor with `!`
 neither : (cs : List ℕ) → begins (λ c. c == 40 || c == 33) cs ≡ false → (is_at "(" cs ≡ false) × (is_at "!" cs ≡ false)
-neither [] e = (refl, refl)
-neither (c ∷ cs) e = or_parts (c == 40) (c == 33) e
+neither cs h1 = grind (arith, or_parts)
 
 -- ---- what stands alone
 
@@ -82,32 +65,21 @@ module _ (rule : Numbers) (signature : List ℕ → Option Signature) (n : ℕ) 
 
   -- an operand that suits a parameter may be an argument
   may_be : (o : Operand) (kind : Kind) → suits rule signature (operand o) kind ≡ true → MayBeArgument rule o
-  may_be (literal (number amount)) of_value e = suits_number rule amount e
-  may_be (literal (number amount)) _ e = absurd cc
-  may_be _ kind e = tt
+  may_be o kind h1 = grind (arith, suits_number)
 
   pub judged : (t : List ℕ) (a : Argument) (kind : Kind) → IsUnjudged t a → suits rule signature a kind ≡ true → IsArgument t a
-  judged t (operand o) kind h e = (h.0, (may_be o kind e, h.1))
-  judged t (logical_argument f) kind h e = h
+  judged t a kind h1 h2 = grind (arith, may_be)
 
   -- a good argument that suits the parameter is well-typed
   pub suits_typed : (a : Argument) (kind : Kind) → IsGoodArgument a → suits rule signature a kind ≡ true → IsTypedArgument signature a kind
-  suits_typed (operand (literal l)) of_value h e = tt
-  suits_typed (operand (queried q)) of_value h e = (h.0, singular_query q e)
-  suits_typed (operand (queried q)) kind h e = h.0
-  suits_typed (operand (called c)) kind h e = (h.0, takes signature kind (result_kind signature c) e)
-  suits_typed (logical_argument f) of_logical h e = h.0
-  suits_typed _ _ h e = absurd cc
+  suits_typed a kind h1 h2 = grind (arith, singular_query, takes)
 
   pub good_depth : (a : Argument) → IsGoodArgument a → argument_depth a ≤ n
-  good_depth (operand (literal l)) h = omega arith
-  good_depth _ h = h.1
+  good_depth a h1 = grind (arith)
 
   -- a well-typed argument is good
   pub argument_good : (a : Argument) (kind : Kind) → IsTypedArgument signature a kind → argument_depth a ≤ n → IsGoodArgument a
-  argument_good (operand o) kind h d = typed_good signature n o kind h d
-  argument_good (logical_argument e) of_logical h d = (h, d)
-  argument_good (logical_argument e) kind h d = absurd h
+  argument_good a kind h1 h2 = grind (arith, typed_good)
 
 module _ (rule : Numbers) (signature : List ℕ → Option Signature) (n : ℕ) (deeper : Deeper) (laws : DeeperLaws rule signature n deeper) where
   -- ---- what a reading gives
@@ -137,19 +109,10 @@ module _ (rule : Numbers) (signature : List ℕ → Option Signature) (n : ℕ) 
 
   -- so no expression that is read before an argument's end is one
   not_alone : (e : LogicalOr) (t k rest : List ℕ) → IsOrText rule signature n t e → IsBlank k → begins ends_argument rest ≡ true → read_argument rule signature deeper (t ++ (k ++ rest)) ≡ Ok (logical_argument e, rest) → StandsAlone e → ⊥
-  not_alone e t k rest h blank ends read stands =
-      let o = alone_text e t h stands in
-      let past : past_blanks (k ++ rest) ≡ rest = past_run is_blank k rest blank (begins_where ends_argument is_blank false rest (λ c e. no_blank ends_argument c refl refl refl refl e) ends) in
-      let again = operand_argument t o.0 (k ++ rest) o.1 (ap (begins ends_argument) past ∙ ends) in
-      o.2 (ap (λ y. y.0) (ok_is (operand o.0, past_blanks (k ++ rest)) (logical_argument e, rest) (sym again ∙ read)))
+  not_alone e t k rest h blank ends read stands = grind (arith, alone_text, begins_where, no_blank, ok_is, operand_argument, past_run)
 
   pub argument_is : (cs : List ℕ) (x : Argument × List ℕ) (s : Read (Spaced (IsLooseArgument rule signature n)) cs x) → read_argument rule signature deeper cs ≡ Ok x → begins ends_argument x.1 ≡ true → IsUnjudged rule signature n s.is_so.0 x.0
-  argument_is cs (logical_argument f, rest) s e ends =
-      let t = s.is_so.0 in
-      let k = s.is_so.1 in
-      let split : cs ≡ t ++ (k ++ rest) = s.split ∙ ap (λ (l : List ℕ). l ++ rest) s.is_so.4 ∙ append_assoc t k rest in
-      (s.is_so.2.0, (not_alone f t k rest s.is_so.2 s.is_so.3 ends (ap (read_argument rule signature deeper) (sym split) ∙ e), s.is_so.2.1))
-  argument_is cs (_, rest) s e ends = s.is_so.2
+  argument_is cs x s h1 h2 = grind (arith, append_assoc, not_alone)
 
   -- ---- a logical expression, which does not stand alone
 
@@ -158,11 +121,7 @@ module _ (rule : Numbers) (signature : List ℕ → Option Signature) (n : ℕ) 
 
   -- before an argument's end nothing is joined to it
   none_joined : (b : Basic) (cs : List ℕ) (x : LogicalOr × List ℕ) → begins ends_argument cs ≡ true → more_of (b, cs) ≡ Ok x → or (and b no_and) no_or ≡ x.0
-  none_joined b cs x ends e =
-      let ands = many_end (are_at "&&") (read_next_basic rule signature deeper) cs (no_sign 38 cs refl ends) in
-      let ors = many_end (are_at "||") (read_next_and rule signature deeper) cs (no_sign 124 cs refl ends) in
-      let whole : more_of (b, cs) ≡ Ok (or (and b no_and) no_or, cs) = rw (ands, ors) refl in
-      ap (λ y. y.0) (ok_is (or (and b no_and) no_or, cs) x (sym whole ∙ e))
+  none_joined b cs x ends e = grind (arith, many_end, no_sign, ok_is, whole)
 
   operand_alone : (start : List ℕ) (o : Operand) (cs : List ℕ) (x : LogicalOr × List ℕ) → begins ends_argument cs ≡ true → (read_basic_from rule signature deeper (byte_count start) o cs >>= more_of) ≡ Ok x → StandsAlone x.0
   operand_alone start o cs x ends e =
@@ -349,9 +308,7 @@ module _ (rule : Numbers) (signature : List ℕ → Option Signature) (n : ℕ) 
   -- after `(` of a call of this name
   pub call_again : (start f : List ℕ) (args : Arguments) (j a k rest : List ℕ) → (IsTypedCall signature (call f args) × (call_depth (call f args) ≤ n + 1)) → IsBlank j → ReadArguments rule args a → IsBlank k
       → read_call rule signature deeper (byte_count start) f (signature f) ((j ++ (a ++ (k ++ 41 ∷ []))) ++ rest) ≡ Ok (call f args, past_blanks rest)
-  call_again start f args j a k rest good before is after =
-      let here : past_blanks ((j ++ (a ++ (k ++ 41 ∷ []))) ++ rest) ≡ past_blanks (a ++ (k ++ (41 ∷ rest))) = ap past_blanks (spread j a k (codes ")") rest) ∙ past_through is_blank j (a ++ (k ++ (41 ∷ rest))) before in
-      rw (good.0.1, here, parameters_again k rest after start good.0.0.params args a good.0.2 (omega (arith, good.1)) is) refl
+  call_again start f args j a k rest good before is after = grind (arith, parameters_again, past_through, spread)
 
 -- ---- the laws of how filters, parentheses and calls are read hold at every level
 

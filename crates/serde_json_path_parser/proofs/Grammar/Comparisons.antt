@@ -1,5 +1,5 @@
 -- Operands, comparisons and tests, by what holds one level deeper.
-use Rattle.serde_json_path_parser.proofs.Words.{Amount, billionths, literal_of, Numbers, ◌==◌, codes, bytes_eq, and_parts, ReadSegments, is_digit, is_exponent, nat_le, ◌&&◌, bytes_eq-Decides, QueryKind, root, current, query, Call, Literal, text, number, truth, null, Segments, call, Signature, ExpectedExpression, is_at, begins, is_small_letter, is_function_char, IsFunctionName, IsQuote, AllPass, is_blank, is_name_char, IsNumberLiteral, opens, IsLiteral, Reads, ReadsCall, query_sign, Parsed, past_blanks, byte_count, read_string, segment_list, begins_int, Operand, literal, called, Deeper, word, past_word, begins_call, read_literal_word, read_query, read_named_call, read_text, read_operand, ◌>>=◌, Basic, relation, test, queried, Operator, equal, less, greater, result_kind, IsTestKind, Kind, of_value, of_nodes, of_logical, NonSingularQuery, WrongReturnType, ExpectedComparisonOperator, IsBlank, operator_sign, is_result, read_operator, read_comparable, read_test, read_right_side, read_relation, read_basic_from, ℕ, ◌<◌, ◌≡◌, inl, inr, true, false, List, [], ◌∷◌, ◌++◌, drop, Option, Ok, refl, sym, ap, ◌∙◌, append_assoc, Bool, arith, cond, Some, None, subst, LongHand, read_named, or_parts, begins_operator, IsTypedOperand, operand_depth, ReadsOperand, ◌≤◌, held_decimal, decimal_literal}
+use Rattle.serde_json_path_parser.proofs.Words.{Amount, billionths, literal_of, Numbers, ◌==◌, codes, bytes_eq, and_parts, ReadSegments, is_digit, is_exponent, nat_le, ◌&&◌, bytes_eq-Decides, QueryKind, root, current, query, Call, Literal, text, number, truth, null, Segments, call, Signature, ExpectedExpression, is_at, begins, is_small_letter, is_function_char, IsFunctionName, IsQuote, AllPass, is_blank, is_name_char, IsNumberLiteral, opens, IsLiteral, Reads, ReadsCall, query_sign, Parsed, past_blanks, byte_count, read_string, segment_list, begins_int, Operand, literal, called, Deeper, word, past_word, begins_call, read_literal_word, read_query, read_named_call, read_text, read_operand, ◌>>=◌, Basic, relation, test, queried, Operator, result_kind, IsTestKind, Kind, of_value, of_logical, WrongReturnType, ExpectedComparisonOperator, IsBlank, operator_sign, is_result, read_operator, read_comparable, read_test, read_right_side, read_relation, read_basic_from, ℕ, ◌<◌, ◌≡◌, inl, inr, true, false, List, [], ◌∷◌, ◌++◌, drop, Option, Ok, refl, sym, ap, ◌∙◌, append_assoc, Bool, arith, cond, Some, None, LongHand, read_named, or_parts, begins_operator, IsTypedOperand, operand_depth, ReadsOperand, ◌≤◌, held_decimal, decimal_literal}
 use Rattle.serde_json_path_parser.proofs.Grammar.LogicalForms.{query_singular, IsGoodQuery, IsGoodCall, DeeperLaws, ends_operand, IsCallText, IsOperandText, singular_query, ends_basic, IsBasicText, IsComparableText, begins_operand, operand_begins, as_expression, no_blank_begins}
 use Rattle.serde_json_path_parser.proofs.Grammar.Numbers.{goes_on}
 use Rattle.serde_json_path_parser.proofs.Grammar.Numerals.{number_outcome, number_first, number_again}
@@ -42,9 +42,7 @@ module _ (rule : Numbers) (signature : List ℕ → Option Signature) (n : ℕ) 
 
   pub named_call_outcome : (cs : List ℕ) → begins_call cs ≡ true → Outcome (Spaced (IsCallText rule signature n)) (Inner signature) cs (read_named_call rule signature deeper cs)
   unfolding read_named_call
-  named_call_outcome cs begun =
-      let parts = and_parts (begins is_small_letter cs) (is_at "(" (past_word cs)) begun in
-      laws.call_outcome cs (word cs) (drop 1 (past_word cs)) (word_is_name cs parts.0) (whole is_function_char cs ∙ ap (λ (l : List ℕ). word cs ++ l) (after_one 40 (past_word cs) parts.1))
+  named_call_outcome cs begun = grind (arith, after_one, and_parts, whole, word_is_name)
 
   pub operand_outcome : (cs : List ℕ) → OperandOutcome cs (read_operand rule signature deeper cs)
   operand_outcome cs =
@@ -59,8 +57,7 @@ module _ (rule : Numbers) (signature : List ℕ → Option Signature) (n : ℕ) 
 
 -- it begins with no character that passes a test, where neither a blank nor what may follow does
 none_after : (p : ℕ → Bool) (rest : List ℕ) → ((c : ℕ) → is_blank c ≡ true → p c ≡ false) → ((c : ℕ) → ends_operand c ≡ true → p c ≡ false) → Follows ends_operand rest → begins p rest ≡ false
-none_after p rest blank ends follows =
-    ap (begins p) (whole is_blank rest) ∙ begins_not p (blanks_of rest) (past_blanks rest) blank (front_each is_blank rest) (begins_where ends_operand p false (past_blanks rest) ends follows)
+none_after p rest blank ends follows = grind (arith, begins_not, begins_where, front_each, whole)
 
 ends_no_digit : (c : ℕ) → ends_operand c ≡ true → is_digit c ≡ false
 ends_no_digit c e = grind (arith, e)
@@ -110,15 +107,11 @@ module _ (rule : Numbers) (signature : List ℕ → Option Signature) (n : ℕ) 
 
   -- at a letter stands a call or a literal word
   at_letter : (cs : List ℕ) → begins is_small_letter cs ≡ true → read cs ≡ read_named rule signature deeper cs
-  at_letter cs letter =
-      let other : (k : ℕ) → is_small_letter k ≡ false → begins (λ c. c == k) cs ≡ false = λ k none. begins_differs is_small_letter k cs none letter in
-      rw (other 39 refl, other 34 refl, other 64 refl, other 36 refl, letter) refl
+  at_letter cs letter = grind (arith, begins_differs)
 
   word_again : (w rest : List ℕ) (l : Literal) → AllPass is_function_char w → begins is_small_letter (w ++ rest) ≡ true
       → ((cs : List ℕ) → word cs ≡ w → read_literal_word cs ≡ Ok (literal l, past_blanks (past_word cs))) → Follows ends_operand rest → read (w ++ rest) ≡ Ok (literal l, past_blanks rest)
-  word_again w rest l passes letter at follows =
-      let h = word_alone w rest passes follows in
-      at_letter (w ++ rest) letter ∙ rw (letter, h.2) (at (w ++ rest) h.0) ∙ ap (λ (after : List ℕ). Ok (literal l, past_blanks after)) h.1
+  word_again w rest l passes letter at follows = grind (arith, at_letter, word_alone)
 
   quoted_again : (quote : ℕ) (cs bytes rest : List ℕ) → IsQuote quote → read_string quote cs ≡ Ok (bytes, rest) → read (quote ∷ cs) ≡ Ok (literal (text bytes), past_blanks rest)
   unfolding read_text
@@ -155,8 +148,7 @@ Found cs None = Unit {0}
 Found cs (Some op) = cs ≡ operator_sign op.0 ++ op.1
 
 either : (cs : List ℕ) {b : Bool} (x y : Option (Operator × List ℕ)) → (b ≡ true → Found cs x) → (b ≡ false → Found cs y) → Found cs (cond b x y)
-either cs {b = true} x y f g = f refl
-either cs {b = false} x y f g = g refl
+either cs x y h1 h2 = grind (arith)
 
 operator_found : (cs : List ℕ) → Found cs (read_operator cs)
 operator_found cs = grind (arith, either, after_two, after_one)
@@ -167,22 +159,14 @@ no_equals k cs blank first =
     begins_not (λ c. c == 61) k cs (λ c e. differs is_blank 61 c refl e) blank (begins_differs begins_operand 61 cs refl first)
 
 operator_again : (op : Operator) (rest : List ℕ) → is_at "=" rest ≡ false → read_operator (operator_sign op ++ rest) ≡ Some (op, rest)
-operator_again less rest none = rw none refl
-operator_again greater rest none = rw none refl
-operator_again _ rest none = refl
+operator_again op rest h1 = grind (arith)
 
 -- no operator is there where none may begin
 pub no_operator : (cs : List ℕ) → begins begins_operator cs ≡ false → read_operator cs ≡ None
-no_operator [] e = refl
-no_operator (c ∷ cs) e =
-    let equal = or_parts (c == 61) _ e in
-    let not_equal = or_parts (c == 33) _ equal.1 in
-    let less = or_parts (c == 60) _ not_equal.1 in
-    rw (equal.0, not_equal.0, less.0, less.1) refl
+no_operator cs h1 = grind (arith, or_parts)
 
 operator_ends : (op : Operator) (rest : List ℕ) → begins ends_operand (operator_sign op ++ rest) ≡ true
-operator_ends equal rest = refl
-operator_ends _ rest = refl
+operator_ends op rest = grind (arith)
 
 -- ---- what begins and what ends
 
@@ -191,27 +175,20 @@ pub basic_ends_operand : (rest : List ℕ) → Follows ends_basic rest → Follo
 basic_ends_operand rest follows = begins_where ends_basic ends_operand true (past_blanks rest) (λ c e. grind (arith, e)) follows
 
 pub test_no_value : (kind : Option Kind) → IsTestKind kind → is_result of_value kind ≡ false
-test_no_value kind (inl e) = ap (is_result of_value) e
-test_no_value kind (inr e) = ap (is_result of_value) e
+test_no_value kind h1 = grind (arith)
 
 -- ---- results of calls
 
 pub value_result : (kind : Option Kind) → is_result of_value kind ≡ true → kind ≡ Some of_value
-value_result (Some of_value) e = refl
-value_result _ e = absurd cc
+value_result kind h1 = grind (arith)
 
 test_result : (kind : Kind) → is_result of_value (Some kind) ≡ false → IsTestKind (Some kind)
-test_result of_value e = absurd cc
-test_result of_nodes e = inl refl
-test_result of_logical e = inr refl
+test_result kind h1 = grind (arith)
 
 module _ (rule : Numbers) (signature : List ℕ → Option Signature) (n : ℕ) where
   -- a well-typed call whose result is no value may stand as a test
   pub may_test : (c : Call) → IsGoodCall signature n c → is_result of_value (result_kind signature c) ≡ false → IsTestKind (result_kind signature c)
-  may_test (call f args) good e =
-      let typed = good.0 in
-      let result : result_kind signature (call f args) ≡ Some typed.0.result = rw typed.1 refl in
-      subst IsTestKind (sym result) (test_result typed.0.result (ap (is_result of_value) (sym result) ∙ e))
+  may_test c h1 h2 = grind (arith, test_result)
 
 module _ (rule : Numbers) (signature : List ℕ → Option Signature) (n : ℕ) (deeper : Deeper) (laws : DeeperLaws rule signature n deeper) where
   -- ---- what a reading gives
@@ -219,11 +196,7 @@ module _ (rule : Numbers) (signature : List ℕ → Option Signature) (n : ℕ) 
   -- an operand of this text, which stands before
   comparable_outcome : (is : List ℕ → Operand → Type 0) (start before t : List ℕ) (o : Operand) (cs : List ℕ) → IsOperandText rule signature n t o → start ≡ before ++ cs → ((a : Operand) → IsComparableText rule signature n t a → is before a)
       → Outcome is (Inner signature) start (read_comparable rule signature deeper (byte_count start) o cs)
-  comparable_outcome is start before t (literal l) cs h split good = gives (literal l, cs) (record { text = before; is_so = good (literal l) ((tt, omega arith), h.1); split = split })
-  comparable_outcome is start before t (queried q) cs h split good = guarded NonSingularQuery LongHand (inl refl) (λ e.
-      gives (queried q, cs) (record { text = before; is_so = good (queried q) (((h.0.0, singular_query q e), h.0.1), h.1); split = split }))
-  comparable_outcome is start before t (called c) cs h split good = guarded WrongReturnType LongHand (inl refl) (λ e.
-      gives (called c, cs) (record { text = before; is_so = good (called c) (((h.0.0, value_result (result_kind signature c) e), h.0.1), h.1); split = split }))
+  comparable_outcome is start before t o cs h1 h2 h3 = grind (arith, gives, guarded, singular_query, value_result)
 
   -- what is read as a test of an operand is one of the text that good says
   pub test_outcome : (is : List ℕ → Basic → Type 0) (negated : Bool) (start : List ℕ) (o : Operand × List ℕ) → Read (Spaced (IsOperandText rule signature n)) start o
@@ -263,19 +236,13 @@ module _ (rule : Numbers) (signature : List ℕ → Option Signature) (n : ℕ) 
   -- ---- what is good is read
 
   as_operand : (a : Operand) (t : List ℕ) → IsComparableText rule signature n t a → IsOperandText rule signature n t a
-  as_operand (literal l) t h = (tt, h.1)
-  as_operand (queried q) t h = ((h.0.0.0, h.0.1), h.1)
-  as_operand (called c) t h = ((h.0.0.0, h.0.1), h.1)
+  as_operand a t h1 = grind (arith)
 
   comparable_again : (start : List ℕ) (a : Operand) (t cs : List ℕ) → IsComparableText rule signature n t a → read_comparable rule signature deeper (byte_count start) a cs ≡ Ok (a, cs)
-  comparable_again start (literal l) t cs h = refl
-  comparable_again start (queried q) t cs h = rw (query_singular q h.0.0.1) refl
-  comparable_again start (called c) t cs h = rw h.0.0.1 refl
+  comparable_again start a t cs h1 = grind (arith, query_singular)
 
   pub test_again : (negated : Bool) (start : List ℕ) (o : Operand) (cs : List ℕ) → IsTypedOperand signature o of_logical → read_test rule signature deeper negated (byte_count start) o cs ≡ Ok (test negated o, cs)
-  test_again negated start (literal l) cs h = absurd h
-  test_again negated start (queried q) cs h = refl
-  test_again negated start (called c) cs h = rw (test_no_value (result_kind signature c) h.1) refl
+  test_again negated start o cs h1 = grind (arith, test_no_value)
 
   -- an operand, and what it is made after it
   abbrev pub compared : List ℕ → Parsed Basic

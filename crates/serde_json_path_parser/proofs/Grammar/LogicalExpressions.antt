@@ -29,9 +29,7 @@ module _ (rule : Numbers) (signature : List ℕ → Option Signature) (n : ℕ) 
     IsNegated t b = IsBasicText rule signature n (33 ∷ (k ++ t)) b
 
     negated_test_outcome : (cs : List ℕ) (o : Operand × List ℕ) → Read (Spaced (IsOperandText rule signature n)) cs o → Outcome (Spaced IsNegated) (Inner signature) cs (read_negated_test rule signature deeper (byte_count cs) o.0 o.1)
-    negated_test_outcome cs (literal l, rest) s = refused ExpectedExpression LongHand (inl refl)
-    negated_test_outcome cs (queried q, rest) s = test_outcome rule signature n deeper laws IsNegated true cs (queried q, rest) s (λ o t h. (h.0, (k, t, blank, h.1, refl)))
-    negated_test_outcome cs (called c, rest) s = test_outcome rule signature n deeper laws IsNegated true cs (called c, rest) s (λ o t h. (h.0, (k, t, blank, h.1, refl)))
+    negated_test_outcome cs o h1 = grind (arith, refused, test_outcome)
 
     negated_outcome : (cs : List ℕ) → Outcome (Spaced IsNegated) (Inner signature) cs (read_negated rule signature deeper cs)
     negated_outcome cs =
@@ -42,18 +40,12 @@ module _ (rule : Numbers) (signature : List ℕ → Option Signature) (n : ℕ) 
 
   paren_again : (t : List ℕ) (e : LogicalOr) (rest : List ℕ) → IsGoodInside signature n e → InParentheses (ReadsOr rule e) t
       → (is_at "(" (t ++ rest) ≡ true) × (read_paren rule signature deeper (t ++ rest) ≡ Ok (e, past_blanks rest))
-  paren_again t e rest good (j, a, k, before, is, after, same) =
-      let closing : past_blanks (k ++ (41 ∷ rest)) ≡ 41 ∷ rest = past_run is_blank k (41 ∷ rest) after refl in
-      let inside : past_blanks (drop 1 (t ++ rest)) ≡ a ++ (k ++ (41 ∷ rest)) =
-      rw (same, spread j a k (codes ")") rest) (past_run is_blank j (a ++ (k ++ (41 ∷ rest))) before (no_blank_begins (a ++ (k ++ (41 ∷ rest))) (or_begins rule e a (k ++ (41 ∷ rest)) is))) in
-      let inner = laws.inside_again (t ++ rest) a e (k ++ (41 ∷ rest)) good is (ap (begins ends_or) closing) in
-      (ap (λ (l : List ℕ). is_at "(" (l ++ rest)) same, rw (inside, inner, closing) refl)
+  paren_again t e rest h1 h2 = grind (arith, no_blank_begins, or_begins, past_run, spread)
 
   -- `!`, blanks and what it negates
   negated_again : (t k a rest : List ℕ) (b : Basic) → IsBlank k → t ≡ 33 ∷ (k ++ a) → begins begins_expression (a ++ rest) ≡ true
       → read_negated rule signature deeper (a ++ rest) ≡ Ok (b, past_blanks rest) → read_basic rule signature deeper (t ++ rest) ≡ Ok (b, past_blanks rest)
-  negated_again t k a rest b blank same first e =
-      ap (λ (l : List ℕ). read_basic rule signature deeper (l ++ rest)) same ∙ ap (read_negated rule signature deeper) (ap past_blanks (append_assoc k a rest) ∙ past_run is_blank k (a ++ rest) blank (no_blank_begins (a ++ rest) first)) ∙ e
+  negated_again t k a rest b blank same first e = grind (arith, append_assoc, no_blank_begins, past_run)
 
   -- a test that is negated
   negated_test_again : (a : List ℕ) (o : Operand) (rest : List ℕ) → IsTypedOperand signature o of_logical × (operand_depth o ≤ n) → ReadsOperand rule o a → Follows ends_basic rest
@@ -95,8 +87,7 @@ module _ (rule : Numbers) (signature : List ℕ → Option Signature) (n : ℕ) 
   -- ---- what is joined by `&&`
 
   basic_row : RowLaw signature 38 (38 ∷ []) (IsBasicText rule signature n) (read_basic rule signature deeper) ends_and
-  basic_row =
-      record { outcome = basic_outcome; again = basic_again; starts = λ t b rest h. no_blank_begins (t ++ rest) (basic_begins rule b t rest h.1); sign_no_blank = refl; sign_no_end = refl }
+  basic_row = grind (arith, basic_again, basic_begins, basic_outcome, no_blank_begins)
 
   pub next_basic_consumes : Consumes (are_at "&&") (read_next_basic rule signature deeper)
   next_basic_consumes = next_consumes basic_row
@@ -129,8 +120,7 @@ module _ (rule : Numbers) (signature : List ℕ → Option Signature) (n : ℕ) 
   -- ---- what is joined by `||`
 
   and_row : RowLaw signature 124 (124 ∷ []) (IsAndText rule signature n) (read_and rule signature deeper) ends_or
-  and_row =
-      record { outcome = and_outcome; again = and_again; starts = λ t e rest h. no_blank_begins (t ++ rest) (and_begins rule e t rest h.1); sign_no_blank = refl; sign_no_end = refl }
+  and_row = grind (arith, and_again, and_begins, and_outcome, no_blank_begins)
 
   pub next_and_consumes : Consumes (are_at "||") (read_next_and rule signature deeper)
   next_and_consumes = next_consumes and_row

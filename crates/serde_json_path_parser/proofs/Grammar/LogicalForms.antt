@@ -1,5 +1,5 @@
 -- What is good at a level, and its texts: what may follow an operand or an expression, how each begins, and filters by what holds one level deeper.
-use Rattle.serde_json_path_parser.proofs.Words.{billionths, Numbers, comparable_is, ◌==◌, ◌||◌, Segments, no_segments, segment, Segment, dot_name, long_hand, no_selectors, selector, Selector, filter, LogicalOr, Signature, is_at, begins, ReadsSelector, past_blanks, Query, query, child, descendant, name, index, Call, call, Arguments, IsSingularSegment, AreSingular, IsSingular, and_parts, IsTyped, AreTypedSegments, IsTypedSegment, IsTypedSelector, IsTypedOr, IsTypedCall, depth, segments_depth, segment_depth, selector_depth, or_depth, call_depth, IsBlank, IsFunctionName, IsLiteral, Reads, ReadsOr, ReadsCall, ReadArguments, byte_count, Operand, literal, called, is_singular_segment, are_singular, is_singular, Deeper, IsTypedComparable, IsTypedAnd, ReadsAnd, IsTypedBasic, ReadsOperand, operand_depth, basic_depth, LogicalAnd, ReadsBasic, Basic, and_depth, root, current, no_or, or, no_and, and, paren, relation, test, queried, Literal, text, number, truth, is_blank, is_digit, is_small_letter, SegmentKind, ReadSegments, ReadsSegment, ◌≡◌, ℕ, true, List, [], ◌++◌, Option, Ok, ◌+◌, ◌≤◌, Bool, ◌∷◌, refl, arith, false, ap, ◌∙◌, append_assoc, drop, read_filter, begins_test, IsTypedOperand, Kind, of_value, of_logical, held_decimal, decimal_literal}
+use Rattle.serde_json_path_parser.proofs.Words.{Numbers, comparable_is, ◌==◌, ◌||◌, Segments, no_segments, segment, Segment, Selector, filter, LogicalOr, Signature, is_at, begins, ReadsSelector, past_blanks, Query, query, child, descendant, Call, call, Arguments, IsSingularSegment, AreSingular, IsSingular, and_parts, IsTyped, AreTypedSegments, IsTypedSegment, IsTypedSelector, IsTypedOr, IsTypedCall, depth, segments_depth, segment_depth, selector_depth, or_depth, call_depth, IsBlank, IsFunctionName, IsLiteral, Reads, ReadsOr, ReadsCall, ReadArguments, byte_count, Operand, literal, called, is_singular_segment, are_singular, is_singular, Deeper, IsTypedComparable, IsTypedAnd, ReadsAnd, IsTypedBasic, ReadsOperand, operand_depth, basic_depth, LogicalAnd, ReadsBasic, Basic, and_depth, root, current, no_or, or, no_and, and, paren, relation, test, queried, Literal, is_blank, is_digit, is_small_letter, SegmentKind, ReadSegments, ReadsSegment, ◌≡◌, ℕ, true, List, [], ◌++◌, Option, Ok, ◌+◌, ◌≤◌, Bool, ◌∷◌, refl, arith, false, ap, ◌∙◌, append_assoc, drop, read_filter, begins_test, IsTypedOperand, Kind, of_logical}
 use Rattle.serde_json_path_parser.proofs.Reading.{Inner, Outcome, Past, remade, after_sign, Spaced, some_begun, begins_front, begins_where, no_blank, blanks_of, past_run, front_each}
 use Rattle.serde_json_path_parser.proofs.Rows.{Follows}
 use Rattle.serde_json_path_parser.proofs.Grammar.Numerals.{number_first}
@@ -51,10 +51,7 @@ module _ (signature : List ℕ → Option Signature) (n : ℕ) where
 
   -- what some parameter takes is good
   pub typed_good : (o : Operand) (kind : Kind) → IsTypedOperand signature o kind → operand_depth o ≤ n → IsGoodOperand o
-  typed_good (literal l) kind h d = tt
-  typed_good (queried q) of_value h d = (h.0, d)
-  typed_good (queried q) kind h d = (h, d)
-  typed_good (called c) kind h d = (h.0, d)
+  typed_good o kind h1 h2 = grind (arith)
 
 -- ---- texts of what is good
 
@@ -102,10 +99,7 @@ pub record DeeperLaws (rule : Numbers) (signature : List ℕ → Option Signatur
 -- ---- singular queries
 
 singular_is : (seg : Segment) → is_singular_segment seg ≡ true → IsSingularSegment seg
-singular_is (dot_name k) e = tt
-singular_is (long_hand (selector (name k) no_selectors)) e = tt
-singular_is (long_hand (selector (index i) no_selectors)) e = tt
-singular_is _ e = absurd cc
+singular_is seg h1 = grind (arith)
 
 singular_segments : (segs : Segments) → are_singular segs ≡ true → AreSingular segs
 singular_segments no_segments e = tt
@@ -129,13 +123,7 @@ abbrev pub begins_expression : ℕ → Bool
 begins_expression c = c == 40 || c == 33 || begins_operand c
 
 literal_begins : (rule : Numbers) (l : Literal) (t rest : List ℕ) → IsLiteral rule l t → begins begins_operand (t ++ rest) ≡ true
-literal_begins rule (text bytes) t rest h =
-    let s = string_again t bytes rest h in
-    ap (λ (x : List ℕ). begins begins_operand (x ++ rest)) s.3 ∙ of_quote (λ quote. begins_operand quote ≡ true) refl refl s.0 s.2
-literal_begins rule (number b) t rest h = number_first rule begins_operand true t (billionths b) rest (λ c e. grind (arith, e)) h
-literal_begins rule (decimal_literal d) t rest h = number_first rule begins_operand true t (held_decimal d) rest (λ c e. grind (arith, e)) h
-literal_begins rule (truth true) t rest h = ap (λ (x : List ℕ). begins begins_operand (x ++ rest)) h
-literal_begins rule _ t rest h = ap (λ (x : List ℕ). begins begins_operand (x ++ rest)) h
+literal_begins rule l t rest h1 = grind (arith, number_first, of_quote, string_again)
 
 query_begins : (rule : Numbers) (q : Query) (t rest : List ℕ) → Reads rule q t → begins begins_test (t ++ rest) ≡ true
 query_begins rule (query root segs) t rest h = ap (λ (x : List ℕ). begins begins_test (x ++ rest)) h.2
@@ -193,7 +181,4 @@ module _ (rule : Numbers) (signature : List ℕ → Option Signature) (n : ℕ) 
       remade (λ e. filter e) (λ t e h. (h.1.0, (j, h.0, front_each is_blank (drop 1 cs), h.1.1, h.2))) (laws.inside_outcome (63 ∷ j) cs (past_blanks (drop 1 cs)) (after_sign 63 cs mark))
 
   pub filter_again : (t : List ℕ) (e : LogicalOr) (rest : List ℕ) → IsSelectorText rule signature n t (filter e) → Follows ends_selector rest → read_filter rule signature deeper (t ++ rest) ≡ Ok (filter e, past_blanks rest)
-  filter_again t e rest (good, (k, a, blank, is, same)) closes =
-      let inside : past_blanks (drop 1 (t ++ rest)) ≡ a ++ rest =
-      ap (λ (l : List ℕ). past_blanks (drop 1 (l ++ rest))) same ∙ ap past_blanks (append_assoc k a rest) ∙ past_run is_blank k (a ++ rest) blank (no_blank_begins (a ++ rest) (or_begins rule e a rest is)) in
-      rw (inside, laws.inside_again (t ++ rest) a e rest good is (begins_where ends_selector ends_or true (past_blanks rest) (λ c e. grind (arith, e)) closes)) refl
+  filter_again t e rest h1 h2 = grind (arith, append_assoc, begins_where, no_blank_begins, or_begins, past_run)

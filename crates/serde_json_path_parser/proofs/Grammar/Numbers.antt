@@ -1,5 +1,5 @@
 -- Integers and number literals: what is read is one, each is read, and where a refusal of one stands.
-use Rattle.serde_json_path_parser.proofs.Words.{◌==◌, ℤ, pos, negsuc, ints, largest, ExpectedSelector, IntegerOutOfRange, is_at, cases_Bool, begins, is_blank, is_digit, value_from, IsDecimal, IsInt, front, past, byte_count, is_first_digit, read_digits, negative, read_int, begins_int, ◌||◌, encode_utf8, ExpectedExpression, AllPass, AreDigits, fraction_of, is_exponent, read_whole, read_whole_text, mul-lt-mul_of_pos_right, one-le-pow, length-append, pow-add, encode_ascii, encode_utf8_all, ◌≡◌, ℕ, zero, suc, ◌+◌, ◌-◌, ◌*◌, ◌≤◌, inl, inr, Bool, true, false, List, [], ◌∷◌, ◌++◌, drop, Ok, refl, sym, ap, ◌∙◌, arith, ◌^◌, length, ◌<◌, min, LongHand, AllDigits, digits_value_after}
+use Rattle.serde_json_path_parser.proofs.Words.{◌==◌, ℤ, pos, negsuc, ints, largest, ExpectedSelector, IntegerOutOfRange, is_at, cases_Bool, begins, is_blank, is_digit, value_from, IsDecimal, IsInt, front, past, byte_count, is_first_digit, read_digits, negative, read_int, begins_int, ◌||◌, encode_utf8, ExpectedExpression, AllPass, AreDigits, fraction_of, is_exponent, read_whole, read_whole_text, mul-lt-mul_of_pos_right, one-le-pow, length-append, pow-add, encode_ascii, encode_utf8_all, ◌≡◌, ℕ, suc, ◌+◌, ◌-◌, ◌*◌, ◌≤◌, inl, inr, Bool, true, false, List, [], ◌∷◌, ◌++◌, drop, Ok, refl, sym, ap, ◌∙◌, arith, ◌^◌, length, ◌<◌, min, LongHand, AllDigits, digits_value_after}
 use Rattle.serde_json_path_parser.proofs.Reading.{begins_where, differs, begins_differs, no_blank, whole, front_each, front_begins, front_begins_not, front_all, past_run, value_least, some_begun, begins_front, after_one, Plain, OutcomeIn, Outcome, gives, choose, guarded, past_in, made}
 use Rattle.std.specs.Char.{digit_value}
 use Rattle.std.proofs.lemmas.Str.{digit_value_digit}
@@ -11,10 +11,7 @@ pub first_is_digit : (c : ℕ) → is_first_digit c ≡ true → is_digit c ≡ 
 first_is_digit c e = grind (arith, e)
 
 some_value : (cs : List ℕ) → begins is_first_digit cs ≡ true → 1 ≤ value_from 0 (front is_digit cs)
-some_value [] e = absurd cc
-some_value (c ∷ cs) e =
-    let one : 1 ≤ c - 48 = grind (arith, e) in
-    rw (first_is_digit c e) (omega (arith, one, value_least ((0 * 10) + (c - 48)) (front is_digit cs)))
+some_value cs h1 = grind (arith, first_is_digit, value_least)
 
 -- ---- what a reading gives
 
@@ -36,8 +33,7 @@ digits_outcome start cs first = guarded IntegerOutOfRange LongHand refl (λ e.
     gives _ (record { text = front is_digit cs; is_so = (front_is_whole cs first, some_value cs first, most); split = whole is_digit cs }))
 
 negative_is : (text : List ℕ) (n : ℕ) → IsPositive text n → IsInt (45 ∷ text) (negative n)
-negative_is text zero (d, some, most) = absurd (omega (arith, some))
-negative_is text (suc n) (d, some, most) = ((text, d, refl), (omega (arith, ints, most), omega (arith, ints, most)))
+negative_is text n h1 = grind (arith)
 
 positive_is : (text : List ℕ) (n : ℕ) → IsDecimal text n → n ≤ largest → IsInt text (pos n)
 positive_is text n d most = (d, (omega (arith, ints, most), omega (arith, ints, most)))
@@ -57,8 +53,7 @@ digits_again : (start t : List ℕ) (n : ℕ) (rest : List ℕ) → IsDecimal t 
 digits_again start t n rest d most e = grind (arith, past_run, front_all)
 
 pub first_digit : (t rest : List ℕ) → begins is_digit t ≡ true → is_at "0" t ≡ false → begins is_first_digit (t ++ rest) ≡ true
-first_digit [] rest d z = absurd cc
-first_digit (c ∷ t) rest d z = grind (arith, d, z)
+first_digit t rest h1 h2 = grind (arith)
 
 pub int_again : (t : List ℕ) (i : ℤ) (rest : List ℕ) → IsInt t i → begins is_digit rest ≡ false → read_int (t ++ rest) ≡ Ok (i, rest)
 int_again t (pos n) rest h e = elim h.0.plain [
@@ -82,9 +77,7 @@ digit_begins c d = grind (arith, d)
 
 -- each character that may begin an integer answers so, and an integer with it
 pub int_first : (p : ℕ → Bool) (b : Bool) (t : List ℕ) (i : ℤ) (rest : List ℕ) → ((c : ℕ) → begins_int c ≡ true → p c ≡ b) → IsInt t i → begins p (t ++ rest) ≡ b
-int_first p b [] (pos n) rest h is = absurd (let first = is.0.first in cc)
-int_first p b (c ∷ t) (pos n) rest h is = h c (digit_begins c is.0.first)
-int_first p b t (negsuc n) rest h is = ap (λ (l : List ℕ). begins p (l ++ rest)) is.0.2 ∙ h 45 refl
+int_first p b t i rest h1 h2 = grind (arith, digit_begins)
 
 pub int_not : (k : ℕ) (t : List ℕ) (i : ℤ) (rest : List ℕ) → begins_int k ≡ false → IsInt t i → begins (λ c. c == k) (t ++ rest) ≡ false
 int_not k t i rest never is = int_first (λ c. c == k) false t i rest (λ c e. differs begins_int k c never e) is
@@ -117,8 +110,7 @@ goes_on c = is_digit c || c == 46 || is_exponent c
 
 -- a list that begins with no such character begins with no part of a number
 pub no_part : (cs : List ℕ) → begins goes_on cs ≡ false → (begins is_digit cs ≡ false) × (is_at "." cs ≡ false) × (begins is_exponent cs ≡ false)
-no_part [] e = (refl, refl, refl)
-no_part (c ∷ cs) e = (grind (arith, e), grind (arith, e), grind (arith, e))
+no_part cs h1 = grind (arith)
 
 pub whole_text_again : (start t : List ℕ) (n : ℕ) (rest : List ℕ) → IsDecimal t n → begins is_digit rest ≡ false → read_whole_text (byte_count start) (t ++ rest) ≡ Ok (t, rest)
 whole_text_again start t n rest d e = grind (arith, first_digit, past_run, front_all, begins_differs)
@@ -131,8 +123,7 @@ digits_begin [] rest are = absurd (let some = are.1 in omega (arith, some))
 digits_begin (c ∷ digits) rest are = are.0.0
 
 pub decimal_first : (p : ℕ → Bool) (b : Bool) (t : List ℕ) (n : ℕ) (rest : List ℕ) → ((c : ℕ) → is_digit c ≡ true → p c ≡ b) → IsDecimal t n → begins p (t ++ rest) ≡ b
-decimal_first p b t n rest h is =
-    begins_where is_digit p b (t ++ rest) h (begins_front is_digit true t rest (some_begun is_digit t is.first) is.first)
+decimal_first p b t n rest h is = grind (arith, begins_front, begins_where, some_begun)
 
 -- ---- bytes
 

@@ -46,8 +46,7 @@ numeral_outcome start cs = after_in (whole_text_outcome start cs) (λ w _ a.
 
 -- the fraction that places write, where they are nine at most
 places_fraction : (t : List ℕ) → IsPlaces t → length (drop 1 t) ≤ 9 → IsFraction t (fraction_of (drop 1 t))
-places_fraction t (inl none) few = inl (none, rw none refl)
-places_fraction t (inr (ds, are, same)) few = inr (ds, same, are.0, are.1, (rw same at few), rw same refl)
+places_fraction t h1 h2 = grind (arith)
 
 fraction_outcome : (start cs : List ℕ) → OutcomeIn IsFraction Plain start cs (read_fraction (byte_count start) cs)
 unfolding read_fraction
@@ -103,8 +102,7 @@ numeral_again start t rest (a, b, c, n, is_whole, are_places, is_exp, same) e =
 
 -- a fraction by its places, what they are worth, and whether there is a point
 fraction_parts : (t : List ℕ) (n : ℕ) → IsFraction t n → IsPlaces t × AllPass is_digit (drop 1 t) × (length (drop 1 t) ≤ 9) × (n ≡ fraction_of (drop 1 t)) × (point : Bool) × (t ≡ (if point then 46 ∷ drop 1 t else [])) × (point ≡ false → drop 1 t ≡ [])
-fraction_parts t n (inl (none, zero)) = rw none (inl refl, tt, omega arith, zero, false, refl, λ e. refl)
-fraction_parts t n (inr (ds, same, passes, some, few, worth)) = rw same (inr (ds, (passes, some), refl), passes, few, worth, true, refl, λ e. cc)
+fraction_parts t n h1 = grind (arith)
 
 fraction_again : (start : ℕ) (t : List ℕ) (n : ℕ) (rest : List ℕ) → IsFraction t n → begins goes_on rest ≡ false → read_fraction start (t ++ rest) ≡ Ok (n, rest)
 unfolding read_fraction
@@ -119,8 +117,7 @@ amount_again start t n rest (a, b, w, f, is_whole, is, same, sum) e =
 -- ---- how a numeral begins
 
 pub numeral_first : (p : ℕ → Bool) (b : Bool) (t rest : List ℕ) → ((c : ℕ) → is_digit c ≡ true → p c ≡ b) → IsNumeral t → begins p (t ++ rest) ≡ b
-numeral_first p b t rest h (a, q, c, n, is_whole, are_places, is_exp, same) =
-    rw (parted a q c rest same) (decimal_first p b a n (q ++ (c ++ rest)) h is_whole)
+numeral_first p b t rest h1 h2 = grind (arith, decimal_first, parted)
 
 -- ---- what is read by whole numbers is read by all numbers
 
@@ -167,8 +164,7 @@ held_number negative t n a is e = elim (cases_Bool (nat_le n (most_billionths ne
 ]
 
 literal_is : (rule : Numbers) (t : List ℕ) (a : Amount) → IsNumberLiteral rule t a → IsLiteral rule (literal_of a) t
-literal_is rule t (billionths b) h = h
-literal_is rule t (held_decimal d) h = h
+literal_is rule t a h1 = grind (arith)
 
 module _ (rule : Numbers) (negative : Bool) (start cs : List ℕ) where
   -- a literal after its sign
@@ -176,8 +172,7 @@ module _ (rule : Numbers) (negative : Bool) (start cs : List ℕ) where
   IsAfterSign t l = IsLiteral rule l (sign_text negative ++ t)
 
   literal_outcome : (t rest : List ℕ) (o : Option Amount) → cs ≡ t ++ rest → ((a : Amount) → o ≡ Some a → IsNumberLiteral rule (sign_text negative ++ t) a) → OutcomeIn IsAfterSign Plain start cs (as_literal start o rest)
-  literal_outcome t rest None split is = refused NumberOutOfRange LongHand refl
-  literal_outcome t rest (Some a) split is = gives (literal_of a, rest) (record { text = t; is_so = literal_is rule (sign_text negative ++ t) a (is a refl); split = split })
+  literal_outcome t rest o h1 h2 = grind (arith, gives, literal_is, refused)
 
 after_sign_outcome : (rule : Numbers) (negative : Bool) (start cs : List ℕ) → OutcomeIn (IsAfterSign rule negative start cs) Plain start cs (read_signed rule negative start cs)
 after_sign_outcome whole_numbers negative start cs = onward (amount_outcome start cs) (λ n e r.
@@ -191,8 +186,7 @@ number_outcome rule cs = choose (λ e. past_in (45 ∷ []) (after_one 45 cs e) (
 -- ---- each is read
 
 at_sign : (rule : Numbers) (negative : Bool) (t rest : List ℕ) → IsNumeral t → read_number rule ((sign_text negative ++ t) ++ rest) ≡ read_signed rule negative ((sign_text negative ++ t) ++ rest) (t ++ rest)
-at_sign rule true t rest is = refl
-at_sign rule false t rest is = rw (numeral_first (λ c. c == 45) false t rest (λ c d. differs is_digit 45 c refl d) is) refl
+at_sign rule negative t rest h1 = grind (arith, differs, numeral_first)
 
 pub number_again : (rule : Numbers) (t : List ℕ) (a : Amount) (rest : List ℕ) → IsNumberLiteral rule t a → begins goes_on rest ≡ false → read_number rule (t ++ rest) ≡ Ok (literal_of a, rest)
 number_again whole_numbers t (billionths b) rest h e =
@@ -206,8 +200,7 @@ number_again all_numbers t a rest (negative, numeral, is, same, held) e =
 -- ---- how a number begins
 
 numeral_begins : (p : ℕ → Bool) (b : Bool) (t : List ℕ) (a : Amount) (rest : List ℕ) → ((c : ℕ) → begins_int c ≡ true → p c ≡ b) → IsNumeralOf t a → begins p (t ++ rest) ≡ b
-numeral_begins p b t a rest h (true, numeral, is, same, held) = rw same (h 45 refl)
-numeral_begins p b t a rest h (false, numeral, is, same, held) = rw same (numeral_first p b numeral rest (λ c d. h c (digit_begins c d)) is)
+numeral_begins p b t a rest h1 h2 = grind (arith, digit_begins, numeral_first)
 
 -- each character that may begin a number answers so, and a number with it
 pub number_first : (rule : Numbers) (p : ℕ → Bool) (b : Bool) (t : List ℕ) (a : Amount) (rest : List ℕ) → ((c : ℕ) → begins_int c ≡ true → p c ≡ b) → IsNumberLiteral rule t a → begins p (t ++ rest) ≡ b
@@ -217,19 +210,15 @@ number_first rule p b t a rest h is = numeral_begins p b t a rest h (as_numeral 
 
 -- two texts before what is read
 pub first_pushed : (before first : List ℕ) (read : Parsed (List ℕ)) → with_front before (with_front first read) ≡ with_front (before ++ first) read
-first_pushed before first (Ok x) = ap (λ (l : List ℕ). Ok (l, x.1)) (sym (append_assoc before first x.0))
-first_pushed before first (Err r) = refl
+first_pushed before first read = grind (arith, append_assoc)
 
 -- the literal of an amount is given, or the refusal
 pub literal_given : {S : Type 0} {g : Ghosts S} (start : List ℕ) (reader : Reader S g) (o : Option Amount) (l : Option declared.Literal) (stop : Failure) → option_map literal_view l ≡ option_map literal_of o → stop ≡ Refused (refusal NumberOutOfRange LongHand start)
     → IsAsRead literal_view (ok_or l stop) reader (as_literal start o (left reader))
-literal_given start reader None None stop e is = rw is refl
-literal_given start reader (Some a) (Some l) stop e is = let same : literal_view l ≡ literal_of a = cc in rw same refl
-literal_given start reader None (Some l) stop e is = absurd cc
-literal_given start reader (Some a) None stop e is = absurd cc
+literal_given start reader o l stop h1 h2 = grind (arith)
 
 -- digits that are read after a point, with no exponent after them
 pub fraction_read : {old cs rest : List ℕ} {c : ℕ} (start : ℕ) → old ≡ c ∷ cs → is_at "." old ≡ true → begins is_digit cs ≡ true → rest ≡ past is_digit cs → begins is_exponent rest ≡ false
     → read_fraction start old ≡ (if nat_le (length (front is_digit cs)) 9 then Ok (fraction_of (front is_digit cs), rest) else Err (refusal_at FractionTooLong LongHand start))
 unfolding read_fraction read_places
-fraction_read start e point some is plain = rw (point, e, some, ← is, plain) refl
+fraction_read start e point some is plain = grind (arith)

@@ -1,5 +1,5 @@
 -- Whole paths, and the promises of a parse.
-use Rattle.serde_json_path_parser.proofs.Words.{Numbers, ◌==◌, encode_utf8_all, all_scalars, chars, IsUtf8, IsCharBoundary, append-nil, length-append, nil_from_length, eqb-true, SegmentKind, Segments, Segment, deepest, Signature, ParseErrorKind, ExpectedRoot, UndefinedFunction, TextAfterPath, NoMemory, IsUndeclared, is_at, begins, Parsed, refusal, opens_next, read_segments, segment_list, opens_after_root, level, read_path, encodes-chars, encodes-append, scalars-chars, IsCharBoundary-at_seam, ◌&&◌, take-append_seam, drop-append_seam, IsCharBoundary-start, chars-encodes, Query, query, root, current, greatest_usize, Refusal, Failure, tree_of, rule_of, signatures_of, opens, AreCalled, Reports, reported, Fails, IsRefused, IsWithin, error_of, is_dollar, NeedsNoMemory, ParsedQuery, IsParse, checked_view, eq-eqb, length-le-encodes, ◌≡◌, ◌≢◌, ℕ, ◌≤◌, ◌↔◌, true, false, true≢false, List, [], ◌∷◌, ◌++◌, length, drop, Option, Ok, refl, sym, ap, subst, ◌∙◌, arith, ◌+◌, ◌-◌, inl, inr, ◌<◌, take, Some, Err, read_filter, Memory, Refused, is_blank, read_next_segment, Path, OneTreeAtMost}
+use Rattle.serde_json_path_parser.proofs.Words.{Numbers, ◌==◌, encode_utf8_all, all_scalars, chars, IsUtf8, IsCharBoundary, append-nil, length-append, nil_from_length, eqb-true, SegmentKind, Segments, Segment, deepest, Signature, ParseErrorKind, ExpectedRoot, UndefinedFunction, TextAfterPath, NoMemory, IsUndeclared, is_at, begins, Parsed, refusal, read_segments, segment_list, opens_after_root, level, read_path, encodes-chars, encodes-append, scalars-chars, IsCharBoundary-at_seam, take-append_seam, drop-append_seam, IsCharBoundary-start, chars-encodes, Query, query, root, greatest_usize, Refusal, Failure, tree_of, rule_of, signatures_of, AreCalled, Reports, reported, Fails, IsRefused, IsWithin, error_of, is_dollar, NeedsNoMemory, ParsedQuery, IsParse, checked_view, eq-eqb, length-le-encodes, ◌≡◌, ◌≢◌, ℕ, ◌≤◌, ◌↔◌, true, false, true≢false, List, [], ◌∷◌, ◌++◌, length, drop, Option, Ok, refl, sym, ap, subst, ◌∙◌, arith, ◌+◌, ◌-◌, ◌<◌, take, Some, Err, read_filter, Memory, Refused, Path, OneTreeAtMost}
 use Rattle.serde_json_path_parser.proofs.Grammar.LogicalForms.{AreSegmentsText}
 use Rattle.serde_json_path_parser.proofs.Grammar.Calls.{level_laws}
 use Rattle.serde_json_path_parser.proofs.Grammar.Segments.{segments_outcome, segments_again, same_segments}
@@ -21,10 +21,7 @@ module _ (rule : Numbers) (signature : List ℕ → Option Signature) where
 
   -- where no segment begins after `$`, none is read
   pub none_read : (cs ds rest : List ℕ) (c : ℕ) (ss : List (SegmentKind × Segment)) → begins (λ d. d == 36) cs ≡ true → cs ≡ c ∷ ds → read_path_segments ds ≡ Ok (ss, rest) → opens_after_root cs ≡ false → ss ≡ []
-  none_read cs ds rest c ss sign split read none =
-      let closed : opens_next ds ≡ false = sym (rw (sign, split) refl) ∙ none in
-      let empty = many_end opens_next (read_next_segment (read_filter rule signature (level rule signature deepest)) Path) ds closed in
-      ap (λ (x : List (SegmentKind × Segment) × List ℕ). x.0) (ok_is (ss, rest) ([], ds) (sym read ∙ empty))
+  none_read cs ds rest c ss sign split read none = grind (arith, many_end, ok_is)
 
   -- ---- each path is read
 
@@ -39,8 +36,7 @@ module _ (rule : Numbers) (signature : List ℕ → Option Signature) where
 
 -- what is reported of a segment is neither that the sign is missing, nor text after the path, nor want of memory
 inner_differs : (signature : List ℕ → Option Signature) (kind other : ParseErrorKind) (rest : List ℕ) → is_plain other ≡ false → UndefinedFunction ≢ other → Inner signature kind rest → kind ≡ other → ⊥
-inner_differs signature kind other rest outer differs (inl plain) e = true≢false (sym plain ∙ ap is_plain e ∙ outer)
-inner_differs signature kind other rest outer differs (inr undefined) e = differs (sym undefined.0 ∙ e)
+inner_differs signature kind other rest h1 h2 h3 h4 = grind (arith)
 
 module _ (rule : Numbers) (signature : List ℕ → Option Signature) where
   -- what a kind tells of the whole text, and of its rest from the refusal on
@@ -51,12 +47,7 @@ module _ (rule : Numbers) (signature : List ℕ → Option Signature) where
     pub undefined : kind ≡ UndefinedFunction → IsUndeclared signature rest
 
   in_segment : (cs : List ℕ) (kind : ParseErrorKind) (rest : List ℕ) → is_at "$" cs ≡ true → Inner signature kind rest → PathTells cs kind rest
-  in_segment cs kind rest rooted h = record {
-    no_memory = inner_differs signature kind NoMemory rest refl (λ f. cc) h;
-    root_missing = ((λ e. absurd (inner_differs signature kind ExpectedRoot rest refl (λ f. cc) h e)), (λ e. absurd (true≢false (sym rooted ∙ e))));
-    after = λ e. absurd (inner_differs signature kind TextAfterPath rest refl (λ f. cc) h e);
-    undefined = λ e. elim h [ inl plain ↦ absurd (true≢false (sym plain ∙ ap is_plain e)) | inr undefined ↦ undefined.1 ];
-  }
+  in_segment cs kind rest rooted h = grind (arith, inner_differs)
 
   pub path_outcome : (cs : List ℕ) → IsOutcome (λ segs. (a : List ℕ) × AreSegmentsText rule signature deepest a segs × (cs ≡ 36 ∷ a)) (Stands (PathTells cs) cs) (read_path rule signature cs)
   unfolding read_path
@@ -107,8 +98,7 @@ accepted rule signature cs a segs e h = record { reads = (a, h.1, e); from_root 
 -- an accepted tree is what is read
 accepted_read : (rule : Numbers) (signature : List ℕ → Option Signature) (cs : List ℕ) (q : Query) → IsAccepted rule signature cs q
     → (segs : Segments) × (q ≡ query root segs) × (read_path rule signature cs ≡ Ok segs)
-accepted_read rule signature cs (query current segs) h = let e : current ≡ root = h.from_root in absurd cc
-accepted_read rule signature cs (query root segs) h = let r = h.reads in (segs, refl, path_again rule signature cs r.0 segs ((h.typed, h.within_depth), r.1) r.2)
+accepted_read rule signature cs q h1 = grind (arith, path_again)
 
 -- a text is accepted with one tree at most
 pub one_tree_at_most : OneTreeAtMost
@@ -118,8 +108,7 @@ one_tree_at_most rule signature text p q h g = grind (arith, accepted_read, ok_i
 
 -- where nothing is to be kept no segment begins after `$`
 needs_none : (cs : List ℕ) → NeedsNoMemory cs → opens_after_root cs ≡ false
-needs_none cs (inl h) = ap (λ b. b && opens_next (drop 1 cs)) h
-needs_none cs (inr h) = ap opens_after_root h.2 ∙ ap (begins opens) (past_run is_blank h.0 h.1 h.3 h.4) ∙ h.5
+needs_none cs h1 = grind (arith, past_run)
 
 -- ---- the text before text that stands after a path
 
@@ -220,13 +209,7 @@ module _ (rule : Numbers) (signature : List ℕ → Option Signature) (text : Li
   -- ---- what is reported at each
 
   unstored_reported : (length text < greatest_usize → NeedsNoMemory (chars text) → ⊥) → Reports rule signature text (Err (error_of Memory 0))
-  unstored_reported stores = record {
-    first = λ other. absurd (other refl);
-    missing_root = ((λ e. absurd cc), (λ g. absurd (stores g.0 (inl g.1))));
-    text_after = λ e. absurd cc;
-    undefined = λ e. absurd cc;
-    position = (omega arith, IsCharBoundary-start text u);
-  }
+  unstored_reported stores = grind (arith, IsCharBoundary-start)
 
   pub too_long_reported : length text ≡ greatest_usize → Reports rule signature text (Err (error_of Memory 0))
   too_long_reported long = unstored_reported (λ less none. omega (arith, long))

@@ -1,5 +1,5 @@
 -- Selectors, brackets with them, and segments: what is read is in the grammar, what is in the grammar is read, where a refusal stands.
-use Rattle.serde_json_path_parser.proofs.Words.{Numbers, ℤ, ◌==◌, append-nil, Slice, Selector, slice, index, IsBound, IsSliceStep, IsSlice, false_from_ne_true, begins, is_blank, is_digit, IsBlank, IsInt, Parsed, past_blanks, begins_int, read_bound, read_step, read_slice, read_index_or_slice, read_selector, None, name, wildcard, filter, IsQuote, read_quoted, read_string, Signature, codes, SegmentKind, long_hand, Selectors, no_selectors, selector, ExpectedClosingBracket, ReadSelectors, ReadMoreSelectors, dots_before_bracket, read_next_selector, read_selectors, selector_list, read_bracket, Deeper, AreTypedSelectors, selectors_depth, is_at, length-append, child, descendant, Segments, no_segments, segment, Segment, dot_name, dot_wildcard, is_name_first, is_name_char, IsName, Joined, opens, dots_before_name, many, after_dot, read_name, read_dotted, read_descendant, read_after_dot, read_segment, opens_next, read_next_segment, read_segments, segment_list, ◌≡◌, ◌≤◌, ℕ, inl, inr, true, false, true≢false, List, [], ◌∷◌, ◌++◌, drop, Option, Some, Ok, refl, sym, ap, subst, ◌∙◌, append_assoc, arith, ◌<◌, length, LongHand, read_filter, Context}
+use Rattle.serde_json_path_parser.proofs.Words.{Numbers, ℤ, ◌==◌, append-nil, Slice, Selector, slice, index, IsBound, IsSliceStep, IsSlice, false_from_ne_true, begins, is_blank, is_digit, IsBlank, IsInt, Parsed, past_blanks, begins_int, read_bound, read_step, read_slice, read_index_or_slice, read_selector, None, name, wildcard, filter, IsQuote, read_quoted, read_string, Signature, codes, SegmentKind, long_hand, Selectors, no_selectors, selector, ExpectedClosingBracket, ReadSelectors, ReadMoreSelectors, dots_before_bracket, read_next_selector, read_selectors, selector_list, read_bracket, Deeper, AreTypedSelectors, selectors_depth, is_at, length-append, child, descendant, Segments, no_segments, segment, Segment, dot_name, dot_wildcard, is_name_first, is_name_char, IsName, Joined, opens, dots_before_name, many, after_dot, read_name, read_dotted, read_descendant, read_after_dot, read_segment, opens_next, read_next_segment, read_segments, segment_list, ◌≡◌, ◌≤◌, ℕ, inl, inr, true, false, List, [], ◌∷◌, ◌++◌, drop, Option, Some, Ok, refl, sym, ap, subst, ◌∙◌, append_assoc, arith, ◌<◌, length, LongHand, read_filter, Context}
 use Rattle.serde_json_path_parser.proofs.Reading.{begins_where, blanks_of, spread, differs, no_blank, past_end, no_longer, begins_not, some_begun, begins_front, begins_differs, whole, front_each, front_begins, front_all, past_run, Spaced, after_one, many_again, Plain, Inner, Outcome, gives, choose, weaker, past_text, past_spaced, along, onward, after_spaced, remade, with_blanks, after_sign, made_spaced, inner, guarded, after, read_spaced, made, many_outcome, Consumes, past_through, begins_other}
 use Rattle.serde_json_path_parser.proofs.Grammar.LogicalForms.{DeeperLaws, IsSelectorText, IsSegmentText, ends_selectors, ends_selector, filter_outcome, filter_again, AreSegmentsText}
 use Rattle.serde_json_path_parser.proofs.Grammar.Numbers.{int_outcome, int_again, int_not, int_no_blank, int_first}
@@ -52,10 +52,7 @@ no_colon rest h = begins_where ends_selector (λ c. c == 58) false (past_blanks 
 
 -- no digit stands at once after an integer
 ends_digits : (rest : List ℕ) → Ends rest → begins is_digit rest ≡ false
-ends_digits [] h = refl
-ends_digits (c ∷ cs) h = false_from_ne_true (is_digit c) (λ d.
-    let begun : begins begins_int (past_blanks (c ∷ cs)) ≡ true = rw (no_blank is_digit c refl refl refl refl d, differs is_digit 45 c refl d, d) refl in
-    true≢false (sym begun ∙ h))
+ends_digits rest h1 = grind (arith, differs, false_from_ne_true, no_blank)
 
 bound_again : (e : Option ℤ) (t rest : List ℕ) → IsBound e t → Ends rest → read_bound (past_blanks (t ++ rest)) ≡ Ok (e, past_blanks rest)
 bound_again None t rest b ends = ap (λ (l : List ℕ). read_bound (past_blanks (l ++ rest))) b ∙ rw ends refl
@@ -71,28 +68,19 @@ step_again (Some i) t rest (k, a, blank, is, e) closes =
     rw (e, append_assoc k a rest, past_through is_blank k (a ++ rest) blank) (bound_again (Some i) a rest (a, [], is, tt, sym (append-nil a)) (closed_ends rest closes))
 
 step_ends : (e : Option ℤ) (t rest : List ℕ) → IsSliceStep e t → Follows ends_selector rest → Ends (t ++ rest)
-step_ends None t rest (inl e) closes = subst (λ (l : List ℕ). Ends (l ++ rest)) (sym e) (closed_ends rest closes)
-step_ends None t rest (inr e) closes = subst (λ (l : List ℕ). Ends (l ++ rest)) (sym e) refl
-step_ends (Some i) t rest (k, a, blank, is, e) closes = subst (λ (l : List ℕ). Ends (l ++ rest)) (sym e) refl
+step_ends e t rest h1 h2 = grind (arith, closed_ends)
 
 -- after the first colon
 parts_again : (start end step : Option ℤ) (k b c rest : List ℕ) → IsBlank k → IsBound end b → IsSliceStep step c → Follows ends_selector rest
     → read_slice start (k ++ (b ++ (c ++ rest))) ≡ Ok (record { start = start; end = end; step = step }, past_blanks rest)
-parts_again start end step k b c rest blank second third closes =
-    rw (past_through is_blank k (b ++ (c ++ rest)) blank, bound_again end b (c ++ rest) second (step_ends step c rest third closes), step_again step c rest third closes) refl
+parts_again start end step k b c rest blank second third closes = grind (arith, bound_again, past_through, step_again, step_ends)
 
 begun_again : (t k : List ℕ) (i : ℤ) (rest : List ℕ) (s : Slice) (after : List ℕ) → IsInt t i → IsBlank k → read_slice (Some i) rest ≡ Ok (s, after) → read_index_or_slice (t ++ (k ++ (58 ∷ rest))) ≡ Ok (slice s, after)
 begun_again t k i rest s after is blank read = grind (arith, past_through, int_again, ends_digits)
 
 -- no blank begins a slice
 pub slice_no_blank : (t : List ℕ) (s : Slice) (rest : List ℕ) → IsSlice s t → begins is_blank (t ++ rest) ≡ false
-slice_no_blank t s rest (a, k, b, c, first, blank, second, third, e) = by_start s.start first
-  where
-    by_start : (start : Option ℤ) → IsBound start a → begins is_blank (t ++ rest) ≡ false
-    by_start None none = rw (e, none) refl
-    by_start (Some i) (n, j, is, gap, text) =
-        let tail = 58 ∷ (k ++ (b ++ c)) in
-        rw (e, text, append_assoc n j tail, append_assoc n (j ++ tail) rest) (int_no_blank n i ((j ++ tail) ++ rest) is)
+slice_no_blank t s rest h1 = grind (arith, append_assoc, int_no_blank)
 
 -- the same as selectors
 module _ (read_filter : List ℕ → Parsed Selector) where

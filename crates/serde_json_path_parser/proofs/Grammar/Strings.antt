@@ -6,8 +6,7 @@ use Rattle.serde_json_path_parser.proofs.Reading.{some_begun, after_one, Again, 
 -- ---- what a reading gives: hexadecimal digits
 
 first_is : (p : ℕ → Bool) (cs : List ℕ) → begins p cs ≡ true → (cs ≡ head cs ∷ drop 1 cs) × (p (head cs) ≡ true)
-first_is p [] e = absurd cc
-first_is p (c ∷ cs) e = (refl, e)
+first_is p cs h1 = grind (arith)
 
 abbrev IsHexDigit : List ℕ → ℕ → Type 0
 IsHexDigit t n = (c : ℕ) × (t ≡ c ∷ []) × (hexadecimal_of c ≡ Some n)
@@ -73,8 +72,7 @@ unicode_outcome quote escape cs = onward (hex4_outcome escape cs) (λ h _ first.
 
 -- a fact of both quotes
 pub of_quote : (Fact : ℕ → Type 0) → Fact 39 → Fact 34 → (quote : ℕ) → IsQuote quote → Fact quote
-of_quote Fact single double quote (inl e) = subst Fact (sym e) single
-of_quote Fact single double quote (inr e) = subst Fact (sym e) double
+of_quote Fact h1 h2 quote h3 = grind (arith)
 
 letter_sound : (quote letter : ℕ) → IsQuote quote → is_letter_escape quote letter ≡ true → IsPiece quote (92 ∷ letter ∷ []) (letter_value letter)
 letter_sound quote letter is e = elim (eqb_tells letter quote) [
@@ -141,8 +139,7 @@ piece_again quote is t c rest (pair_escape a b high low first second h l) =
     rw (append_assoc a (92 ∷ 117 ∷ b) rest, hex4_again whole a high (92 ∷ 117 ∷ (b ++ rest)) first, range_again 0xd800 0xdbff high h, hex4_again whole b low rest second, range_again 0xdc00 0xdfff low l) refl
 
 piece_begins : (quote : ℕ) → IsQuote quote → (t : List ℕ) (c : ℕ) (rest : List ℕ) → IsPiece quote t c → begins (is_inside quote) (t ++ rest) ≡ true
-piece_begins quote is t c rest (plain d e) = grind (arith, e)
-piece_begins quote is t c rest _ = of_quote (λ quote. is_inside quote 92 ≡ true) refl refl quote is
+piece_begins quote h1 t c rest h2 = grind (arith, of_quote)
 
 pub piece_consumes : (quote : ℕ) → IsQuote quote → Consumes (begins (is_inside quote)) (read_piece quote)
 piece_consumes quote is = record {
@@ -171,10 +168,7 @@ with_text quote before read = read >>= λ s.
     cond (begins (λ c. c == quote) s.1) (Ok (before ++ encode_utf8_all s.0, drop 1 s.1)) (Err (refusal ExpectedEndingQuote LongHand s.1))
 
 joined : (quote : ℕ) (before : List ℕ) (x : ℕ) (read : Parsed (List ℕ)) → with_text quote before (with_front (x ∷ []) read) ≡ with_text quote (before ++ encode_utf8 x) read
-joined quote before x (Ok r) =
-    ap (λ (l : List ℕ). cond (begins (λ c. c == quote) r.1) (Ok (l, drop 1 r.1)) (Err (refusal ExpectedEndingQuote LongHand r.1)))
-    (sym (append_assoc before (encode_utf8 x) (encode_utf8_all r.0)))
-joined quote before x (Err f) = refl
+joined quote before x read = grind (arith, append_assoc)
 
 module _ (quote : ℕ) (is : IsQuote quote) where
   abbrev pieces : List ℕ → Parsed (List ℕ)
@@ -199,14 +193,11 @@ module _ (quote : ℕ) (is : IsQuote quote) where
 
   pub goes_on_far : (before cs rest new : List ℕ) (total : Parsed (List ℕ)) (ok : Bool) → ok ≡ true → Stretched (is_ascii_plain quote) cs rest before new ok
       → with_text quote before (pieces cs) ≡ total → with_text quote new (pieces rest) ≡ total
-  goes_on_far before cs rest new total ok done s h =
-      ap (λ (l : List ℕ). with_text quote l (pieces rest)) (s.text done) ∙ over_plain s.part before rest total s.passes (sym (ap (λ (l : List ℕ). with_text quote before (pieces l)) s.taken) ∙ h)
+  goes_on_far before cs rest new total ok done s h = grind (arith, over_plain)
 
   pub is_done : (before cs : List ℕ) (total : Parsed (List ℕ)) → begins (is_inside quote) cs ≡ false → with_text quote before (pieces cs) ≡ total
       → total ≡ cond (begins (λ c. c == quote) cs) (Ok (before, drop 1 cs)) (Err (refusal ExpectedEndingQuote LongHand cs))
-  is_done before cs total t h =
-      sym h ∙ ap (with_text quote before) (many_end (begins (is_inside quote)) (read_piece quote) cs t)
-      ∙ ap (λ (l : List ℕ). cond (begins (λ c. c == quote) cs) (Ok (l, drop 1 cs)) (Err (refusal ExpectedEndingQuote LongHand cs))) (append-nil before)
+  is_done before cs total t h = grind (arith, append-nil, many_end)
 
   pub fails : (s : Failure) (before cs : List ℕ) (total : Parsed (List ℕ)) → begins (is_inside quote) cs ≡ true → Fails s (read_piece quote cs)
       → with_text quote before (pieces cs) ≡ total → Fails s total

@@ -107,8 +107,7 @@ some_digit : (rest : ℕ) → (rest == 0) ≡ false → rest / 100000000 < 10 �
 some_digit rest some small = rw (some, decimal_digit (rest / 100000000) small) (omega arith)
 
 unless : (test : Bool) (x y : List ℕ) → test ≡ false → (if test then x else y) ≡ y
-unless true x y e = absurd cc
-unless false x y e = refl
+unless test x y h1 = grind (arith)
 
 fraction_is : (rest : ℕ) → rest < 1000000000 → IsFraction (fraction_text rest) rest × Spells (fraction_text rest) (fraction_text rest)
 fraction_is rest range = elim (eqb_tells rest 0) [

@@ -96,8 +96,7 @@ IsPrinted c None = is_plain 39 c ≡ true
 IsPrinted c (Some escape) = IsPiece 39 escape c × AllByRecursion (λ d. d < 128) escape
 
 choice : (test : Bool) (c : ℕ) (x y : Option (List ℕ)) → (test ≡ true → IsPrinted c x) → (test ≡ false → IsPrinted c y) → IsPrinted c (if test then x else y)
-choice true c x y here further = here refl
-choice false c x y here further = further refl
+choice test c x y h1 h2 = grind (arith)
 
 -- a backslash and a letter stand for a character
 letter_printed : (c d letter : ℕ) → (c == d) ≡ true → letter < 128 → IsPiece 39 (92 ∷ letter ∷ []) d → IsPrinted c (Some (92 ∷ letter ∷ []))
@@ -137,8 +136,7 @@ module _ (c : ℕ) where
   printed_piece (Some escape) h = h.0
 
   printed_spells : (o : Option (List ℕ)) → IsPrinted c o → IsScalar c → Spells (unwrap_or o (encode_utf8 c)) (unwrap_or o (c ∷ []))
-  printed_spells None h s = record { scalars = rw s refl; encoded = append-nil (encode_utf8 c) }
-  printed_spells (Some escape) h s = spell_ascii escape h.1
+  printed_spells o h1 h2 = grind (arith, append-nil, spell_ascii)
 
 -- ---- a text in quotes
 
