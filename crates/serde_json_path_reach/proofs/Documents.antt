@@ -1,5 +1,5 @@
 -- What is read of a document by a plan is a value from which the queries select the same.
-use Rattle.serde_json_path_reach.proofs.Words.{AreRight, AsksAll, Bor, Checked, Data, Includes, IsIn, List, Plan, Query, Segments, SelectAlike, Some, [], after, flat_map, in_flat_map, in_place, inl, inr, kept, kind_of, map, queries_in_segments, queries_of, query, read, refl, root, segments_of, subst, sym, trees_of, ℕ, ◌++◌, ◌↔◌, ◌∷◌, ◌≡◌}
+use Rattle.serde_json_path_reach.proofs.Words.{AreRight, AsksAll, Bor, Checked, Data, Includes, IsIn, List, Plan, Query, Segments, SelectAlike, Some, [], after, in_flat_map, in_place, inl, inr, kept, kind_of, queries_in_segments, queries_of, query, read, refl, root, segments_of, subst, sym, trees_of, ℕ, ◌∷◌, ◌≡◌}
 use Rattle.serde_json_path_reach.proofs.Puts.{ordered_read}
 use Rattle.serde_json_path_reach.proofs.Rows.{leads}
 use Rattle.serde_json_path_reach.proofs.Same.{selects_kept}
