@@ -1,5 +1,5 @@
 -- What is read of a document by a plan is a value from which the queries select the same.
-use Rattle.serde_json_path_reach.proofs.Words.{Bor, Checked, Data, Includes, IsIn, List, Query, Segments, SelectAlike, Some, [], after, flat_map, in_flat_map, in_place, inl, inr, kept, kind_of, map, queries_in_segments, queries_of, query, read, refl, root, segments_of, subst, sym, trees_of, ℕ, ◌++◌, ◌↔◌, ◌∷◌, ◌≡◌}
+use Rattle.serde_json_path_reach.proofs.Words.{Bor, Checked, Data, Includes, IsIn, List, Query, Segments, SelectAlike, Some, [], after, in_flat_map, in_place, inl, inr, kept, kind_of, queries_in_segments, queries_of, query, read, refl, root, segments_of, subst, sym, trees_of, ℕ, ◌∷◌, ◌≡◌}
 use Rattle.serde_json_path_reach.specs.Readers.{KeepsFor}
 use Rattle.serde_json_path_reach.specs.declared.document.DocumentReader.{DocumentReader}
 use Rattle.serde_json_path_reach.proofs.Puts.{ordered_read}

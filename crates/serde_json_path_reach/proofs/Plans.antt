@@ -1,5 +1,5 @@
 -- A plan grows by rows for the queries in a part of a tree.
-use Rattle.serde_json_path_reach.proofs.Words.{AddsRow, AreRight, Branch, Covers, Err, Gains, Grows, IfOk, Includes, IsIn, IsRight, List, Node, Ok, Part, Plan, Query, Result, Row, SegmentKind, Segments, [], a_basic, a_call, a_query, a_segment, a_selector, add-one, an_and, an_operand, an_or, and_in, ands_in, ap, append-nil, argument_in, arguments_in, arith, basic_in, bit_or, branch_at, branch_in, branches_named, call_in, current, descendant, drop, drop-cons, drop_all, flat_map-append, get_or, in_append, inl, inr, kind_of_row, length, map-append, no_segments, operand_in, or_in, ors_in, queries_in_and, queries_in_argument, queries_in_arguments, queries_in_basic, queries_in_branch, queries_in_branches, queries_in_call, queries_in_operand, queries_in_or, queries_in_segment, queries_in_segments, queries_in_selector, queries_in_selectors, queries_of, query, refl, rest_of_row, root, segment, segment_in, segment_kind_in, segment_of_row, segments_at, selector_in, selectors_in, subst, sym, take, take_more, true, ℕ, ◌++◌, ◌+◌, ◌<◌, ◌∙◌, ◌∷◌, ◌≡◌, ◌≤◌, ◌⊎◌}
+use Rattle.serde_json_path_reach.proofs.Words.{AddsRow, AreRight, Branch, Err, Gains, IfOk, Includes, IsIn, IsRight, List, Node, Ok, Part, Plan, Query, Result, Row, SegmentKind, Segments, [], a_basic, a_segment, a_selector, add-one, an_and, an_operand, an_or, and_in, ands_in, ap, append-nil, argument_in, arguments_in, arith, basic_in, bit_or, branch_at, branch_in, branches_named, current, descendant, drop, drop-cons, drop_all, flat_map-append, get_or, in_append, inl, inr, kind_of_row, length, map-append, no_segments, operand_in, ors_in, queries_in_and, queries_in_argument, queries_in_arguments, queries_in_basic, queries_in_branch, queries_in_branches, queries_in_operand, queries_in_or, queries_in_segment, queries_in_segments, queries_in_selector, queries_in_selectors, queries_of, query, refl, rest_of_row, root, segment, segment_in, segment_kind_in, segment_of_row, segments_at, selector_in, selectors_in, subst, sym, take, take_more, ℕ, ◌++◌, ◌+◌, ◌<◌, ◌∙◌, ◌∷◌, ◌≡◌, ◌≤◌}
 use Rattle.serde_json_path_reach.proofs.Rows.{meets_itself, includes_more, includes_left, includes_right}
 
 pub if_ok : {A E : Type 0} (P Q : A → Type 0) (r : Result A E) → ((a : A) → P a → Q a) → IfOk r P → IfOk r Q
@@ -16,10 +16,6 @@ selector_there : (b : Branch) (q : Query) → IsIn q (queries_in_selector (selec
 selector_there (a_selector sel) q h = h
 selector_there _ q h = absurd h
 
-or_there : (b : Branch) (q : Query) → IsIn q (queries_in_or (or_in b)) → IsIn q (queries_in_branch b)
-or_there (an_or e) q h = h
-or_there _ q h = absurd h
-
 and_there : (b : Branch) (q : Query) → IsIn q (queries_in_and (and_in b)) → IsIn q (queries_in_branch b)
 and_there (an_and e) q h = h
 and_there _ q h = absurd h
@@ -31,10 +27,6 @@ basic_there _ q h = absurd h
 operand_there : (b : Branch) (q : Query) → IsIn q (queries_in_operand (operand_in b)) → IsIn q (queries_in_branch b)
 operand_there (an_operand o) q h = h
 operand_there _ q h = absurd h
-
-call_there : (b : Branch) (q : Query) → IsIn q (queries_in_call (call_in b)) → IsIn q (queries_in_branch b)
-call_there (a_call c) q h = h
-call_there _ q h = absurd h
 
 argument_there : (b : Branch) (q : Query) → IsIn q (queries_in_argument (argument_in b)) → IsIn q (queries_in_branch b)
 argument_there (an_or e) q h = h

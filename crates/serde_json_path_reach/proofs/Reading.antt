@@ -1,5 +1,5 @@
 -- What a reader's loops over items and members have kept so far.
-use Rattle.serde_json_path_reach.proofs.Words.{Bool, Data, Equal, Greater, Items, Less, List, Members, None, Option, Ordering, Some, Step, Token, [], any_kept, ap, arith, array, by_name, by_position, bytes_eq-Decides, cases_Bool, false, if◌then◌else◌, in_place, in_places, inl, inr, inside, is_eq, is_eq-slice_cmp, is_whole, item, items_inside, items_len, kept, kept_object, match_ordering, member, members_inside, nat_cmp, no_items, no_members, null, object, parse_map, put, refl, slice_cmp, subst, suc, sym, true, zero, ℕ, ◌++◌, ◌+◌, ◌∙◌, ◌∷◌, ◌≡◌, ◌⊎◌}
+use Rattle.serde_json_path_reach.proofs.Words.{Bool, Data, Items, List, Members, None, Option, Some, Step, [], any_kept, ap, arith, array, by_name, by_position, cases_Bool, false, if◌then◌else◌, in_place, in_places, inl, inr, inside, is_whole, item, items_inside, items_len, kept, kept_object, member, members_inside, no_items, no_members, null, object, refl, suc, sym, true, zero, ℕ, ◌++◌, ◌+◌, ◌∙◌, ◌∷◌, ◌≡◌, ◌⊎◌}
 use Rattle.serde_json_path_reach.proofs.Tokens.{joined, joined-nil, joined-joined}
 
 abbrev pub nulls : ℕ → Items

@@ -1,5 +1,5 @@
 -- What is pending by the rows of a plan: what their segments come by is pending after each step.
-use Rattle.serde_json_path_reach.proofs.Words.{AreRight, Bool, Data, Includes, IsIn, IsRight, Items, List, Members, None, Option, Query, Row, Segment, SegmentKind, Segments, Selector, Selectors, Some, Step, [], after, after_rows, any_kept, any_may_admit, ap, arith, array, bit_and, bit_at, bit_at-zero, bit_at_and, bit_at_or, bit_or, by_name, by_position, cases_Bool, current, descendant, false, filter, if◌then◌else◌, in_append, inl, inr, inside, is_whole, item, items_inside, kept, kept_object, kind_of_row, long_hand, max, may_admit, member, members_inside, min, no_items, no_members, no_segments, no_selectors, object, onward, queries_in_segment, queries_in_selector, queries_in_selectors, query, refl, rest_of_row, same_from_bits, segment, segment_of_row, selector, selectors_list, selectors_of, selectors_of_row, subst, suc, sym, true, true≢false, ℕ, ◌<◌, ◌==◌, ◌||◌, ◌∙◌, ◌∷◌, ◌≡◌, ◌⊎◌}
+use Rattle.serde_json_path_reach.proofs.Words.{AreRight, Bool, Data, Includes, IsIn, Items, List, Members, None, Row, Segment, SegmentKind, Segments, Selector, Selectors, Step, [], after, after_rows, any_kept, any_may_admit, ap, arith, array, bit_and, bit_at, bit_at-zero, bit_at_and, bit_at_or, bit_or, by_name, by_position, cases_Bool, current, descendant, false, filter, if◌then◌else◌, in_append, inl, inr, inside, is_whole, item, items_inside, kept, kept_object, kind_of_row, long_hand, max, may_admit, member, members_inside, min, no_items, no_members, no_segments, no_selectors, object, onward, queries_in_segment, queries_in_selector, queries_in_selectors, query, refl, rest_of_row, same_from_bits, segment, segment_of_row, selector, selectors_list, selectors_of, selectors_of_row, suc, sym, true, true≢false, ℕ, ◌<◌, ◌==◌, ◌||◌, ◌∙◌, ◌∷◌, ◌≡◌}
 use Rattle.serde_json_path_reach.specs.Inside.Bits.{meets}
 use Rattle.serde_json_path_reach.proofs.Pending.{Leads}
 

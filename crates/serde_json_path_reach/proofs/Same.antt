@@ -1,13 +1,10 @@
 -- Queries select the same from what they reach of a document.
-use Rattle.serde_json_path_reach.proofs.Words.{Admits, AdmitsBy, AdmitsIn, AllZip, Answers, AnswersYes, AreArguments, Argument, Arguments, Basic, BelongsTo, Bool, Call, Compared, Data, Derives, Exists, FunctionSet, Holds, HoldsAll, HoldsBasic, HoldsTest, IsArgument, IsComparedAs, IsIn, IsPositionOf, IsResult, IsTakenAs, IsTruthOf, Items, Kind, List, Located, LogicalAnd, LogicalOr, MayDescend, None, NotIf, Operand, Option, Query, QueryKind, Segment, SegmentKind, Segments, Selector, Selectors, Selects, SelectsIndex, SelectsPosition, Some, Step, Term, Triple, [], and, ap, argument, as_array, at, call, called, child_at, current, dot_name, dot_wildcard, false, filter, flat_map, in_append, in_flat_map, in_place, index, inl, inr, is_whole, items_len, kept, literal, location_of, logical_argument, long_hand, name, no_and, no_arguments, no_or, no_segments, no_selectors, none-some, of_logical, of_nodes, of_value, operand, option_map, or, params_of, paren, queried, queries_in_and, queries_in_argument, queries_in_arguments, queries_in_basic, queries_in_call, queries_in_operand, queries_in_or, queries_in_segment, queries_in_segments, queries_in_selector, queries_in_selectors, queries_of, query, refl, relation, root, same_Some, segment, segments_of, selector, slice, subst, suc, sym, test, true, value, wildcard, zero, ℕ, ◌++◌, ◌↔◌, ◌∙◌, ◌∷◌, ◌≡◌, ◌⊎◌}
+use Rattle.serde_json_path_reach.proofs.Words.{Admits, AdmitsBy, AdmitsIn, AllZip, Answers, AnswersYes, AreArguments, Argument, Arguments, Basic, BelongsTo, Bool, Call, Compared, Data, Derives, Exists, FunctionSet, Holds, HoldsAll, HoldsBasic, HoldsTest, IsArgument, IsComparedAs, IsIn, IsPositionOf, IsResult, IsTakenAs, IsTruthOf, Items, Kind, List, Located, LogicalAnd, LogicalOr, MayDescend, None, NotIf, Operand, Option, Query, Segment, SegmentKind, Segments, Selector, Selectors, Selects, SelectsIndex, SelectsPosition, Some, Step, Term, Triple, [], and, ap, argument, as_array, at, call, called, child_at, current, dot_name, dot_wildcard, false, filter, in_append, in_place, index, inl, inr, items_len, kept, literal, location_of, logical_argument, long_hand, name, no_and, no_arguments, no_or, no_segments, no_selectors, none-some, of_logical, of_nodes, of_value, operand, option_map, or, params_of, paren, queried, queries_in_and, queries_in_argument, queries_in_arguments, queries_in_basic, queries_in_call, queries_in_operand, queries_in_or, queries_in_segment, queries_in_segments, queries_in_selector, queries_in_selectors, queries_of, query, refl, relation, root, same_Some, segment, segments_of, selector, slice, subst, suc, sym, test, true, value, wildcard, zero, ℕ, ◌++◌, ◌↔◌, ◌∙◌, ◌∷◌, ◌≡◌, ◌⊎◌}
 use Rattle.serde_json_path_reach.proofs.Ordered.{IsOrdered}
 use Rattle.serde_json_path_reach.proofs.Pending.{Leads, along, at_step, still, admits_any, end_pending}
 use Rattle.serde_json_path_reach.proofs.Children.{ordered_child, ordered_at, child_kept, child_back, held, at_kept, at_back, array_len, len_kept}
 
 -- ---- facts that hold together
-
-both_ways : {P Q : Type 0} → P ↔ Q → Q ↔ P
-both_ways e = (e.1, e.0)
 
 either_same : {P Q R S : Type 0} → P ↔ Q → R ↔ S → (P ⊎ R) ↔ (Q ⊎ S)
 either_same e f = (elim [ inl h ↦ inl (e.0 h) | inr h ↦ inr (f.0 h) ], elim [ inl h ↦ inl (e.1 h) | inr h ↦ inr (f.1 h) ])

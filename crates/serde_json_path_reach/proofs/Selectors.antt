@@ -1,5 +1,5 @@
 -- Whether some selector of a list may admit a step, from a place in the list on.
-use Rattle.serde_json_path_reach.proofs.Words.{List, None, Option, Selector, Some, Step, [], any_may_admit, ap, arith, drop, false, length, may_admit, none-some, refl, same_Some, slice_get, suc, sym, true, zero, ℕ, ◌<◌, ◌||◌, ◌∷◌, ◌≡◌}
+use Rattle.serde_json_path_reach.proofs.Words.{List, None, Selector, Some, Step, [], any_may_admit, ap, arith, drop, false, length, may_admit, none-some, refl, same_Some, slice_get, suc, sym, zero, ℕ, ◌<◌, ◌||◌, ◌∷◌, ◌≡◌}
 
 pub any_here : (sels : List Selector) (n : ℕ) (sel : Selector) (s : Step) → slice_get sels n ≡ Some sel
     → (any_may_admit (drop n sels) s ≡ (may_admit sel s || any_may_admit (drop (suc n) sels) s)) × (n < length sels)

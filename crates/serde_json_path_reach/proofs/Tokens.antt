@@ -1,5 +1,5 @@
 -- Values, items and members are read one token after another.
-use Rattle.serde_json_path_reach.proofs.Words.{AreItems, AreMembers, Data, IsRead, IsSome, Items, Json, List, Members, None, Num, Option, Parse, Some, Step, Token, after_end_array, ap, arith, array, boolean, inside, item, items, items_end, items_more, leaf_of, length, members, members_end, members_more, no_items, no_members, none-some, null, number, object, of_json, option_map, parse_map, put, read_key, read_key-shorter, refl, same_Some, string, subst, value-begin_array, value-begin_object, value_is, ℕ, ◌-◌, ◌<◌, ◌∙◌, ◌∷◌, ◌≡◌, ◌≤◌}
+use Rattle.serde_json_path_reach.proofs.Words.{AreItems, AreMembers, Data, IsRead, IsSome, Items, Json, List, Members, None, Num, Option, Parse, Some, Step, Token, after_end_array, ap, arith, array, boolean, inside, item, items_end, items_more, leaf_of, length, members_end, members_more, no_items, no_members, none-some, null, number, object, option_map, parse_map, put, read_key, read_key-shorter, refl, same_Some, string, subst, value-begin_array, value-begin_object, value_is, ℕ, ◌-◌, ◌<◌, ◌∙◌, ◌∷◌, ◌≡◌, ◌≤◌}
 use Rattle.json.specs.Json.{value}
 use Rattle.serde_json.specs.Read.{number_of}
 use Rattle.json.specs.Json as json

@@ -1,5 +1,5 @@
 -- Lists of values and of a map's entries, as data.
-use Rattle.serde_json_path_reach.proofs.Words.{Entry, Equal, Greater, Less, List, Members, Null, Ordering, Some, Value, [], ap, arith, cond, is_at, is_eq, item, items_view, kept_object, length, match_ordering, member, members_view, nat_cmp, no_items, null, object, refl, remove_entry, replicate, rules, slice_cmp, string_bytes, suc, the_lemmas, true, view, zero, ℕ, ◌++◌, ◌∙◌, ◌∷◌, ◌≡◌}
+use Rattle.serde_json_path_reach.proofs.Words.{Entry, Equal, Greater, Less, List, Null, Ordering, Some, Value, [], ap, arith, cond, is_at, is_eq, item, items_view, kept_object, length, match_ordering, member, members_view, nat_cmp, no_items, null, object, refl, remove_entry, replicate, rules, slice_cmp, string_bytes, suc, the_lemmas, true, view, zero, ℕ, ◌++◌, ◌∙◌, ◌∷◌, ◌≡◌}
 use Rattle.serde_json_path_reach.proofs.Puts.{without}
 use Rattle.serde_json_path_reach.proofs.Reading.{nulls, has_items}
 use Rattle.serde_json_path_reach.proofs.Tokens.{joined, joined-joined}

@@ -12,6 +12,7 @@ use serde_json::Value;
 use std::alloc::Global;
 
 /// The value that a token is.
+#[inline(always)]
 pub(crate) fn leaf(alloc: Global, token: Token<'_>) -> Result<Value, Refused>
     ensures { IfOk result (λ v. leaf_of (token_of token.entry) ≡ Some (view v)) }
 {

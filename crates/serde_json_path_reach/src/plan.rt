@@ -53,7 +53,7 @@ impl<'q> Plan<'q> {
     }
 
     /// What is pending after the step.
-    #[inline]
+    #[inline(always)]
     pub(crate) fn after(&self, pending: u64, step: PathElement<'_>) -> u64
         ensures { result ≡ rows.after self.now.rows.items (step_view step.entry) pending }
     {

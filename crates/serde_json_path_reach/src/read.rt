@@ -33,6 +33,12 @@ pub(crate) fn read_reached(
     ensures ok { IfOk result (λ v. (d : Data) × (read_text text.now ≡ Some d)
         × (option_map view v ≡ kept (after plan.now.rows.items) pending d)) }
 {
+    if is_whole(pending) {
+        return match Value::from_str(alloc, text) {
+            Ok(document) => Ok(Some(document)),
+            Err(_error) => Err(Refused),
+        };
+    }
     let mut scratch = Scratch::new(alloc);
     let mut reader = Reader::new(text, &mut scratch)?;
     let found = read(alloc, &mut reader, MAX_DEPTH, plan, pending)?;
@@ -44,6 +50,7 @@ pub(crate) fn read_reached(
 
 /// What is kept of a value.
 #[cycle(read)]
+#[inline(always)]
 fn read(
     alloc: Global,
     reader: &mut Reader<'_>,
@@ -86,6 +93,7 @@ fn read(
 
 /// What is kept of an array, from its first item on.
 #[cycle(read)]
+#[inline(never)]
 fn read_items(
     alloc: Global,
     reader: &mut Reader<'_>,
@@ -129,6 +137,7 @@ fn read_items(
 
 /// What is kept of an object, from its first member on.
 #[cycle(read)]
+#[inline(never)]
 fn read_members(
     alloc: Global,
     reader: &mut Reader<'_>,

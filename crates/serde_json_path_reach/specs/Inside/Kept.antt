@@ -1,7 +1,7 @@
 -- What is kept of a value. One that a query may end at is kept whole; of any other, the children of which something is kept.
 -- A member of which nothing is kept is dropped, and an item becomes null, so that the others keep their positions.
 use Rattle.std.specs.Prelude.{ℕ, suc, List, [], ◌∷◌, Bool, true, false, Option, Some, None, if◌then◌else◌}
-use Rattle.serde_json.specs.Data.{Data, null, boolean, number, string, array, object, Items, no_items, item, Members, no_members, member}
+use Rattle.serde_json.specs.Data.{Data, null, array, object, Items, no_items, item, Members, no_members, member}
 use Rattle.serde_json_path_nodes.specs.Location.{Step, by_name, by_position}
 use Rattle.serde_json_path_reach.specs.Inside.Bits.{is_whole}
 
@@ -43,10 +43,7 @@ module _ (after : Step → ℕ → ℕ) where
     pub inside : ℕ → Data → Option Data
     inside pending (array ds) = kept_array (items_inside pending 0 ds)
     inside pending (object ms) = kept_object (members_inside pending ms)
-    inside pending null = None
-    inside pending (boolean b) = None
-    inside pending (number n) = None
-    inside pending (string t) = None
+    inside pending _ = None
 
     pub items_inside : ℕ → ℕ → Items → List (Option Data)
     items_inside pending p no_items = []

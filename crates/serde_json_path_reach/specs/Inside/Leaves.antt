@@ -5,13 +5,8 @@ use Rattle.serde_json.specs.Data.{Data, null, boolean, number, string}
 use Rattle.serde_json.specs.Read.{number_of}
 
 abbrev pub leaf_of : Token → Option Data
-leaf_of Token.begin_object = None
-leaf_of Token.end_object = None
-leaf_of Token.begin_array = None
-leaf_of Token.end_array = None
-leaf_of (Token.key s) = None
 leaf_of (Token.string s) = Some (string s)
 leaf_of (Token.number s) = option_map number (number_of s)
 leaf_of (Token.boolean b) = Some (boolean b)
 leaf_of Token.null = Some null
-leaf_of Token.bad = None
+leaf_of _ = None

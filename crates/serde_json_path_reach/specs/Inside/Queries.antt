@@ -1,7 +1,7 @@
 -- The queries inside a query, those in arguments and in the filters of other queries too.
 use Rattle.std.specs.Prelude.{List, [], ◌∷◌, ◌++◌, flat_map}
 use Rattle.serde_json_path_syntax.specs.Branch.{Branch, a_query, a_segment, a_selector, an_or, an_and, a_basic, an_operand, a_call}
-use Rattle.serde_json_path_syntax.specs.Tree.{Query, query, Segments, no_segments, segment, Segment, dot_name, dot_wildcard, long_hand, Selectors, no_selectors, selector, Selector, name, wildcard, index, slice, filter, LogicalOr, no_or, or, LogicalAnd, no_and, and, Basic, paren, relation, test, Operand, literal, queried, called, Call, call, Arguments, no_arguments, argument, Argument, operand, logical_argument}
+use Rattle.serde_json_path_syntax.specs.Tree.{Query, query, Segments, no_segments, segment, Segment, long_hand, Selectors, no_selectors, selector, Selector, filter, LogicalOr, no_or, or, LogicalAnd, no_and, and, Basic, paren, relation, test, Operand, literal, queried, called, Call, call, Arguments, no_arguments, argument, Argument, operand, logical_argument}
 
 abbrev mutual
   -- the query itself, and those in its filters
@@ -13,9 +13,8 @@ abbrev mutual
   queries_in_segments (segment kind seg more) = queries_in_segment seg ++ queries_in_segments more
 
   pub queries_in_segment : Segment → List Query
-  queries_in_segment (dot_name k) = []
-  queries_in_segment dot_wildcard = []
   queries_in_segment (long_hand sels) = queries_in_selectors sels
+  queries_in_segment _ = []
 
   pub queries_in_selectors : Selectors → List Query
   queries_in_selectors no_selectors = []
@@ -23,10 +22,7 @@ abbrev mutual
 
   pub queries_in_selector : Selector → List Query
   queries_in_selector (filter e) = queries_in_or e
-  queries_in_selector (name k) = []
-  queries_in_selector wildcard = []
-  queries_in_selector (index i) = []
-  queries_in_selector (slice s) = []
+  queries_in_selector _ = []
 
   pub queries_in_or : LogicalOr → List Query
   queries_in_or no_or = []

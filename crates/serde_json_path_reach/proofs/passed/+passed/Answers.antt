@@ -1,7 +1,6 @@
 -- A value that is passed over is read token by token as `serde_json` reads it.
-use Rattle.serde_json_path_reach.proofs.Words.{Data, Err, IsRead, None, Ok, OnOk, Result, Some, after_end_array, ap, arith, array, item, length, no_items, no_members, object, put, read_key, subst, sym, token_of, ◌-◌, ◌<◌, ◌∙◌, ◌∷◌, ◌≡◌}
-use Rattle.json.specs.Json.{value}
-use Rattle.serde_json_path_reach.proofs.Tokens.{joined, items_begun, items_on, items_ended, members_begun, members_on, members_ended, array_read, object_read, some_of, leaf_read}
+use Rattle.serde_json_path_reach.proofs.Words.{Err, None, Ok, OnOk, Result, Some, after_end_array, arith, array, no_items, no_members, object, read_key, token_of, ◌∷◌, ◌≡◌}
+use Rattle.serde_json_path_reach.proofs.Tokens.{items_begun, items_on, items_ended, members_begun, members_on, members_ended, array_read, object_read, some_of, leaf_read}
 use Rattle.serde_json_path_reach.proofs.passed.+passed.Goals as goal
 
 on_ok : {A E : Type 0} (P Q : Type 0) (r : Result A E) → (P → Q) → OnOk r P → OnOk r Q

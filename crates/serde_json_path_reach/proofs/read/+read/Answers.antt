@@ -1,9 +1,8 @@
 -- A value of which something is kept is read token by token as `serde_json` reads it.
-use Rattle.serde_json_path_reach.proofs.Words.{None, Null, Some, [], after, after_end_array, ap, arith, array, by_name, by_position, common_steps, false, inl, inr, is_whole, item, items_view, kept, kept_object, length, members_inside, members_view, members_view-insert_entry, no_items, no_members, object, option_map, put, read_key, refl, replicate, rules, string_bytes, subst, suc, sym, token_of, true, view, view-Array, view-Object, ℕ, ◌<◌, ◌∙◌, ◌∷◌, ◌≡◌, ◌⊎◌}
-use Rattle.json.specs.Json.{value}
+use Rattle.serde_json_path_reach.proofs.Words.{None, Null, Some, [], after, after_end_array, ap, arith, array, by_name, by_position, common_steps, false, inl, inr, is_whole, item, items_view, kept_object, members_inside, members_view, members_view-insert_entry, no_items, no_members, object, option_map, put, read_key, refl, replicate, rules, string_bytes, suc, sym, token_of, true, view, view-Array, view-Object, ◌∙◌, ◌∷◌, ◌≡◌, ◌⊎◌}
 use Rattle.serde_json_path_reach.proofs.Plans.{if_ok}
 use Rattle.serde_json_path_reach.proofs.Puts.{without, put_kept, kept_put, rising_put}
-use Rattle.serde_json_path_reach.proofs.Reading.{AreSoFar, none_so_far, passed_one, found_one, nulls, has_items, next_place, array_dropped, array_found, object_dropped, object_found, kept_whole, kept_not, kept_there}
+use Rattle.serde_json_path_reach.proofs.Reading.{none_so_far, passed_one, found_one, nulls, has_items, next_place, array_dropped, array_found, object_dropped, object_found, kept_whole, kept_not, kept_there}
 use Rattle.serde_json_path_reach.proofs.Rows.{stays, nothing_kept}
 use Rattle.serde_json_path_reach.proofs.Tokens.{joined, items_begun, items_on, items_ended, members_begun, members_on, members_ended, array_read, object_read, some_of, leaf_read, leaf_inside}
 use Rattle.serde_json_path_reach.proofs.Values.{items_view-append, items_view-nulls, pushed, members_view-remove_entry, nil, has_view, has_members}

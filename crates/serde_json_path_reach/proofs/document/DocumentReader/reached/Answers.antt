@@ -1,4 +1,4 @@
-use Rattle.serde_json_path_reach.proofs.Words.{Data, Null, SelectAlike, Some, ap, in_place, null, option_map, read, rules, subst, sym, the_lemmas, view, ◌∙◌, ◌≡◌}
+use Rattle.serde_json_path_reach.proofs.Words.{Null, SelectAlike, ap, in_place, null, option_map, read, rules, subst, sym, the_lemmas, view, ◌∙◌, ◌≡◌}
 use Rattle.serde_json_path_reach.proofs.Documents.{alike}
 use Rattle.serde_json_path_reach.proofs.document.DocumentReader.reached.Goals as goal
 

@@ -1,6 +1,6 @@
 -- A plan grows by rows for the queries in a part of a tree.
-use Rattle.serde_json_path_reach.proofs.Words.{Gains, Includes, Part, [], a_query, ap, arith, branch_at, branch_in, branches, branches_named, common_steps, drop, get_or, is_segment, length, length-drop, nodes_in, number_of, one_is, operand_in, parts_bound, queries_in_branch, queries_in_branches, queries_in_segments, refl, rules, segments_at, sym, take, take_all, within_get, ◌++◌, ◌+◌, ◌-◌, ◌<◌, ◌∙◌, ◌∷◌, ◌≡◌, ◌≤◌}
-use Rattle.serde_json_path_reach.proofs.Plans.{if_ok, selectors_there, ors_there, ands_there, arguments_there, sides_there, gains_none, gains_some, gains_both, gains_current, gains_root, gains_row, gains_segment, one_more_part, first_part, no_part}
+use Rattle.serde_json_path_reach.proofs.Words.{Part, arith, branch_at, branches, branches_named, drop, get_or, is_segment, length, length-drop, nodes_in, number_of, one_is, refl, rules, segments_at, take, take_all, within_get, ◌+◌, ◌-◌, ◌≡◌}
+use Rattle.serde_json_path_reach.proofs.Plans.{if_ok, selectors_there, ors_there, ands_there, arguments_there, sides_there, gains_none, gains_some, gains_both, gains_current, gains_root, gains_segment, one_more_part, first_part, no_part}
 use Rattle.serde_json_path_reach.proofs.Rows.{whole_one}
 use Rattle.serde_json_path_reach.proofs.plan.Plan.+plan.Goals as goal
 
@@ -84,3 +84,6 @@ add_segments-segments-preserved t c =
     let both = gains_segment c.args.self.now c.segments.self c.add.new.self c.add_row.new.self c.segments.asked c.in_ok-here.here c.segments.first _ (branch_at nodes (number_of part)) _ _
     (rw (← last) at i.gains) (rw (← last) at i.first) c.in_ok-here.ensures (rw rest at c.in_ok-first.ensures) in
     record { within = omega (arith, i.within); gains = rw here both.0; first = rw here both.1 }
+
+pub add_segments-returns-clause-gains : goal.add_segments-returns-clause-gains
+add_segments-returns-clause-gains t c = let start : c.segments.number ≡ 0 = omega arith in rw start at c.segments.invariant.gains

@@ -1,4 +1,4 @@
-use Rattle.serde_json_path_reach.proofs.Words.{Query, Segments, ap, kind_of, nodes_in, query, refl, root, segments_at, segments_of, sym, tree_of, ◌∙◌, ◌≡◌}
+use Rattle.serde_json_path_reach.proofs.Words.{Query, Segments, kind_of, nodes_in, query, refl, root, segments_at, segments_of, tree_of, ◌≡◌}
 use Rattle.serde_json_path_reach.proofs.Plans.{gains_root}
 use Rattle.serde_json_path_reach.proofs.plan.Plan.add_path.Goals as goal
 

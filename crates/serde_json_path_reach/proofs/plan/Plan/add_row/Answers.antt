@@ -1,4 +1,4 @@
-use Rattle.serde_json_path_reach.proofs.Words.{ap, common_steps, descendant, nodes_in, segment_kind_at, segment_kind_view, sym, ◌∙◌, ◌≡◌}
+use Rattle.serde_json_path_reach.proofs.Words.{ap, descendant, nodes_in, segment_kind_at, segment_kind_view, sym, ◌∙◌, ◌≡◌}
 use Rattle.serde_json_path_reach.proofs.Plans.{adds_row}
 use Rattle.serde_json_path_reach.proofs.plan.Plan.add_row.Goals as goal
 use Rattle.serde_json_path_reach.proofs.plan.Plan.add_row.Goals.{in-Child, in-Descendant}

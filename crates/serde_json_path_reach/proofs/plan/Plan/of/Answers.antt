@@ -1,4 +1,4 @@
-use Rattle.serde_json_path_reach.proofs.Words.{List, [], ap, append-nil, common_steps, flat_map, flat_map-append, get_or, in_append, inl, inr, map, map-append, queries_of, query, root, take, take_more, tree_of, trees_of, ◌++◌, ◌+◌, ◌∙◌, ◌∷◌, ◌≡◌}
+use Rattle.serde_json_path_reach.proofs.Words.{ap, append-nil, flat_map, flat_map-append, in_append, inl, inr, map-append, queries_of, query, root, take, take_more, tree_of, trees_of, ◌++◌, ◌+◌, ◌∙◌, ◌≡◌}
 use Rattle.serde_json_path_reach.proofs.plan.Plan.of.Goals as goal
 
 pub loop-path-preserved : goal.loop-path-preserved

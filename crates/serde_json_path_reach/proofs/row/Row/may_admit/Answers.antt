@@ -1,4 +1,4 @@
-use Rattle.serde_json_path_reach.proofs.Words.{None, Some, add-one, ap, arith, common_steps, false, may_admit, nodes_in, option_map, selector_view, selectors_of_row, slice_get, step_view, sym, true, ◌||◌, ◌∙◌, ◌≡◌}
+use Rattle.serde_json_path_reach.proofs.Words.{None, Some, add-one, arith, common_steps, false, may_admit, nodes_in, selector_view, selectors_of_row, slice_get, step_view, sym, true, ◌∙◌, ◌≡◌}
 use Rattle.serde_json_path_reach.proofs.Selectors.{any_here, any_past}
 use Rattle.serde_json_path_reach.proofs.row.Row.may_admit.Goals as goal
 
