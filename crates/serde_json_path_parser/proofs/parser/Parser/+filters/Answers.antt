@@ -1,6 +1,6 @@
 use Rattle.serde_json_path_parser.proofs.Reading.{first_fails, no_longer}
 use Rattle.serde_json_path_parser.proofs.Texts.{is_ahead}
-use Rattle.serde_json_path_parser.proofs.Words.{logical_argument, numbers_view, drop, ◌∙◌, [], Err, refl, sym, ap, option_map, arith, true≢false, past_blanks, string_bytes, err_from_is_err_and, literal_view, operator_view, an_operand, call, signature_view, and_list, or_list, signatures, deeper, is_at, literal, called, left, common_steps, selector_list, segment_list, read_named_call, queried, AreAndPartsOf, AreOrPartsOf, AreSelectorsOf, map, kind_view, read_argument, segment_kind_view, query_kind_view, operand, true, false, paren, query, long_hand, relation, filter}
+use Rattle.serde_json_path_parser.proofs.Words.{logical_argument, numbers_view, ◌∙◌, [], Err, refl, sym, ap, option_map, arith, true≢false, string_bytes, err_from_is_err_and, literal_view, operator_view, an_operand, call, signature_view, and_list, or_list, signatures, deeper, is_at, literal, called, left, common_steps, selector_list, segment_list, read_named_call, queried, AreAndPartsOf, AreOrPartsOf, AreSelectorsOf, map, kind_view, read_argument, segment_kind_view, query_kind_view, operand, true, false, paren, query, long_hand, relation, filter}
 use Rattle.serde_json_path_parser.proofs.Steps.{made_as, number_reads, no_literal, operand_of, comparable_read, one_more, first_refused, first_open, level_down, at_mark, grows_none, grows_leaf, grows_kept, grows_then, grows_call, grown_so, begins_row, row_fails, row_shorter, row_goes_on, row_done, segments_stand, selectors_stand, ors_stand, ands_stand, segment_shorter, some_parts}
 use Rattle.serde_json_path_parser.proofs.parser.Parser.+filters.Goals.{parse_operand-in_default-via-in-Some+in_default+then-this-lt97, parse_operand-in_default-via-in-Some+in_default+else-this-lt97+else-this-lt123, parse_operand-in_default-via-in_default}
 use Rattle.serde_json_path_parser.proofs.parser.Parser.+filters.Goals as goal
@@ -67,14 +67,7 @@ parse_arguments-returns-then-not-sees_end_of_argument-clause-gives g t c =
     (rw c.refusal.ensures.value (first_open (numbers_view c.args.self.now.numbers) (signatures g.F.Functions.set c.args.self.now) (deeper g.F.Functions.set c.args.self.now) c.args.place (map kind_view c.arguments.types.now) (left c.arguments.reader) _ c.in_ok-argument.ensures.gives.2 (sym c.sees_end_of_argument.ensures ∙ c.if-not-sees_end_of_argument.true)))
 
 pub parse_arguments-arguments-preserved : goal.parse_arguments-arguments-preserved
-parse_arguments-arguments-preserved g t c =
-    let a = c.in_ok-argument.ensures.gives in
-    let suits = c.suits.ensures _ a.0 a.1 in
-    let further = c.skip_blanks.ensures.left ∙ ap (λ cs. past_blanks (drop 1 cs)) (sym c.take_char.ensures.value) in
-    record {
-      moves = grind (arith, common_steps);
-      so_far = one_more a.0 c.arguments.invariant.so_far c.in_ok-push.ensures.items a.1.0 a.3 (grind (arith, common_steps, a.2, suits, further));
-    }
+parse_arguments-arguments-preserved g t c = grind (arith, common_steps, one_more)
 
 pub parse_basic-returns-then-sees-clause-gives : goal.parse_basic-returns-then-sees-clause-gives
 parse_basic-returns-then-sees-clause-gives g t c =
@@ -111,12 +104,7 @@ parse_bracket-returns-clause-gives g t c =
     ((segment_kind_view c.args.kind, long_hand sels), c.in_ok-long_hand.ensures.made sels read.1, grind (arith, common_steps), grows_kept read.3 c.long_hand.ensures.keeps)
 
 pub parse_call-returns-in_err-parse_arguments-clause-gives : goal.parse_call-returns-in_err-parse_arguments-clause-gives
-parse_call-returns-in_err-parse_arguments-clause-gives g t c =
-    let p = err_from_is_err_and c.from_residual.result c.from_residual.ensures.1 in
-    let declared = ap (signatures g.F.Functions.set c.args.self.now) (sym c.as_str.ensures.value) ∙ sym c.signature.ensures ∙ ap (option_map signature_view) c.in-Some.is in
-    let down = level_down (numbers_view c.args.self.now.numbers) (signatures g.F.Functions.set c.args.self.now) c.args.self.now.depth c.deeper.result.depth (omega (arith, c.if-self-eq0.false)) c.deeper.ensures.depth in
-    let read = rw (c.deeper.ensures.functions, c.deeper.ensures.numbers, c.params.ensures, c.skip_blanks.ensures.left) at c.in_err-parse_arguments.ensures.gives in
-    rw (p.1, p.2, down, declared, c.take_char.ensures.value) (first_fails c.in_err-parse_arguments.field-0.0 _ _ read)
+parse_call-returns-in_err-parse_arguments-clause-gives g t c = grind (arith, common_steps, err_from_is_err_and, first_fails, level_down)
 
 pub parse_call-returns-clause-gives : goal.parse_call-returns-clause-gives
 parse_call-returns-clause-gives g t c =
@@ -131,8 +119,7 @@ parse_call-returns-clause-gives g t c =
     )
 
 pub parse_inside-returns-clause-gives : goal.parse_inside-returns-clause-gives
-parse_inside-returns-clause-gives g t c =
-    rw (level_down (numbers_view c.args.self.now.numbers) (signatures g.F.Functions.set c.args.self.now) c.args.self.now.depth c.deeper.result.depth (omega (arith, c.if-self-eq0.false)) c.deeper.ensures.depth, c.take_char.ensures.value, ← c.skip_blanks.ensures.left) (rw (c.deeper.ensures.functions, c.deeper.ensures.numbers) at c.parse_logical_or.ensures.gives)
+parse_inside-returns-clause-gives g t c = grind (arith, common_steps, level_down)
 
 pub parse_named-returns-then-sees-clause-gives : goal.parse_named-returns-then-sees-clause-gives
 unfolding read_named_call

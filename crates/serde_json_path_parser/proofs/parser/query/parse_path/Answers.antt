@@ -1,4 +1,4 @@
-use Rattle.serde_json_path_parser.proofs.Words.{numbers_view, err_from_is_err_and, parts_in, query, root, AreCalled, Fits, read_path, segment_list, left, calls_in, ◌≡◌, ◌∙◌, [], true≢false, Ok, sym, ap, subst, refl, arith}
+use Rattle.serde_json_path_parser.proofs.Words.{common_steps, numbers_view, err_from_is_err_and, parts_in, query, root, AreCalled, Fits, read_path, segment_list, left, calls_in, ◌≡◌, ◌∙◌, true≢false, Ok, sym, subst, refl, arith}
 use Rattle.serde_json_path_parser.proofs.Grammar.Paths.{all_read, none_read, path_outcome}
 use Rattle.serde_json_path_syntax.proofs.Names.Once.{called_once, each_fits, fits_once}
 use Rattle.serde_json_path_parser.proofs.Steps.{all_declared, finishes, none_for_none}
@@ -6,17 +6,7 @@ use Rattle.serde_json_path_parser.proofs.parser.query.parse_path.Goals as goal
 
 pub returns-then-is_empty-clause-gives : goal.returns-then-is_empty-clause-gives
 unfolding read_path
-returns-then-is_empty-clause-gives g c =
-    let gives = c.in_ok-parts.ensures.gives in
-    let ended = all_read gives.1 c.in_ok-parts.rest gives.3 (omega (arith, c.if-rest-ne0.false)) in
-    let empty = (none_for_none c.parse_segments.new.builder (parts_in c.in_ok-parts.parts) gives.0 gives.2).0 (c.is_empty.ensures.0 c.if-is_empty.true) in (
-      segment_list gives.0,
-      c.with_numbers.ensures.tree ∙ c.new.ensures.tree ∙ ap (λ ss. query root (segment_list ss)) (sym empty),
-      rw (sym c.sees.ensures ∙ c.if-not-sees.false, c.take_char.ensures.value, gives.5, ended) refl,
-      subst (λ used. AreCalled used (query root (segment_list gives.0))) (sym (c.with_numbers.ensures.used ∙ c.new.ensures.used)) (subst (λ ss. AreCalled [] (query root (segment_list ss))) (sym empty) (tt, λ f. (λ i. absurd i, λ i. absurd i))),
-      subst (Fits (g.F.Functions.set c.args.functions.now)) (sym (c.with_numbers.ensures.used ∙ c.new.ensures.used)) tt,
-      c.with_numbers.ensures.rule,
-    )
+returns-then-is_empty-clause-gives g c = grind (arith, common_steps, all_read, none_for_none)
 
 pub returns-in_err-part-clause-needs_no_memory : goal.returns-in_err-part-clause-needs_no_memory
 returns-in_err-part-clause-needs_no_memory g c =
