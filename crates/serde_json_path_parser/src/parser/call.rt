@@ -1,6 +1,7 @@
 //! Calls of functions (RFC 9535, section 2.4).
 
-ghost use Rattle.serde_json_path_parser.specs.Inside.Words.{◌≡◌, ◌==◌, ◌<◌, ℕ, List, drop, length, map, true, string_bytes, Option, Signature, is_value_literal, read_argument, read_end, MakesArgument, MakesArguments, MakesCall, IsArgumentOf, IsAsRead, MovesTo, at_level, signatures, deeper, left, no_arguments, read_arguments, kind_view, numbers_view, held_view};
+ghost use Rattle.std.specs.Prelude.{◌≡◌, ◌==◌, ◌<◌};
+ghost use Rattle.serde_json_path_parser.specs.Inside.Words.{ℕ, List, drop, length, map, true, string_bytes, Option, Signature, is_value_literal, read_argument, read_end, MakesArgument, MakesArguments, MakesCall, IsArgumentOf, IsAsRead, MovesTo, at_level, signatures, deeper, left, no_arguments, read_arguments, kind_view, numbers_view, held_view};
 ghost use Rattle.serde_json_path_parser.specs.Operands as operands;
 ghost use Rattle.serde_json_path_syntax.specs.Tree as tree;
 

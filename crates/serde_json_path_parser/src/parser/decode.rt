@@ -1,6 +1,7 @@
 //! Decodes characters from bytes.
 
-ghost use Rattle.serde_json_path_parser.specs.Inside.Words.{◌≡◌, ◌<◌, ◌≤◌, ◌+◌, ◌-◌, ◌%◌, ◌^◌, length, slice_index, slice_get, drop, Some, None, ForSome, IsUtf8, StartsWithChar, IsScalar, LooksOn, up_to};
+ghost use Rattle.std.specs.Prelude.{◌≡◌, ◌<◌, ◌≤◌, ◌+◌, ◌-◌, ◌%◌, ◌^◌};
+ghost use Rattle.serde_json_path_parser.specs.Inside.Words.{length, slice_index, slice_get, drop, Some, None, ForSome, IsUtf8, StartsWithChar, IsScalar, LooksOn, up_to};
 
 use crate::source::PathSource;
 

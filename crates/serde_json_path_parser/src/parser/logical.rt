@@ -1,6 +1,7 @@
 //! Logical expressions (RFC 9535, section 2.3.5.1).
 
-ghost use Rattle.serde_json_path_parser.specs.Inside.Words.{◌≡◌, ◌==◌, ◌<◌, drop, length, true, IfOk, calls_in_and, calls_in_basic, IsPart, an_or, an_and, a_basic, read_paren, read_negated, read_basic, read_and_from, read_and, read_or_from, read_or, Makes, MakesFrom, IsArgumentOf, MovesTo, at_level, signatures, deeper, left, is_at, calls_in_operand, byte_count, past_blanks, read_basic_from, LogicalAnd, Basic};
+ghost use Rattle.std.specs.Prelude.{◌≡◌, ◌==◌, ◌<◌};
+ghost use Rattle.serde_json_path_parser.specs.Inside.Words.{drop, length, true, IfOk, calls_in_and, calls_in_basic, IsPart, an_or, an_and, a_basic, read_paren, read_negated, read_basic, read_and_from, read_and, read_or_from, read_or, Makes, MakesFrom, IsArgumentOf, MovesTo, at_level, signatures, deeper, left, is_at, calls_in_operand, byte_count, past_blanks, read_basic_from, LogicalAnd, Basic};
 ghost use Rattle.serde_json_path_syntax.specs.Tree as tree;
 
 use crate::error::{Context, Failure, ParseErrorKind as Kind};

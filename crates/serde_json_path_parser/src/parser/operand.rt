@@ -1,6 +1,7 @@
 //! Operands: what a filter compares or tests, read before its use is known (RFC 9535, section 2.3.5.1).
 
-ghost use Rattle.serde_json_path_parser.specs.Inside.Words.{◌≡◌, ◌==◌, ◌<◌, ℕ, List, length, true, Option, SyntaxBuilder, a_query, a_basic, Signature, read_query, read_operand, read_comparable, read_named, read_test, read_text, IsAsRead, Makes, MakesFrom, MakesOperand, IsArgumentOf, IsNear, MovesTo, at_level, signatures, left, begins, is_small_letter, IsQuote, calls_in_operand, query_kind_view};
+ghost use Rattle.std.specs.Prelude.{◌≡◌, ◌==◌, ◌<◌};
+ghost use Rattle.serde_json_path_parser.specs.Inside.Words.{ℕ, List, length, true, Option, SyntaxBuilder, a_query, a_basic, Signature, read_query, read_operand, read_comparable, read_named, read_test, read_text, IsAsRead, Makes, MakesFrom, MakesOperand, IsArgumentOf, IsNear, MovesTo, at_level, signatures, left, begins, is_small_letter, IsQuote, calls_in_operand, query_kind_view};
 ghost use Rattle.serde_json_path_syntax.specs.Tree as tree;
 
 use crate::error::{Context, Failure, ParseErrorKind as Kind};

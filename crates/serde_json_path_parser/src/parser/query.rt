@@ -1,6 +1,7 @@
 //! The whole query.
 
-ghost use Rattle.serde_json_path_parser.specs.Inside.Words.{◌≡◌, false, IfErr, numbers_view, read_path, IsQueryAsRead, MovesTo, IsRefused, left, opens_after_root};
+ghost use Rattle.std.specs.Prelude.{◌≡◌};
+ghost use Rattle.serde_json_path_parser.specs.Inside.Words.{false, IfErr, numbers_view, read_path, IsQueryAsRead, MovesTo, IsRefused, left, opens_after_root};
 
 use crate::error::{Context, Failure, ParseErrorKind as Kind, Refusal};
 use crate::parser::reader::Reader;

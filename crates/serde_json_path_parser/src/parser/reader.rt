@@ -30,7 +30,8 @@ pub(crate) struct Reader<'s, S: PathSource> {
 }
 
 impl<'s, S: PathSource> Reader<'s, S> {
-    ghost use Rattle.serde_json_path_parser.specs.Inside.Words.{◌==◌, ◌-◌, ◌∷◌, ℕ, max, None, Some, IfOk, IsTrue, is_ok, string_bytes, ◌++◌, chars, IsScalar, Stretched, begins_operator, is_ascii, IsAhead, begins, begins_both, is_blank, is_digit, is_name_first, is_name_char, begins_test, is_small_letter, is_function_char, front, past, is_exponent, is_sign, is_hexadecimal, is_letter_escape, is_control, is_inside, encode_utf8_all, byte_count, refusal, past_blanks, is_first_digit, begins_int, opens, ◌∈◌, observed, left, seen, Moves, StopsNear, ends_argument};
+    ghost use Rattle.std.specs.Prelude.{◌==◌, ◌-◌, ◌∷◌, ◌++◌};
+    ghost use Rattle.serde_json_path_parser.specs.Inside.Words.{ℕ, max, None, Some, IfOk, IsTrue, is_ok, string_bytes, chars, IsScalar, Stretched, begins_operator, is_ascii, IsAhead, begins, begins_both, is_blank, is_digit, is_name_first, is_name_char, begins_test, is_small_letter, is_function_char, front, past, is_exponent, is_sign, is_hexadecimal, is_letter_escape, is_control, is_inside, encode_utf8_all, byte_count, refusal, past_blanks, is_first_digit, begins_int, opens, ◌∈◌, observed, left, seen, Moves, StopsNear, ends_argument};
 
     /// A reader at the start of a text.
     #[tactic(auto, using(crate::proofs::Texts::of_bytes))]

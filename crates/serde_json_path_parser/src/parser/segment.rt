@@ -1,6 +1,7 @@
 //! Segments.
 
-ghost use Rattle.serde_json_path_parser.specs.Inside.Words.{◌≡◌, true, ℕ, List, Option, IfErr, false, segment_kind_view, Signature, Makes, MakesSegments, segment_branch, MovesTo, IsRefused, read_filter, signatures, left, begins, opens, read_bracket, after_dot, read_dotted, of_kind, read_segment, read_segments, opens_next};
+ghost use Rattle.std.specs.Prelude.{◌≡◌};
+ghost use Rattle.serde_json_path_parser.specs.Inside.Words.{true, ℕ, List, Option, IfErr, false, segment_kind_view, Signature, Makes, MakesSegments, segment_branch, MovesTo, IsRefused, read_filter, signatures, left, begins, opens, read_bracket, after_dot, read_dotted, of_kind, read_segment, read_segments, opens_next};
 
 use crate::error::{Context, Failure, ParseErrorKind as Kind};
 use crate::parser::Parser;

@@ -1,6 +1,7 @@
 //! ASCII characters, many at a time.
 
-ghost use Rattle.serde_json_path_parser.specs.Inside.Words.{◌≡◌, ◌==◌, ◌<◌, ◌≤◌, ◌+◌, ◌-◌, ◌++◌, ◌||◌, ℕ, Bool, true, length, slice_get, drop, if◌then◌else◌, is_ok, string_bytes, Some, is_utf8, chars, IsAscii, is_ascii_name_char, is_ascii_plain, Gathered, Stretched, LooksOn, up_to, is_digit};
+ghost use Rattle.std.specs.Prelude.{◌≡◌, ◌==◌, ◌<◌, ◌≤◌, ◌+◌, ◌-◌, ◌++◌, ◌||◌, if◌then◌else◌};
+ghost use Rattle.serde_json_path_parser.specs.Inside.Words.{ℕ, Bool, true, length, slice_get, drop, is_ok, string_bytes, Some, is_utf8, chars, IsAscii, is_ascii_name_char, is_ascii_plain, Gathered, Stretched, LooksOn, up_to, is_digit};
 
 use crate::parser::decode::byte_at;
 use crate::source::PathSource;

@@ -1,6 +1,7 @@
 //! Digits.
 
-ghost use Rattle.serde_json_path_parser.specs.Inside.Words.{◌≡◌, ◌+◌, ◌-◌, ◌*◌, ◌^◌, ◌<◌, min, is_digit, value_from, front, past, left, Moves};
+ghost use Rattle.std.specs.Prelude.{◌≡◌, ◌+◌, ◌-◌, ◌*◌, ◌^◌, ◌<◌};
+ghost use Rattle.serde_json_path_parser.specs.Inside.Words.{min, is_digit, value_from, front, past, left, Moves};
 
 use crate::parser::reader::Reader;
 use crate::source::PathSource;

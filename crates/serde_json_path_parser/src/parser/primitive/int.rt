@@ -1,6 +1,7 @@
 //! Integers.
 
-ghost use Rattle.serde_json_path_parser.specs.Inside.Words.{◌≤◌, IfOk, largest, IsInteger, IsAsRead, MovesTo, left, read_digits, read_int};
+ghost use Rattle.std.specs.Prelude.{◌≤◌};
+ghost use Rattle.serde_json_path_parser.specs.Inside.Words.{IfOk, largest, IsInteger, IsAsRead, MovesTo, left, read_digits, read_int};
 
 use crate::error::{Context, Failure, ParseErrorKind as Kind};
 use crate::parser::primitive::decimal::parse_decimal;

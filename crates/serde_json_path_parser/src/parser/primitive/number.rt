@@ -1,6 +1,7 @@
 //! Number literals.
 
-ghost use Rattle.serde_json_path_parser.specs.Inside.Words.{◌≡◌, ◌<◌, Some, None, option_map, numbers_view, held_as, held_or, scan, literal_of, literal_view, IsAsRead, MovesTo, left, read_whole, read_fraction, read_amount, read_number, capped};
+ghost use Rattle.std.specs.Prelude.{◌≡◌, ◌<◌};
+ghost use Rattle.serde_json_path_parser.specs.Inside.Words.{Some, None, option_map, numbers_view, held_as, held_or, scan, literal_of, literal_view, IsAsRead, MovesTo, left, read_whole, read_fraction, read_amount, read_number, capped};
 
 use crate::error::{Failure, ParseErrorKind as Kind};
 use crate::parser::primitive::decimal::parse_decimal;

@@ -1,6 +1,7 @@
 //! Numerals of any length, each as its text.
 
-ghost use Rattle.serde_json_path_parser.specs.Inside.Words.{◌≡◌, ◌++◌, IfOk, string_bytes, front, past, is_digit, with_front, IsAsRead, Moves, MovesTo, left, read_some_digits, read_whole_text, read_places, read_signed_digits, read_exponent, read_numeral};
+ghost use Rattle.std.specs.Prelude.{◌≡◌, ◌++◌};
+ghost use Rattle.serde_json_path_parser.specs.Inside.Words.{IfOk, string_bytes, front, past, is_digit, with_front, IsAsRead, Moves, MovesTo, left, read_some_digits, read_whole_text, read_places, read_signed_digits, read_exponent, read_numeral};
 
 use crate::error::{Failure, ParseErrorKind as Kind};
 use crate::parser::reader::Reader;

@@ -1,6 +1,7 @@
 //! Comparison operators.
 
-ghost use Rattle.serde_json_path_parser.specs.Inside.Words.{◌≡◌, IsNone, option_map, operator_view, read_operator, left, Moves};
+ghost use Rattle.std.specs.Prelude.{◌≡◌};
+ghost use Rattle.serde_json_path_parser.specs.Inside.Words.{IsNone, option_map, operator_view, read_operator, left, Moves};
 
 use crate::parser::reader::Reader;
 use crate::source::PathSource;

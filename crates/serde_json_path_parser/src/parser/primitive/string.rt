@@ -1,6 +1,7 @@
 //! String literals.
 
-ghost use Rattle.serde_json_path_parser.specs.Inside.Words.{◌≡◌, ◌<◌, ◌+◌, true, IfOk, string_bytes, IsAsRead, MovesTo, left, begins, IsQuote, read_hexadecimal, read_hex4, is_high, read_low, read_unicode, read_piece, is_inside, read_string};
+ghost use Rattle.std.specs.Prelude.{◌≡◌, ◌<◌, ◌+◌};
+ghost use Rattle.serde_json_path_parser.specs.Inside.Words.{true, IfOk, string_bytes, IsAsRead, MovesTo, left, begins, IsQuote, read_hexadecimal, read_hex4, is_high, read_low, read_unicode, read_piece, is_inside, read_string};
 
 use crate::error::{Context, Failure, ParseErrorKind as Kind};
 use crate::parser::reader::Reader;

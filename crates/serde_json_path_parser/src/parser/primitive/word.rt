@@ -1,6 +1,7 @@
 //! Words: a function's name, or the literal `true`, `false` or `null`.
 
-ghost use Rattle.serde_json_path_parser.specs.Inside.Words.{◌≡◌, IfOk, option_map, string_bytes, literal_view, word, past_word, left, Moves, literal_word};
+ghost use Rattle.std.specs.Prelude.{◌≡◌};
+ghost use Rattle.serde_json_path_parser.specs.Inside.Words.{IfOk, option_map, string_bytes, literal_view, word, past_word, left, Moves, literal_word};
 
 use crate::parser::reader::Reader;
 use crate::source::PathSource;
