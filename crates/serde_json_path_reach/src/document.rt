@@ -15,6 +15,9 @@ use serde_json_path_core::Checked;
 use std::alloc::{AllocError, Global};
 use std::str::from_utf8;
 
+/// How many rows a plan may have: each has a bit of its own, and one bit says that all is kept.
+const MOST_ROWS: usize = 63;
+
 /// Reads documents for some paths: what no path can reach is passed over.
 ///
 /// ```text
@@ -41,7 +44,8 @@ impl<'q> DocumentReader<'q> {
     }
 
     /// What the paths can reach of the document that the bytes are: each selects from it what it selects from the whole
-    /// document. `None` where the bytes are no document, or memory is refused: [`Value::from_slice`] says which.
+    /// document. `None` where the bytes are no document, or memory is refused ([`Value::from_slice`] says which), and for
+    /// paths with more than 63 segments, those in filters among them.
     pub fn reach(&self, alloc: Global, bytes: &[u8]) -> Option<Value>
         ensures { (qs : List Query) → KeepsFor self.now qs
             → IfSome result (λ v. IsReadFor bytes.now qs (view v)) }
@@ -52,11 +56,14 @@ impl<'q> DocumentReader<'q> {
         }
     }
 
-    /// The same, where memory is there and the bytes are a document.
+    /// The same, where memory is there, the bytes are a document, and the paths have few segments.
     fn reached(&self, alloc: Global, bytes: &[u8]) -> Result<Value, Refused>
         ensures { (qs : List Query) → KeepsFor self.now qs
             → IfOk result (λ v. IsReadFor bytes.now qs (view v)) }
     {
+        if self.plan.rows.len() > MOST_ROWS {
+            return Err(Refused);
+        }
         let Ok(text) = from_utf8(bytes) else {
             return Err(Refused);
         };
@@ -85,7 +92,8 @@ impl<'q> DocumentReader<'q> {
 
 /// What the paths can reach of the document that the bytes are: each selects from it what it selects from the whole document.
 ///
-/// Bytes that are no document are refused as [`Value::from_slice`] refuses them.
+/// Bytes that are no document are refused as [`Value::from_slice`] refuses them. For paths with more than 63 segments, those in
+/// filters among them, the document is read whole.
 ///
 /// ```text
 /// let document = read_for(alloc, bytes, &[path.tree()])?;
