@@ -14,13 +14,16 @@ use std::alloc::{AllocError, Global};
 use std::io;
 use std::io::{BufRead, BufReader, Read, Write};
 
+/// A document of fewer bytes is read whole, as that takes less than to begin a reading for paths.
+const SHORT: usize = 1024;
+
 /// What is asked of each document.
 #[derive(Drop)]
 pub(crate) struct Answering<'a> {
     pub(crate) alloc: Global,
     pub(crate) paths: &'a [AskedPath],
     pub(crate) functions: CachedPatterns<'a>,
-    /// Reads of a document what the paths can reach. There is none if memory for it was refused.
+    /// Reads of a document what the paths can reach. There is none for many paths, or if memory for it was refused.
     pub(crate) reader: Option<DocumentReader<'a>>,
     pub(crate) output: Output,
     /// Whether lines begin with the file's name.
@@ -142,8 +145,8 @@ impl Answering<'_> {
         streams: &mut Streams<'_, W, E>,
     ) -> Result<(), Stop> {
         let reached = match &self.reader {
-            Some(reader) => reader.reach(self.alloc, bytes),
-            None => None,
+            Some(reader) if SHORT <= bytes.len() => reader.reach(self.alloc, bytes),
+            _ => None,
         };
         if let Some(document) = reached {
             return self.answer(name, bytes, &document, streams);

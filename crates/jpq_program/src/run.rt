@@ -14,6 +14,7 @@ use jpq_options::options::{Color, Options, Request, read};
 use jsonpath_lines::Output;
 use serde_json_path::DocumentReader;
 use serde_json_path::functions::{CachedPatterns, PatternStore};
+use serde_json_path_syntax::Checked;
 use std::alloc::Global;
 use std::io::Write;
 use std::slice;
@@ -67,6 +68,17 @@ fn is_colored(options: &Options<'_>, is_terminal: bool) -> bool {
     }
 }
 
+/// For more paths than these documents are read whole: to see what each can reach takes longer.
+const FEW_PATHS: usize = 8;
+
+/// A reader of documents for the paths, unless they are many, or memory for it is refused.
+fn reader_for<'q>(alloc: Global, trees: &[&'q Checked]) -> Option<DocumentReader<'q>> {
+    if trees.len() > FEW_PATHS {
+        return None;
+    }
+    DocumentReader::new(alloc, trees).ok()
+}
+
 /// Answers all documents.
 fn answer_documents<I: Inputs, W: Write, E: Write>(
     alloc: Global,
@@ -85,7 +97,7 @@ fn answer_documents<I: Inputs, W: Write, E: Write>(
         alloc,
         paths,
         functions: CachedPatterns::new(alloc, &store),
-        reader: DocumentReader::new(alloc, trees.as_slice()).ok(),
+        reader: reader_for(alloc, trees.as_slice()),
         output: output_of(options),
         names_files: options.files.len() > 1,
         lines: options.lines,
