@@ -14,9 +14,6 @@ use std::alloc::{AllocError, Global};
 use std::io;
 use std::io::{BufRead, BufReader, Read, Write};
 
-/// A document of fewer bytes is read whole, as that takes less than to begin a reading for paths.
-const SHORT: usize = 1024;
-
 /// What is asked of each document.
 #[derive(Drop)]
 pub(crate) struct Answering<'a> {
@@ -144,12 +141,10 @@ impl Answering<'_> {
         bytes: &[u8],
         streams: &mut Streams<'_, W, E>,
     ) -> Result<(), Stop> {
-        let reached = match &self.reader {
-            Some(reader) if SHORT <= bytes.len() => reader.reach(self.alloc, bytes),
-            _ => None,
-        };
-        if let Some(document) = reached {
-            return self.answer(name, bytes, &document, streams);
+        if let Some(reader) = &self.reader {
+            if let Ok(document) = reader.read(self.alloc, bytes) {
+                return self.answer(name, bytes, &document, streams);
+            }
         }
         let e = match read_document(self.alloc, bytes) {
             Ok(document) => return self.answer(name, bytes, &document, streams),

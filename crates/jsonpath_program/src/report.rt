@@ -8,7 +8,7 @@ use jsonpath_document::{DocumentError as ReadError, DocumentFault, read_document
 use jsonpath_lines::{Form, Output, write_nodes};
 use serde_json::Value;
 use serde_json_path::functions::{Both, CachedPatterns, Functions, PatternStore};
-use serde_json_path::{DocumentReader, Numbers, ParseError, QueryError};
+use serde_json_path::{Numbers, ParseError, QueryError, read_for};
 use serde_json_path_core::walk;
 use serde_json_path_parser::{TextSource, parse};
 use serde_json_path_syntax::Checked;
@@ -62,23 +62,15 @@ fn document(alloc: Global, bytes: &[u8]) -> Result<Value, DocumentError>
     Ok(read_document(alloc, bytes)?)
 }
 
-/// A document of fewer bytes is read whole: that takes less than to find out what a path can reach.
-const SHORT: usize = 512;
-
 /// Reads of a document what a path can reach.
 fn document_for(alloc: Global, bytes: &[u8], path: &Checked) -> Result<Value, DocumentError>
     ensures ok { IfOk result (λ value. IsReadFor bytes.now (tree_of path.now ∷ []) (view value)) }
     ensures not_json { result ≡ Err DocumentError.NotJson → (d : Data) → ReadsAs bytes.now d → ⊥ }
 {
-    if bytes.len() < SHORT {
-        return document(alloc, bytes);
+    match read_for(alloc, bytes, &[path]) {
+        Ok(value) => Ok(value),
+        Err(_) => document(alloc, bytes),
     }
-    if let Ok(reader) = DocumentReader::new(alloc, &[path]) {
-        if let Some(value) = reader.reach(alloc, bytes) {
-            return Ok(value);
-        }
-    }
-    document(alloc, bytes)
 }
 
 /// Room for lines, so large that the allocator maps it alone, and it grows without a copy.

@@ -1,5 +1,5 @@
 -- A plan grows by rows for the queries in a part of a tree.
-use Rattle.serde_json_path_reach.proofs.Words.{AddsRow, AreRight, Branch, Err, Gains, IfOk, Includes, IsIn, IsRight, List, Node, Ok, Part, Plan, Query, Result, Row, SegmentKind, Segments, [], a_basic, a_segment, a_selector, add-one, an_and, an_operand, an_or, and_in, ands_in, ap, append-nil, argument_in, arguments_in, arith, basic_in, bit_or, branch_at, branch_in, branches_named, current, descendant, drop, drop-cons, drop_all, flat_map-append, get_or, in_append, inl, inr, kind_of_row, length, map-append, no_segments, operand_in, ors_in, queries_in_and, queries_in_argument, queries_in_arguments, queries_in_basic, queries_in_branch, queries_in_branches, queries_in_operand, queries_in_or, queries_in_segment, queries_in_segments, queries_in_selector, queries_in_selectors, queries_of, query, refl, rest_of_row, root, segment, segment_in, segment_kind_in, segment_of_row, segments_at, selector_in, selectors_in, subst, sym, take, take_more, ℕ, ◌++◌, ◌+◌, ◌<◌, ◌∙◌, ◌∷◌, ◌≡◌, ◌≤◌}
+use Rattle.serde_json_path_reach.proofs.Words.{AddsRow, AreRight, Branch, Err, Gains, IfOk, Includes, IsIn, IsRight, List, Node, Ok, Part, Plan, Query, Result, Row, SegmentKind, Segments, Step, [], a_basic, a_segment, a_selector, add-one, an_and, an_operand, an_or, and_in, ands_in, any_may_admit, ap, append-nil, argument_in, arguments_in, arith, basic_in, bit_or, branch_at, branch_in, branches_named, current, descendant, drop, drop-cons, drop_all, flat_map-append, get_or, in_append, inl, inr, kind_of_row, length, map-append, may_admit_by_row, no_segments, operand_in, ors_in, queries_in_and, queries_in_argument, queries_in_arguments, queries_in_basic, queries_in_branch, queries_in_branches, queries_in_operand, queries_in_or, queries_in_segment, queries_in_segments, queries_in_selector, queries_in_selectors, queries_of, query, refl, rest_of_row, root, segment, segment_in, segment_kind_in, segment_of_row, segments_at, selector_in, selectors_in, selectors_of_row, subst, sym, take, take_more, true, ℕ, ◌++◌, ◌+◌, ◌<◌, ◌∙◌, ◌∷◌, ◌≡◌, ◌≤◌}
 use Rattle.serde_json_path_reach.proofs.Rows.{meets_itself, includes_more, includes_left, includes_right}
 
 pub if_ok : {A E : Type 0} (P Q : A → Type 0) (r : Result A E) → ((a : A) → P a → Q a) → IfOk r P → IfOk r Q
@@ -134,7 +134,7 @@ module _ (rows : List Row) (row : Row) where
   still_included pending segs h = includes_more rows (rows ++ row ∷ []) pending pending among (λ m g. g) segs h
 
   still_right : (r : Row) → IsRight rows r → IsRight (rows ++ row ∷ []) r
-  still_right r h = record { next = record { rest = still_included r.next _ h.next.rest; asked = λ segs i. still_included r.next segs (h.next.asked segs i) }; again = h.again }
+  still_right r h = record { next = record { rest = still_included r.next _ h.next.rest; asked = λ segs i. still_included r.next segs (h.next.asked segs i) }; again = h.again; named = h.named }
 
   all_right : IsRight rows row → AreRight rows → AreRight (rows ++ row ∷ [])
   all_right here right r i = elim ((in_append r rows (row ∷ [])).0 i) [
@@ -152,9 +152,9 @@ gains_row a b row rows at_root right =
     }
 
 pub adds_row : (a b : Plan) (before : List Row) (row : Row) → b.rows.items ≡ before ++ row ∷ [] → before ≡ a.rows.items → b.at_root ≡ a.at_root → 0 < row.bit → (kind_of_row row ≡ descendant → row.again ≡ row.bit)
-    → AddsRow a b (kind_of_row row) (segment_of_row row) (rest_of_row row) row.next row.bit
-adds_row a b before row grown same at_root some again next = let rows = grown ∙ ap (λ rs. rs ++ row ∷ []) same in (
-  gains_row a b row rows at_root (record { next = next; again = λ down. rw (again down) (meets_itself row.bit some) }),
+    → ((s : Step) → any_may_admit (selectors_of_row row) s ≡ true → may_admit_by_row row s ≡ true) → AddsRow a b (kind_of_row row) (segment_of_row row) (rest_of_row row) row.next row.bit
+adds_row a b before row grown same at_root some again named next = let rows = grown ∙ ap (λ rs. rs ++ row ∷ []) same in (
+  gains_row a b row rows at_root (record { next = next; again = λ down. rw (again down) (meets_itself row.bit some); named = named }),
   inr (row, subst (IsIn row) (sym rows) ((in_append row a.rows.items (row ∷ [])).1 (inr (inl refl))), meets_itself row.bit some, refl),
 )
 

@@ -1,5 +1,5 @@
 -- What is pending by the rows of a plan: what their segments come by is pending after each step.
-use Rattle.serde_json_path_reach.proofs.Words.{AreRight, Bool, Data, Includes, IsIn, Items, List, Members, None, Row, Segment, SegmentKind, Segments, Selector, Selectors, Step, [], after, after_rows, any_kept, any_may_admit, ap, arith, array, bit_and, bit_at, bit_at-zero, bit_at_and, bit_at_or, bit_or, by_name, by_position, cases_Bool, current, descendant, false, filter, if◌then◌else◌, in_append, inl, inr, inside, is_whole, item, items_inside, kept, kept_object, kind_of_row, long_hand, max, may_admit, member, members_inside, min, no_items, no_members, no_segments, no_selectors, object, onward, queries_in_segment, queries_in_selector, queries_in_selectors, query, refl, rest_of_row, same_from_bits, segment, segment_of_row, selector, selectors_list, selectors_of, selectors_of_row, suc, sym, true, true≢false, ℕ, ◌<◌, ◌==◌, ◌||◌, ◌∙◌, ◌∷◌, ◌≡◌}
+use Rattle.serde_json_path_reach.proofs.Words.{AreRight, Bool, Data, Includes, IsIn, Items, List, Members, None, Row, Segment, SegmentKind, Segments, Selector, Selectors, Step, [], after, after_rows, any_kept, any_may_admit, ap, arith, array, bit_and, bit_at, bit_at-zero, bit_at_and, bit_at_or, bit_or, by_name, by_position, cases_Bool, current, descendant, false, filter, if◌then◌else◌, in_append, inl, inr, inside, is_whole, item, items_inside, kept, kept_object, kind_of_row, long_hand, max, may_admit, may_admit_by_row, member, members_inside, min, no_items, no_members, no_segments, no_selectors, object, onward, queries_in_segment, queries_in_selector, queries_in_selectors, query, refl, rest_of_row, same_from_bits, segment, segment_of_row, selector, selectors_list, selectors_of, selectors_of_row, suc, sym, true, true≢false, ℕ, ◌<◌, ◌==◌, ◌||◌, ◌∙◌, ◌∷◌, ◌≡◌}
 use Rattle.serde_json_path_reach.specs.Inside.Bits.{meets}
 use Rattle.serde_json_path_reach.proofs.Pending.{Leads}
 
@@ -111,17 +111,17 @@ module _ (rows : List Row) (s : Step) (pending : ℕ) where
   from_row : (row : Row) (m : ℕ) → is_whole pending ≡ false → IsIn row rows → meets pending row.bit ≡ true → meets (onward row s) m ≡ true → meets (after rows s pending) m ≡ true
   from_row row m e i met h = rw e (row_met rows s pending 0 m row i met h)
 
-  next_met : (row : Row) (m : ℕ) → any_may_admit (selectors_of_row row) s ≡ true → meets row.next m ≡ true → meets (onward row s) m ≡ true
+  next_met : (row : Row) (m : ℕ) → may_admit_by_row row s ≡ true → meets row.next m ≡ true → meets (onward row s) m ≡ true
   next_met row m may h = rw may (meets_right row.again row.next m h)
 
   again_met : (row : Row) (m : ℕ) → meets row.again m ≡ true → meets (onward row s) m ≡ true
-  again_met row m h = elim (cases_Bool (any_may_admit (selectors_of_row row) s)) [
+  again_met row m h = elim (cases_Bool (may_admit_by_row row s)) [
     | inl e ↦ rw e (meets_left row.again row.next m h)
     | inr e ↦ rw e h
   ]
 
   -- what a row's `next` includes is pending where the row's segment may admit the step
-  from_next : (row : Row) (segs : Segments) → is_whole pending ≡ false → IsIn row rows → meets pending row.bit ≡ true → any_may_admit (selectors_of_row row) s ≡ true
+  from_next : (row : Row) (segs : Segments) → is_whole pending ≡ false → IsIn row rows → meets pending row.bit ≡ true → may_admit_by_row row s ≡ true
       → Includes rows row.next segs → Includes rows (after rows s pending) segs
   from_next row segs e i met may h = includes_more rows rows row.next (after rows s pending) (λ r j. j) (λ m g. from_row row m e i met (next_met row m may g)) segs h
 
@@ -135,7 +135,7 @@ module _ (rows : List Row) (right : AreRight rows) where
         let here : segment_of_row row ≡ seg = cc in
         let rest : rest_of_row row ≡ more = cc in
         let may_row : any_may_admit (selectors_of_row row) s ≡ true = rw here may in
-        from_next rows s pending row more e i met may_row (rw (← rest) (right row i).next.rest)
+        from_next rows s pending row more e i met ((right row i).named s may_row) (rw (← rest) (right row i).next.rest)
   ]
 
   asks : (s : Step) (pending : ℕ) (kind : SegmentKind) (seg : Segment) (more segs : Segments) → Includes rows pending (segment kind seg more)
@@ -146,7 +146,7 @@ module _ (rows : List Row) (right : AreRight rows) where
     | inr e ↦
         let here : segment_of_row row ≡ seg = cc in
         let asked : IsIn (query current segs) (queries_in_segment (segment_of_row row)) = rw here j in
-        from_next rows s pending row segs e i met (asked_admits (segment_of_row row) segs s asked) ((right row i).next.asked segs asked)
+        from_next rows s pending row segs e i met ((right row i).named s (asked_admits (segment_of_row row) segs s asked)) ((right row i).next.asked segs asked)
   ]
 
   again : (s : Step) (pending : ℕ) (seg : Segment) (more : Segments) → Includes rows pending (segment descendant seg more) → Includes rows (after rows s pending) (segment descendant seg more)

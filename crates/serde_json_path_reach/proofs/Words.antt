@@ -16,13 +16,13 @@ pub use Rattle.serde_json_path_reach.specs.Inside.Bits.{is_whole}
 pub use Rattle.serde_json_path_reach.specs.Inside.Kept.{any_kept, in_place, in_places, inside, items_inside, kept, kept_array, kept_member, kept_object, members_inside}
 pub use Rattle.serde_json_path_reach.specs.Inside.Leaves.{leaf_of}
 pub use Rattle.serde_json_path_reach.specs.Inside.Queries.{queries_in_and, queries_in_argument, queries_in_arguments, queries_in_basic, queries_in_branch, queries_in_branches, queries_in_call, queries_in_operand, queries_in_or, queries_in_segment, queries_in_segments, queries_in_selector, queries_in_selectors, queries_of}
-pub use Rattle.serde_json_path_reach.specs.Inside.Rows.{AddsRow, AreRight, AsksAll, Covers, Gains, Grows, Includes, IsRight, after, after_rows, kind_of_row, onward, rest_of_row, segment_kind_at, segment_of_row, selectors_of_row}
-pub use Rattle.serde_json_path_reach.specs.Inside.Steps.{any_may_admit, may_admit}
+pub use Rattle.serde_json_path_reach.specs.Inside.Rows.{AddsRow, AreRight, AsksAll, Covers, Gains, Grows, Includes, IsRight, after, after_rows, kind_of_row, may_admit_by_row, onward, rest_of_row, segment_kind_at, segment_of_row, selectors_of_row}
+pub use Rattle.serde_json_path_reach.specs.Inside.Steps.{any_may_admit, may_admit, may_admit_by}
 pub use Rattle.serde_json_path_reach.specs.Inside.Tokens.{AreItems, AreMembers, IsRead}
 pub use Rattle.serde_json_path_reach.specs.declared.plan.Plan.{Plan}
 pub use Rattle.serde_json_path_reach.specs.declared.row.Row.{Row}
 pub use Rattle.serde_json_path_syntax.specs.Branch.{a_basic, a_call, a_query, a_segment, a_selector, an_and, an_operand, an_or}
-pub use Rattle.serde_json_path_syntax.specs.Flat.{call_in, operand_in, or_in, selector_in, selectors_in}
+pub use Rattle.serde_json_path_syntax.specs.Flat.{call_in, operand_in, or_in, segment_at, selector_in, selectors_in}
 pub use Rattle.serde_json_path_syntax.specs.Words.{number_of}
 pub use Rattle.serde_json_path_syntax.specs.declared.checked.Checked.{Checked}
 pub use Rattle.std.proofs.Common.{IsSome, OnOk, add-one, drop-cons, eq-eqb, if◌then◌else◌, replicate, ◌==◌}

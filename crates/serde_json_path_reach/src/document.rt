@@ -1,22 +1,44 @@
 //! Documents that are read for some paths.
 
-ghost use Rattle.std.specs.Prelude.{◌≡◌, ◌<◌, length, None, IfErr, IfOk};
+ghost use Rattle.std.specs.Prelude.{◌≡◌, ◌<◌, ◌≤◌, length, None, IfErr, IfOk};
 ghost use Rattle.std.specs.Str.{IsUtf8};
 ghost use Rattle.serde_json.specs.Errors.{IsMemory, IsOfText};
 ghost use Rattle.serde_json.specs.Read.{read as read_text};
 ghost use Rattle.serde_json.specs.View.{view};
+ghost use Rattle.serde_json_path_syntax.specs.Words.{AreOfKind, is_segment, nodes_in, parts_bound};
 ghost use Rattle.serde_json_path_reach.specs.Alike.{IsReadFor, trees_of};
 
 use crate::plan::Plan;
 use crate::read::read_reached;
 use crate::refused::Refused;
+use json::Scratch;
 use serde_json::{Error, Value};
-use serde_json_path_core::Checked;
+use serde_json_path_core::{Checked, Part};
+use serde_json_path_syntax::SelectorRef;
 use std::alloc::{AllocError, Global};
+use std::boxed::Box;
+use std::cell::Cell;
 use std::str::from_utf8;
 
 /// How many rows a plan may have: each has a bit of its own, and one bit says that all is kept.
 const MOST_ROWS: usize = 63;
+
+/// Documents that have fewer bytes in all are read whole: that takes less than to make room for reading by tokens.
+const SHORT: usize = 1024;
+
+/// Whether some of a query's segments takes a name or an index first, so that not all that the query comes by is kept.
+fn is_narrow(query: &Checked, segments: &[Part]) -> bool
+    requires within { parts_bound segments.now ≤ length (nodes_in query.now) }
+    requires are { AreOfKind is_segment (nodes_in query.now) segments.now }
+{
+    for segment in segments {
+        let selector = query.selector_ref(*segment, 0);
+        if matches!(selector, Some(SelectorRef::Name(_) | SelectorRef::Index(_))) {
+            return true;
+        }
+    }
+    false
+}
 
 /// Reads documents for some paths: what no path can reach is passed over.
 ///
@@ -28,10 +50,16 @@ const MOST_ROWS: usize = 63;
 #[derive(Drop)]
 pub struct DocumentReader<'q> {
     plan: Plan<'q>,
+    /// Whether no path keeps all that it comes by.
+    are_narrow: bool,
+    /// How many bytes the documents have so far.
+    asked: Cell<usize>,
+    /// The room in which documents are read by their tokens, once it was needed.
+    scratch: Cell<Option<Box<Scratch>>>,
 }
 
 impl<'q> DocumentReader<'q> {
-    ghost use Rattle.std.specs.Prelude.{IfSome, List};
+    ghost use Rattle.std.specs.Prelude.{List};
     ghost use Rattle.serde_json_path_syntax.specs.Tree.{Query};
     ghost use Rattle.serde_json_path_reach.specs.Readers.{KeepsFor};
 
@@ -39,42 +67,49 @@ impl<'q> DocumentReader<'q> {
     pub fn new(alloc: Global, paths: &[&'q Checked]) -> Result<DocumentReader<'q>, AllocError>
         ensures { IfOk result (λ reader. KeepsFor reader (trees_of paths.now)) }
     {
-        let plan = Plan::of(alloc, paths)?;
-        Ok(DocumentReader { plan })
-    }
-
-    /// What the paths can reach of the document that the bytes are: each selects from it what it selects from the whole
-    /// document. `None` where the bytes are no document, or memory is refused ([`Value::from_slice`] says which), and for
-    /// paths with more than 63 segments, those in filters among them.
-    pub fn reach(&self, alloc: Global, bytes: &[u8]) -> Option<Value>
-        ensures { (qs : List Query) → KeepsFor self.now qs
-            → IfSome result (λ v. IsReadFor bytes.now qs (view v)) }
-    {
-        match self.reached(alloc, bytes) {
-            Ok(document) => Some(document),
-            Err(_refused) => None,
+        let mut are_narrow = true;
+        for path in paths {
+            are_narrow = are_narrow && is_narrow(path, path.segments());
         }
+        let plan = Plan::of(alloc, paths)?;
+        Ok(DocumentReader {
+            plan,
+            are_narrow,
+            asked: Cell::new(0),
+            scratch: Cell::new(None),
+        })
     }
 
-    /// The same, where memory is there, the bytes are a document, and the paths have few segments.
+    /// Whether the next document, of so many bytes, is read whole.
+    fn reads_whole(&self, len: usize) -> bool {
+        let asked = self.asked.get().saturating_add(len);
+        self.asked.set(asked);
+        asked < SHORT || !self.are_narrow || self.plan.rows.len() > MOST_ROWS
+    }
+
+    /// What the paths can reach of the document that the bytes are, where these are one and memory is there.
     fn reached(&self, alloc: Global, bytes: &[u8]) -> Result<Value, Refused>
         ensures { (qs : List Query) → KeepsFor self.now qs
             → IfOk result (λ v. IsReadFor bytes.now qs (view v)) }
     {
-        if self.plan.rows.len() > MOST_ROWS {
-            return Err(Refused);
-        }
         let Ok(text) = from_utf8(bytes) else {
             return Err(Refused);
         };
-        match read_reached(alloc, text, &self.plan, self.plan.at_root)? {
+        let mut scratch = match self.scratch.take() {
+            Some(scratch) => scratch,
+            None => Box::new(alloc, Scratch::new(alloc))?,
+        };
+        let found = read_reached(alloc, text, &self.plan, self.plan.at_root, &mut scratch);
+        self.scratch.set(Some(scratch));
+        match found? {
             Some(document) => Ok(document),
             None => Ok(Value::Null),
         }
     }
 
-    /// What the paths can reach of the document that the bytes are. Bytes that are no document are refused as
-    /// [`Value::from_slice`] refuses them.
+    /// What the paths can reach of the document that the bytes are: each selects from it what it selects from the whole
+    /// document. Bytes that are no document are refused as [`Value::from_slice`] refuses them. For paths with more than 63
+    /// segments, those in filters among them, the document is read whole.
     pub fn read(&self, alloc: Global, bytes: &[u8]) -> Result<Value, Error>
         ensures ok { (qs : List Query) → KeepsFor self.now qs
             → IfOk result (λ v. IsReadFor bytes.now qs (view v)) }
@@ -83,17 +118,20 @@ impl<'q> DocumentReader<'q> {
         ensures memory { IfErr result (λ e. IsMemory e → 0 < length bytes.now) }
         ensures kind { IfErr result (λ e. ¬ IsMemory e → IsOfText e) }
     {
-        match self.reach(alloc, bytes) {
-            Some(document) => Ok(document),
-            None => Value::from_slice(alloc, bytes),
+        if self.reads_whole(bytes.len()) {
+            return Value::from_slice(alloc, bytes);
+        }
+        match self.reached(alloc, bytes) {
+            Ok(document) => Ok(document),
+            Err(_refused) => Value::from_slice(alloc, bytes),
         }
     }
 }
 
 /// What the paths can reach of the document that the bytes are: each selects from it what it selects from the whole document.
 ///
-/// Bytes that are no document are refused as [`Value::from_slice`] refuses them. For paths with more than 63 segments, those in
-/// filters among them, the document is read whole.
+/// Bytes that are no document are refused as [`Value::from_slice`] refuses them. A document of fewer than 1,024 bytes is read whole,
+/// and any for paths with more than 63 segments, those in filters among them.
 ///
 /// ```text
 /// let document = read_for(alloc, bytes, &[path.tree()])?;
@@ -105,6 +143,9 @@ pub fn read_for(alloc: Global, bytes: &[u8], paths: &[&Checked]) -> Result<Value
     ensures memory { IfErr result (λ e. IsMemory e → 0 < length bytes.now) }
     ensures kind { IfErr result (λ e. ¬ IsMemory e → IsOfText e) }
 {
+    if bytes.len() < SHORT {
+        return Value::from_slice(alloc, bytes);
+    }
     match DocumentReader::new(alloc, paths) {
         Ok(reader) => reader.read(alloc, bytes),
         Err(_refused) => Value::from_slice(alloc, bytes),

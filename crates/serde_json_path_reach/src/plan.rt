@@ -3,7 +3,7 @@
 ghost use Rattle.std.specs.Prelude.{◌<◌};
 
 use crate::bits::{WHOLE, is_whole, meets};
-use crate::row::Row;
+use crate::row::{Row, only_name};
 use serde_json_path_core::{Checked, Part, PathElement, QueryKind, SegmentKind};
 use serde_json_path_syntax::{Basic, Node, Operand, Segment, Selector};
 use std::alloc::{AllocError, Global};
@@ -103,6 +103,7 @@ impl<'q> Plan<'q> {
             query,
             segment,
             rest,
+            name: only_name(query, segment),
             bit,
             again,
             next,

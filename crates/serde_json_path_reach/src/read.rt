@@ -29,6 +29,7 @@ pub(crate) fn read_reached(
     text: &str,
     plan: &Plan<'_>,
     pending: u64,
+    scratch: &mut Scratch,
 ) -> Result<Option<Value>, Refused>
     ensures ok { IfOk result (λ v. (d : Data) × (read_text text.now ≡ Some d)
         × (option_map view v ≡ kept (after plan.now.rows.items) pending d)) }
@@ -39,8 +40,7 @@ pub(crate) fn read_reached(
             Err(_error) => Err(Refused),
         };
     }
-    let mut scratch = Scratch::new(alloc);
-    let mut reader = Reader::new(text, &mut scratch)?;
+    let mut reader = Reader::new(text, scratch)?;
     let found = read(alloc, &mut reader, MAX_DEPTH, plan, pending)?;
     if reader.next().is_some() {
         return Err(Refused);

@@ -1,10 +1,31 @@
 //! Segments that may be pending at a value.
 
-ghost use Rattle.std.specs.Prelude.{◌<◌, length};
-ghost use Rattle.serde_json_path_syntax.specs.Words.{IsOfKind, is_segment, nodes_in, number_of};
+ghost use Rattle.std.specs.Prelude.{◌≡◌, ◌<◌, length, true};
+ghost use Rattle.serde_json_path_nodes.specs.Location.{Step};
+ghost use Rattle.serde_json_path_syntax.specs.Words.{IsOfKind, is_segment, nodes_in, number_of, segment_at};
+ghost use Rattle.serde_json_path_syntax.specs.Stages.{selectors_of};
+ghost use Rattle.serde_json_path_reach.specs.Inside.Steps.{any_may_admit, may_admit_by};
 
 use crate::steps::may_admit;
 use serde_json_path_core::{Checked, Part, PathElement};
+use serde_json_path_syntax::SelectorRef;
+
+/// The name that a segment selects, where it has no other selector.
+pub(crate) fn only_name<'q>(query: &'q Checked, segment: Part) -> Option<&'q str>
+    requires within { number_of segment < length (nodes_in query.now) }
+    requires kind { IsOfKind is_segment (nodes_in query.now) segment }
+    ensures { (s : Step)
+        → any_may_admit (selectors_of (segment_at (nodes_in query.now) segment)) s ≡ true
+        → may_admit_by result (selectors_of (segment_at (nodes_in query.now) segment)) s ≡ true }
+{
+    let Some(SelectorRef::Name(name)) = query.selector_ref(segment, 0) else {
+        return None;
+    };
+    match query.selector_ref(segment, 1) {
+        Some(_) => None,
+        None => Some(name),
+    }
+}
 
 /// A segment and those that follow it in a query, which may be pending at a value.
 #[derive(Clone, Copy)]
@@ -13,6 +34,8 @@ pub(crate) struct Row<'q> {
     pub(crate) segment: Part,
     /// The segments that follow.
     pub(crate) rest: &'q [Part],
+    /// The name of the segment's selector, where that is its only one.
+    pub(crate) name: Option<&'q str>,
     /// Set where the row is pending.
     pub(crate) bit: u64,
     /// What stays pending at all children: the bit of a descendant segment.
@@ -24,7 +47,6 @@ pub(crate) struct Row<'q> {
 }
 
 impl<'q> Row<'q> {
-    ghost use Rattle.std.specs.Prelude.{◌≡◌};
     ghost use Rattle.serde_json_path_nodes.specs.Views.{step_view};
     ghost use Rattle.serde_json_path_reach.specs.Inside.Rows as rows;
     ghost use Rattle.serde_json_path_reach.specs.Inside.Steps as steps;
@@ -32,6 +54,16 @@ impl<'q> Row<'q> {
     /// Whether some selector of the segment may admit the step.
     #[inline(always)]
     fn may_admit(&self, step: PathElement<'_>) -> bool
+        ensures { result ≡ rows.may_admit_by_row self.now (step_view step.entry) }
+    {
+        match self.name {
+            Some(name) => may_admit(SelectorRef::Name(name), step),
+            None => self.any_may_admit(step),
+        }
+    }
+
+    /// The same, as each selector says.
+    fn any_may_admit(&self, step: PathElement<'_>) -> bool
         ensures { result ≡ steps.any_may_admit (rows.selectors_of_row self.now) (step_view step.entry) }
     {
         let mut number = 0usize;

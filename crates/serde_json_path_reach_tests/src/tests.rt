@@ -7,7 +7,7 @@ ghost use Rattle.serde_json_path.specs.Paths.{path_signatures};
 use serde_json::Value;
 use serde_json_path::JsonPath;
 use serde_json_path_reach::read_for;
-use std::alloc::Global;
+use std::alloc::{AllocError, Global};
 use std::test::Fail;
 use test_rows::{Came, Nesting, alike, fields, hold_rows, holds, located, nested};
 
@@ -20,6 +20,8 @@ const ROWS: &[&str] = &[
     r#"$.a.b ~ {"a":{"b":[1],"c":2},"b":3} -> {"a":{"b":[1]}}"#,
     r#"$['a','c'] ~ {"a":1,"b":2,"c":[]} -> {"a":1,"c":[]}"#,
     r#"$.*.a ~ {"x":{"a":1,"b":2},"y":3} -> {"x":{"a":1}}"#,
+    "$.* ~ 5 -> 5",
+    r#"$.*[?@.a] ~ [5,{"b":1}] -> [5,{"b":1}]"#,
     // Items keep their places.
     "$[1] ~ [1,[2],3] -> [null,[2],null]",
     "$[0] ~ [1,2] -> [1,null]",
@@ -63,6 +65,11 @@ const ROWS: &[&str] = &[
     r#"$[?@.a].b and $..c ~ [{"a":1,"b":2,"c":3,"d":4}] -> [{"a":1,"b":2,"c":3}]"#,
 ];
 
+/// The text, with so many spaces after it that the document is not read whole for being short.
+fn long(alloc: Global, text: &str) -> Result<String, AllocError> {
+    format!(in alloc; "{text:<1100}")
+}
+
 /// The locations and the values of what a path selects from a document. Fails where it selects otherwise from what is read.
 fn selected(alloc: Global, path: &JsonPath, document: &Value, reached: &Value) -> Came
     requires { Fits builtin_functions (path_signatures path.now) }
@@ -78,8 +85,9 @@ fn reached(alloc: Global, row: &str) -> Came {
     let (one, other) = paths.split_once(" and ").unwrap_or((paths, paths));
     let one = JsonPath::parse(alloc, one)?;
     let other = JsonPath::parse(alloc, other)?;
+    let text = long(alloc, text)?;
     let read = read_for(alloc, text.as_bytes(), &[one.tree(), other.tree()]);
-    match (read, Value::from_str(alloc, text)) {
+    match (read, Value::from_str(alloc, text.as_str())) {
         (Ok(reached), Ok(document)) => {
             selected(alloc, &one, &document, &reached)?;
             selected(alloc, &other, &document, &reached)?;
@@ -113,14 +121,14 @@ const BELOW: Nesting<'static> = ("", r#"{"b":0,"a":"#, "1", "}", "");
 fn reads_long_paths_and_deep_documents(rt: HostRuntime) -> Result<(), Fail> {
     let alloc = rt.alloc();
     let path = JsonPath::parse(alloc, "$[0]")?;
-    let deepest = nested(alloc, PASSED, LEVELS)?;
+    let deepest = long(alloc, nested(alloc, PASSED, LEVELS)?.as_str())?;
     let read = read_for(alloc, deepest.as_bytes(), &[path.tree()]);
     holds(read.is_ok(), "a document is refused that is not too deep")?;
-    let too_deep = nested(alloc, PASSED, LEVELS + 1)?;
+    let too_deep = long(alloc, nested(alloc, PASSED, LEVELS + 1)?.as_str())?;
     let read = read_for(alloc, too_deep.as_bytes(), &[path.tree()]);
     holds(read.is_err(), "a document is read that is too deep")?;
     let path = JsonPath::parse(alloc, nested(alloc, STEPS, 100)?.as_str())?;
-    let text = nested(alloc, BELOW, 100)?;
+    let text = long(alloc, nested(alloc, BELOW, 100)?.as_str())?;
     let reached = read_for(alloc, text.as_bytes(), &[path.tree()])?;
     let nodes = path.query(alloc, &reached)?;
     holds(

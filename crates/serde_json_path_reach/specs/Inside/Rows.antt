@@ -1,5 +1,5 @@
 -- The rows of a plan: which segments are pending at a value, and what is pending at its children.
-use Rattle.std.specs.Prelude.{◌≡◌, ◌⊎◌, ℕ, List, [], ◌∷◌, flat_map, true, if◌then◌else◌}
+use Rattle.std.specs.Prelude.{◌≡◌, ◌⊎◌, ℕ, List, [], ◌∷◌, flat_map, Bool, true, if◌then◌else◌}
 use Rattle.std.specs.Int.Bits.{bit_or}
 use Rattle.serde_json_path_nodes.specs.Location.{Step}
 use Rattle.serde_json_path_syntax.specs.Flat.{branch_at, segment_at, segment_kind_in, segments_at}
@@ -9,7 +9,7 @@ use Rattle.serde_json_path_syntax.specs.Stages.{selectors_of}
 use Rattle.serde_json_path_syntax.specs.Tree.{Query, query, root, current, Segments, no_segments, segment, SegmentKind, descendant, Segment, Selector}
 use Rattle.serde_json_path_reach.specs.Inside.Bits.{is_whole, meets}
 use Rattle.serde_json_path_reach.specs.Inside.Queries.{queries_of, queries_in_segment}
-use Rattle.serde_json_path_reach.specs.Inside.Steps.{any_may_admit}
+use Rattle.serde_json_path_reach.specs.Inside.Steps.{any_may_admit, may_admit_by}
 use Rattle.serde_json_path_syntax.specs.declared.node.Node.{Node}
 use Rattle.serde_json_path_syntax.specs.declared.node.Part.{Part}
 use Rattle.serde_json_path_reach.specs.declared.plan.Plan.{Plan}
@@ -41,9 +41,13 @@ Includes rows pending (segment kind seg more) =
 
 -- ---- after a step
 
+-- a row's segment may admit the step
+abbrev pub may_admit_by_row : Row → Step → Bool
+may_admit_by_row row s = may_admit_by row.name (selectors_of_row row) s
+
 -- what is pending by a row
 abbrev pub onward : Row → Step → ℕ
-onward row s = if any_may_admit (selectors_of_row row) s then bit_or row.again row.next else row.again
+onward row s = if may_admit_by_row row s then bit_or row.again row.next else row.again
 
 abbrev pub after_rows : List Row → Step → ℕ → ℕ → ℕ
 after_rows [] s pending so_far = so_far
@@ -63,6 +67,7 @@ pub record IsNext (rows : List Row) (next : ℕ) (seg : Segment) (more : Segment
 pub record IsRight (rows : List Row) (row : Row) : Type 0 where
   pub next : IsNext rows row.next (segment_of_row row) (rest_of_row row)
   pub again : kind_of_row row ≡ descendant → meets row.again row.bit ≡ true
+  pub named : (s : Step) → any_may_admit (selectors_of_row row) s ≡ true → may_admit_by_row row s ≡ true
 
 abbrev pub AreRight : List Row → Type 0
 AreRight rows = (row : Row) → IsIn row rows → IsRight rows row
