@@ -1,5 +1,5 @@
 -- The children of what is kept of a value, and what stands at its locations.
-use Rattle.serde_json_path_reach.proofs.Words.{Data, Equal, Greater, Items, Less, List, Members, None, Option, Ordering, Some, Step, [], any_kept, ap, arith, array, as_array, at, by_name, by_position, bytes_eq, bytes_eq-Decides, cases_Bool, child_at, false, get_item, get_member, in_place, in_places, inl, inr, inside, is_eq, is_eq-slice_cmp, is_whole, item, items_inside, items_len, kept, kept_array, kept_member, kept_object, match_ordering, member, members_inside, nat_cmp, nat_list_cmp_total, no_items, no_members, none-some, object, option_and_then_some, option_map, refl, same_Some, slice_cmp, subst, suc, sym, tied_itself, true, true≢false, zero, ℕ, ◌+◌, ◌∙◌, ◌∷◌, ◌≡◌}
+use Rattle.serde_json_path_reach.proofs.Words.{Data, Equal, Greater, Items, Less, List, Members, None, Option, Ordering, Some, Step, [], any_kept, ap, arith, array, as_array, at, by_name, by_position, bytes_eq, bytes_eq-Decides, cases_Bool, child_at, false, get_item, get_member, in_place, in_places, inl, inr, inside, is_eq, is_eq-slice_cmp, is_place, is_whole, item, items_inside, items_len, kept, kept_array, kept_member, kept_object, match_ordering, member, members_inside, nat_cmp, nat_list_cmp_total, no_items, no_members, none-some, object, option_and_then_some, option_map, placed, refl, same_Some, slice_cmp, subst, suc, sym, tied_itself, true, true≢false, zero, ℕ, ◌+◌, ◌∙◌, ◌∷◌, ◌≡◌}
 use Rattle.serde_json_path_reach.proofs.Ordered.{IsBelow, AreRising, IsOrdered, AreOrderedItems, AreOrderedMembers}
 use Rattle.serde_json_path_reach.proofs.Pending.{along}
 
@@ -80,13 +80,17 @@ pub held : (o : Option Data) (s : Step) (steps : List Step) (e : Data) → at (i
 held None s steps e there = absurd (none-some e there)
 held (Some d) s steps e there = refl
 
+-- what a place adds is not seen
+in_place_placed : (pending : ℕ) (o : Option Data) → in_place (placed pending o) ≡ in_place o
+in_place_placed pending o = elim (cases_Bool (is_place pending)) [ inl e ↦ rw e refl | inr e ↦ rw e refl ]
+
 -- how many items an array has
 abbrev pub array_len : Data → Option ℕ
 array_len d = option_map items_len (as_array d)
 
-len_kept_object : (ms : Members) (e : Data) → kept_object ms ≡ Some e → array_len e ≡ None
-len_kept_object no_members e is = absurd (none-some e is)
-len_kept_object (member k d ms) e is = ap array_len (sym (same_Some _ e is))
+len_kept_object : (ms : Members) → array_len (in_place (kept_object ms)) ≡ None
+len_kept_object no_members = refl
+len_kept_object (member k d ms) = refl
 
 module _ (after : Step → ℕ → ℕ) (stays : (s : Step) (pending : ℕ) → is_whole pending ≡ true → is_whole (after s pending) ≡ true) where
   -- what is kept, with null for what is not
@@ -159,7 +163,7 @@ module _ (after : Step → ℕ → ℕ) (stays : (s : Step) (pending : ℕ) → 
       → child_at (shown pending d) s ≡ Some e
   child_kept pending d s c e there keeps = elim (cases_Bool (is_whole pending)) [
     | inl f ↦ rw f (there ∙ rw (stays s pending f) at keeps)
-    | inr f ↦ rw f (by d s there keeps)
+    | inr f ↦ rw (f, in_place_placed pending (inside after pending d)) (by d s there keeps)
   ]
     where
       by : (d : Data) (s : Step) → child_at d s ≡ Some c → kept after (after s pending) c ≡ Some e → child_at (in_place (inside after pending d)) s ≡ Some e
@@ -172,7 +176,7 @@ module _ (after : Step → ℕ → ℕ) (stays : (s : Step) (pending : ℕ) → 
       → (c : Data) × (child_at d s ≡ Some c) × (e ≡ shown (after s pending) c)
   child_back pending d s e o there = elim (cases_Bool (is_whole pending)) [
     | inl f ↦ (e, rw f at there, rw (stays s pending f) refl)
-    | inr f ↦ by d s o (rw f at there)
+    | inr f ↦ by d s o (rw (f, in_place_placed pending (inside after pending d)) at there)
   ]
     where
       by : (d : Data) (s : Step) → IsOrdered d → child_at (in_place (inside after pending d)) s ≡ Some e → (c : Data) × (child_at d s ≡ Some c) × (e ≡ shown (after s pending) c)
@@ -217,17 +221,17 @@ module _ (after : Step → ℕ → ℕ) (stays : (s : Step) (pending : ℕ) → 
   len_inside pending i no_items = refl
   len_inside pending i (item d ds) = ap suc (len_inside pending (suc i) ds)
 
-  -- what is kept of an array has as many items
-  pub len_kept : (pending : ℕ) (d e : Data) → kept after pending d ≡ Some e → array_len e ≡ array_len d
-  len_kept pending d e keeps = elim (cases_Bool (is_whole pending)) [
-    | inl f ↦ ap array_len (sym (same_Some d e (rw f at keeps)))
-    | inr f ↦ by d (rw f at keeps)
+  -- what is kept of an array has as many items, if it has any
+  pub len_kept : (pending : ℕ) (d : Data) (s : Step) (e : Data) → child_at (shown pending d) s ≡ Some e → array_len (shown pending d) ≡ array_len d
+  len_kept pending d s e there = elim (cases_Bool (is_whole pending)) [
+    | inl f ↦ rw f refl
+    | inr f ↦ rw (f, in_place_placed pending (inside after pending d)) (by d (rw (f, in_place_placed pending (inside after pending d)) at there))
   ]
     where
-      by : (d : Data) → inside after pending d ≡ Some e → array_len e ≡ array_len d
+      by : (d : Data) → child_at (in_place (inside after pending d)) s ≡ Some e → array_len (in_place (inside after pending d)) ≡ array_len d
       by (array ds) is = elim (cases_Bool (any_kept (items_inside after pending 0 ds))) [
-        | inl f ↦ ap array_len (sym (same_Some (array (in_places (items_inside after pending 0 ds))) e (rw f at is))) ∙ ap Some (len_inside pending 0 ds)
+        | inl f ↦ rw f (ap Some (len_inside pending 0 ds))
         | inr f ↦ absurd (none-some e (rw f at is))
       ]
-      by (object ms) is = len_kept_object (members_inside after pending ms) e is
+      by (object ms) is = len_kept_object (members_inside after pending ms)
       by _ is = absurd (none-some e is)

@@ -1,15 +1,15 @@
 -- What is pending at a child, and at the end of a location.
-use Rattle.serde_json_path_reach.proofs.Words.{Admits, AdmitsBy, AdmitsIn, Bool, Data, Derives, FunctionSet, IsIn, List, MayDescend, Segment, SegmentKind, Segments, Selector, Selectors, SelectsIndex, Some, Step, Triple, [], any_may_admit, ap, arith, at, by_position, bytes_eq-Decides, child, child_at, current, descendant, dot_name, dot_wildcard, eq-eqb, false, filter, index, inl, inr, ints, is_whole, items_len, location_of, long_hand, may_admit, name, negsuc, no_segments, no_selectors, option_and_then_some, pos, queries_in_segment, query, refl, same_Some, segment, selector, selectors_list, selectors_of, slice, suc, true, wildcard, zero, ℕ, ℤ, ◌++◌, ◌||◌, ◌∙◌, ◌∷◌, ◌≡◌}
+use Rattle.serde_json_path_reach.proofs.Words.{Admits, AdmitsBy, AdmitsIn, Bool, Data, Derives, FunctionSet, IsIn, List, MayDescend, Segment, SegmentKind, Segments, Selector, Selectors, SelectsIndex, Some, Step, Triple, [], any_may_admit, ap, arith, at, by_position, bytes_eq-Decides, child, child_at, current, descendant, dot_name, dot_wildcard, eq-eqb, false, filter, index, inl, inr, ints, is_end, is_whole, items_len, location_of, long_hand, may_admit, name, negsuc, no_segments, no_selectors, option_and_then_some, pos, queries_in_segment, query, refl, same_Some, segment, selector, selectors_list, selectors_of, slice, suc, true, wildcard, zero, ℕ, ℤ, ◌++◌, ◌||◌, ◌∙◌, ◌∷◌, ◌≡◌}
 
 -- where segments are pending, all that their derivations come by is pending after each step
-pub record Leads (after : Step → ℕ → ℕ) (Includes : ℕ → Segments → Type 0) : Type 0 where
-  pub ends : (pending : ℕ) → Includes pending no_segments → is_whole pending ≡ true
+pub record Leads (after : Step → ℕ → ℕ) (Includes : Bool → ℕ → Segments → Type 0) : Type 0 where
+  pub ends : (places : Bool) (pending : ℕ) → Includes places pending no_segments → is_end places pending ≡ true
   pub stays : (s : Step) (pending : ℕ) → is_whole pending ≡ true → is_whole (after s pending) ≡ true
-  pub again : (s : Step) (pending : ℕ) (seg : Segment) (more : Segments) → Includes pending (segment descendant seg more) → Includes (after s pending) (segment descendant seg more)
-  pub goes_on : (s : Step) (pending : ℕ) (kind : SegmentKind) (seg : Segment) (more : Segments) → Includes pending (segment kind seg more)
-      → any_may_admit (selectors_of seg) s ≡ true → Includes (after s pending) more
-  pub asks : (s : Step) (pending : ℕ) (kind : SegmentKind) (seg : Segment) (more segs : Segments) → Includes pending (segment kind seg more)
-      → IsIn (query current segs) (queries_in_segment seg) → Includes (after s pending) segs
+  pub again : (places : Bool) (s : Step) (pending : ℕ) (seg : Segment) (more : Segments) → Includes places pending (segment descendant seg more) → Includes places (after s pending) (segment descendant seg more)
+  pub goes_on : (places : Bool) (s : Step) (pending : ℕ) (kind : SegmentKind) (seg : Segment) (more : Segments) → Includes places pending (segment kind seg more)
+      → any_may_admit (selectors_of seg) s ≡ true → Includes places (after s pending) more
+  pub asks : (places : Bool) (s : Step) (pending : ℕ) (kind : SegmentKind) (seg : Segment) (more segs : Segments) → Includes places pending (segment kind seg more)
+      → IsIn (query current segs) (queries_in_segment seg) → Includes false (after s pending) segs
 
 -- ---- what stands at a location
 
@@ -60,22 +60,22 @@ module _ (after : Step → ℕ → ℕ) where
   along_joined [] b pending = refl
   along_joined (s ∷ a) b pending = along_joined a b (after s pending)
 
-module _ (after : Step → ℕ → ℕ) (Includes : ℕ → Segments → Type 0) (leads : Leads after Includes) where
+module _ (after : Step → ℕ → ℕ) (Includes : Bool → ℕ → Segments → Type 0) (leads : Leads after Includes) (places : Bool) where
   -- a descendant segment stays pending all the way down
   pub still : (kind : SegmentKind) (seg : Segment) (more : Segments) (descent : List Step) (pending : ℕ) → MayDescend kind descent
-      → Includes pending (segment kind seg more) → Includes (along after descent pending) (segment kind seg more)
+      → Includes places pending (segment kind seg more) → Includes places (along after descent pending) (segment kind seg more)
   still child seg more descent pending may h = rw may h
   still descendant seg more [] pending may h = h
-  still descendant seg more (s ∷ descent) pending may h = still descendant seg more descent (after s pending) tt (leads.again s pending seg more h)
+  still descendant seg more (s ∷ descent) pending may h = still descendant seg more descent (after s pending) tt (leads.again places s pending seg more h)
 
-  -- where a derivation ends, the value is kept whole
-  pub end_pending : (F : FunctionSet) (top : Data) (segs : Segments) (pending : ℕ) (v : Data) (xs : List Triple) → Includes pending segs → Derives F top segs v xs
-      → (c : Data) × (at v (location_of xs) ≡ Some c) × (is_whole (along after (location_of xs) pending) ≡ true)
-  end_pending F top no_segments pending v xs h e = rw e (v, refl, leads.ends pending h)
+  -- where a derivation ends, the value is kept whole, or its place is
+  pub end_pending : (F : FunctionSet) (top : Data) (segs : Segments) (pending : ℕ) (v : Data) (xs : List Triple) → Includes places pending segs → Derives F top segs v xs
+      → (c : Data) × (at v (location_of xs) ≡ Some c) × (is_end places (along after (location_of xs) pending) ≡ true)
+  end_pending F top no_segments pending v xs h e = rw e (v, refl, leads.ends places pending h)
   end_pending F top (segment kind seg more) pending v [] h e = absurd e
   end_pending F top (segment kind seg more) pending v (x ∷ xs) h (may, (d, down, admits, (c, to, rest))) =
       let here = along after x.descent pending in
-      let below = leads.goes_on x.step here kind seg more (still kind seg more x.descent pending may h) (admits_any F top seg x.number d x.step admits) in
+      let below = leads.goes_on places x.step here kind seg more (still kind seg more x.descent pending may h) (admits_any F top seg x.number d x.step admits) in
       let (e, there, ends) = end_pending F top more (after x.step here) c xs below rest in
       let to_child = at_joined x.descent (x.step ∷ []) v d down ∙ at_step x.step d c to in (
         e,

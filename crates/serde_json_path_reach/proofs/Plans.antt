@@ -1,5 +1,5 @@
 -- A plan grows by rows for the queries in a part of a tree.
-use Rattle.serde_json_path_reach.proofs.Words.{AddsRow, AreRight, Branch, Err, Gains, IfOk, Includes, IsIn, IsRight, List, Node, Ok, Part, Plan, Query, Result, Row, SegmentKind, Segments, Step, [], a_basic, a_segment, a_selector, add-one, an_and, an_operand, an_or, and_in, ands_in, any_may_admit, ap, append-nil, argument_in, arguments_in, arith, basic_in, bit_or, branch_at, branch_in, branches_named, current, descendant, drop, drop-cons, drop_all, flat_map-append, get_or, in_append, inl, inr, kind_of_row, length, map-append, may_admit_by_row, no_segments, operand_in, ors_in, queries_in_and, queries_in_argument, queries_in_arguments, queries_in_basic, queries_in_branch, queries_in_branches, queries_in_operand, queries_in_or, queries_in_segment, queries_in_segments, queries_in_selector, queries_in_selectors, queries_of, query, refl, rest_of_row, root, segment, segment_in, segment_kind_in, segment_of_row, segments_at, selector_in, selectors_in, selectors_of_row, subst, sym, take, take_more, true, ℕ, ◌++◌, ◌+◌, ◌<◌, ◌∙◌, ◌∷◌, ◌≡◌, ◌≤◌}
+use Rattle.serde_json_path_reach.proofs.Words.{AddsRow, AreRight, AsksAll, Bool, Branch, Err, Gains, IfOk, Includes, IsIn, IsRight, List, Node, Ok, Part, Plan, Query, Result, Row, SegmentKind, Segments, Step, [], a_basic, a_segment, a_selector, add-one, an_and, an_operand, an_or, and_in, ands_in, any_may_admit, ap, append-nil, argument_in, arguments_in, arith, basic_in, bit_or, branch_at, branch_in, branches_named, current, descendant, drop, drop-cons, drop_all, false, flat_map-append, get_or, in_append, inl, inr, kind_of_row, length, map-append, may_admit_by_row, no_segments, operand_in, ors_in, queries_in_and, queries_in_argument, queries_in_arguments, queries_in_basic, queries_in_branch, queries_in_branches, queries_in_operand, queries_in_or, queries_in_segment, queries_in_segments, queries_in_selector, queries_in_selectors, queries_of, query, refl, rest_of_row, root, segment, segment_in, segment_kind_in, segment_of_row, segments_at, segments_of, selector_in, selectors_in, selectors_of_row, subst, sym, take, take_more, true, ℕ, ◌++◌, ◌+◌, ◌<◌, ◌∙◌, ◌∷◌, ◌≡◌, ◌≤◌}
 use Rattle.serde_json_path_reach.proofs.Rows.{meets_itself, includes_more, includes_left, includes_right}
 
 pub if_ok : {A E : Type 0} (P Q : A → Type 0) (r : Result A E) → ((a : A) → P a → Q a) → IfOk r P → IfOk r Q
@@ -65,7 +65,7 @@ sides_there b c q h =
 pub gains_none : (a : Plan) → Gains a a 0 []
 gains_none a = record {
   right = λ r. r;
-  grows = record { by_rows = λ pending segs h. h; at_root = λ segs h. h };
+  grows = record { by_rows = λ places pending segs h. h; at_root = λ places segs h. h };
   covers = record { dollar = λ segs h. absurd h; at = λ segs h. absurd h };
 }
 
@@ -79,18 +79,21 @@ gains_some a b m qs rs among h = record {
 pub gains_both : (a b c : Plan) (m n : ℕ) (qs rs : List Query) → Gains a b m qs → Gains b c n rs → Gains a c (bit_or m n) (qs ++ rs)
 gains_both a b c m n qs rs g h = record {
   right = λ r. h.right (g.right r);
-  grows = record { by_rows = λ pending segs i. h.grows.by_rows pending segs (g.grows.by_rows pending segs i); at_root = λ segs i. h.grows.at_root segs (g.grows.at_root segs i) };
+  grows = record {
+    by_rows = λ places pending segs i. h.grows.by_rows places pending segs (g.grows.by_rows places pending segs i);
+    at_root = λ places segs i. h.grows.at_root places segs (g.grows.at_root places segs i);
+  };
   covers = record {
-    dollar = λ segs i. elim ((in_append (query root segs) qs rs).0 i) [ inl j ↦ h.grows.at_root segs (g.covers.dollar segs j) | inr j ↦ h.covers.dollar segs j ];
+    dollar = λ segs i. elim ((in_append (query root segs) qs rs).0 i) [ inl j ↦ h.grows.at_root false segs (g.covers.dollar segs j) | inr j ↦ h.covers.dollar segs j ];
     at = λ segs i. elim ((in_append (query current segs) qs rs).0 i) [
-      | inl j ↦ includes_left c.rows.items m n segs (h.grows.by_rows m segs (g.covers.at segs j))
-      | inr j ↦ includes_right c.rows.items m n segs (h.covers.at segs j)
+      | inl j ↦ includes_left c.rows.items m n false segs (h.grows.by_rows false m segs (g.covers.at segs j))
+      | inr j ↦ includes_right c.rows.items m n false segs (h.covers.at segs j)
     ];
   };
 }
 
 -- a query by `@` is pending where it is asked
-pub gains_current : (a b : Plan) (first asked : ℕ) (segs : Segments) → Includes b.rows.items first segs → Gains a b asked (queries_in_segments segs)
+pub gains_current : (a b : Plan) (first asked : ℕ) (segs : Segments) → Includes b.rows.items false first segs → Gains a b asked (queries_in_segments segs)
     → Gains a b (bit_or first asked) (queries_of (query current segs))
 gains_current a b first asked segs here h = record {
   right = h.right;
@@ -98,30 +101,41 @@ gains_current a b first asked segs here h = record {
   covers = record {
     dollar = λ more. elim [ inl e ↦ absurd cc | inr i ↦ h.covers.dollar more i ];
     at = λ more. elim [
-      | inl e ↦ let same : segs ≡ more = cc in includes_left b.rows.items first asked more (subst (Includes b.rows.items first) same here)
-      | inr i ↦ includes_right b.rows.items first asked more (h.covers.at more i)
+      | inl e ↦ let same : segs ≡ more = cc in includes_left b.rows.items first asked false more (subst (Includes b.rows.items false first) same here)
+      | inr i ↦ includes_right b.rows.items first asked false more (h.covers.at more i)
     ];
   };
 }
 
 -- what more is pending at the root
-pub gains_root : (a b c : Plan) (first asked : ℕ) (segs : Segments) → c.rows.items ≡ b.rows.items → c.at_root ≡ bit_or b.at_root first
-    → Includes b.rows.items first segs → Gains a b asked (queries_in_segments segs) → Gains a c asked (queries_of (query root segs))
-gains_root a b c first asked segs rows at_root here h =
-    let kept = λ (pending : ℕ) (more : Segments) (i : Includes b.rows.items pending more). subst (λ (rs : List Row). Includes rs pending more) (sym rows) i in
-    let added = λ (more : Segments) (i : Includes b.rows.items (bit_or b.at_root first) more). subst (λ (bits : ℕ). Includes c.rows.items bits more) (sym at_root) (kept (bit_or b.at_root first) more i) in
+pub gains_more : (a b c : Plan) (first asked : ℕ) (qs : List Query) → c.rows.items ≡ b.rows.items → c.at_root ≡ bit_or b.at_root first → Gains a b asked qs → Gains a c asked qs
+gains_more a b c first asked qs rows at_root h =
+    let kept = λ (p : Bool) (pending : ℕ) (more : Segments) (i : Includes b.rows.items p pending more). subst (λ (rs : List Row). Includes rs p pending more) (sym rows) i in
+    let added = λ (p : Bool) (more : Segments) (i : Includes b.rows.items p (bit_or b.at_root first) more). subst (λ (bits : ℕ). Includes c.rows.items p bits more) (sym at_root) (kept p (bit_or b.at_root first) more i) in
     record {
       right = λ r. subst AreRight (sym rows) (h.right r);
       grows = record {
-        by_rows = λ pending more i. kept pending more (h.grows.by_rows pending more i);
-        at_root = λ more i. added more (includes_left b.rows.items b.at_root first more (h.grows.at_root more i));
+        by_rows = λ p pending more i. kept p pending more (h.grows.by_rows p pending more i);
+        at_root = λ p more i. added p more (includes_left b.rows.items b.at_root first p more (h.grows.at_root p more i));
       };
       covers = record {
-        dollar = λ more. elim [
-          | inl e ↦ let same : segs ≡ more = cc in added more (includes_right b.rows.items b.at_root first more (subst (Includes b.rows.items first) same here))
-          | inr i ↦ added more (includes_left b.rows.items b.at_root first more (h.covers.dollar more i))
-        ];
-        at = λ more. elim [ inl e ↦ absurd cc | inr i ↦ kept asked more (h.covers.at more i) ];
+        dollar = λ more i. added false more (includes_left b.rows.items b.at_root first false more (h.covers.dollar more i));
+        at = λ more i. kept false asked more (h.covers.at more i);
+      };
+    }
+
+-- the same of a query by `$` in a filter
+pub gains_root : (a b c : Plan) (first asked : ℕ) (segs : Segments) → c.rows.items ≡ b.rows.items → c.at_root ≡ bit_or b.at_root first
+    → Includes b.rows.items false first segs → Gains a b asked (queries_in_segments segs) → Gains a c asked (queries_of (query root segs))
+gains_root a b c first asked segs rows at_root here h =
+    let g = gains_more a b c first asked (queries_in_segments segs) rows at_root h in
+    let there : Includes c.rows.items false c.at_root segs = rw (rows, at_root) (includes_right b.rows.items b.at_root first false segs here) in
+    record {
+      right = g.right;
+      grows = g.grows;
+      covers = record {
+        dollar = λ more. elim [ inl e ↦ let same : segs ≡ more = cc in subst (Includes c.rows.items false c.at_root) same there | inr i ↦ g.covers.dollar more i ];
+        at = λ more. elim [ inl e ↦ absurd cc | inr i ↦ g.covers.at more i ];
       };
     }
 
@@ -130,11 +144,11 @@ module _ (rows : List Row) (row : Row) where
   among : (r : Row) → IsIn r rows → IsIn r (rows ++ row ∷ [])
   among r i = (in_append r rows (row ∷ [])).1 (inl i)
 
-  pub still_included : (pending : ℕ) (segs : Segments) → Includes rows pending segs → Includes (rows ++ row ∷ []) pending segs
-  still_included pending segs h = includes_more rows (rows ++ row ∷ []) pending pending among (λ m g. g) segs h
+  pub still_included : (places : Bool) (pending : ℕ) (segs : Segments) → Includes rows places pending segs → Includes (rows ++ row ∷ []) places pending segs
+  still_included places pending = includes_more rows (rows ++ row ∷ []) pending pending among (λ m g. g) places
 
   still_right : (r : Row) → IsRight rows r → IsRight (rows ++ row ∷ []) r
-  still_right r h = record { next = record { rest = still_included r.next _ h.next.rest; asked = λ segs i. still_included r.next segs (h.next.asked segs i) }; again = h.again; named = h.named }
+  still_right r h = record { next = record { rest = still_included r.places r.next _ h.next.rest; asked = λ segs i. still_included false r.next segs (h.next.asked segs i) }; again = h.again; named = h.named }
 
   all_right : IsRight rows row → AreRight rows → AreRight (rows ++ row ∷ [])
   all_right here right r i = elim ((in_append r rows (row ∷ [])).0 i) [
@@ -144,29 +158,30 @@ module _ (rows : List Row) (row : Row) where
 
 pub gains_row : (a b : Plan) (row : Row) → b.rows.items ≡ a.rows.items ++ row ∷ [] → b.at_root ≡ a.at_root → IsRight a.rows.items row → Gains a b 0 []
 gains_row a b row rows at_root right =
-    let kept = λ (pending : ℕ) (segs : Segments) (i : Includes a.rows.items pending segs). subst (λ (rs : List Row). Includes rs pending segs) (sym rows) (still_included a.rows.items row pending segs i) in
+    let kept = λ (places : Bool) (pending : ℕ) (segs : Segments) (i : Includes a.rows.items places pending segs).
+    subst (λ (rs : List Row). Includes rs places pending segs) (sym rows) (still_included a.rows.items row places pending segs i) in
     record {
       right = λ r. subst AreRight (sym rows) (all_right a.rows.items row right r);
-      grows = record { by_rows = kept; at_root = λ segs i. subst (λ (bits : ℕ). Includes b.rows.items bits segs) (sym at_root) (kept a.at_root segs i) };
+      grows = record { by_rows = kept; at_root = λ places segs i. subst (λ (bits : ℕ). Includes b.rows.items places bits segs) (sym at_root) (kept places a.at_root segs i) };
       covers = record { dollar = λ segs h. absurd h; at = λ segs h. absurd h };
     }
 
 pub adds_row : (a b : Plan) (before : List Row) (row : Row) → b.rows.items ≡ before ++ row ∷ [] → before ≡ a.rows.items → b.at_root ≡ a.at_root → 0 < row.bit → (kind_of_row row ≡ descendant → row.again ≡ row.bit)
-    → ((s : Step) → any_may_admit (selectors_of_row row) s ≡ true → may_admit_by_row row s ≡ true) → AddsRow a b (kind_of_row row) (segment_of_row row) (rest_of_row row) row.next row.bit
+    → ((s : Step) → any_may_admit (selectors_of_row row) s ≡ true → may_admit_by_row row s ≡ true) → AddsRow a b (kind_of_row row) (segment_of_row row) (rest_of_row row) row.places row.next row.bit
 adds_row a b before row grown same at_root some again named next = let rows = grown ∙ ap (λ rs. rs ++ row ∷ []) same in (
   gains_row a b row rows at_root (record { next = next; again = λ down. rw (again down) (meets_itself row.bit some); named = named }),
-  inr (row, subst (IsIn row) (sym rows) ((in_append row a.rows.items (row ∷ [])).1 (inr (inl refl))), meets_itself row.bit some, refl),
+  inr (row, subst (IsIn row) (sym rows) ((in_append row a.rows.items (row ∷ [])).1 (inr (inl refl))), refl, meets_itself row.bit some, refl),
 )
 
 -- a segment, its filters' queries and its row
-pub gains_segment : (a b c d : Plan) (m n first bit : ℕ) (branch : Branch) (kind : SegmentKind) (more : Segments)
-    → Gains a b m (queries_in_segments more) → Includes b.rows.items first more → Gains b c n (queries_in_branch branch)
-    → AddsRow c d kind (segment_in branch) more (bit_or first n) bit
-    → Gains a d (bit_or m n) (queries_in_segment (segment_in branch) ++ queries_in_segments more) × Includes d.rows.items bit (segment kind (segment_in branch) more)
-gains_segment a b c d m n first bit branch kind more g here h adds =
+pub gains_segment : (a b c d : Plan) (places : Bool) (m n first bit : ℕ) (branch : Branch) (kind : SegmentKind) (more : Segments)
+    → Gains a b m (queries_in_segments more) → Includes b.rows.items places first more → Gains b c n (queries_in_branch branch)
+    → AddsRow c d kind (segment_in branch) more places (bit_or first n) bit
+    → Gains a d (bit_or m n) (queries_in_segment (segment_in branch) ++ queries_in_segments more) × Includes d.rows.items places bit (segment kind (segment_in branch) more)
+gains_segment a b c d places m n first bit branch kind more g here h adds =
     let (k, pending) = adds (record {
-      rest = includes_left c.rows.items first n more (h.grows.by_rows first more here);
-      asked = λ segs i. includes_right c.rows.items first n segs (h.covers.at segs (segment_there branch (query current segs) i));
+      rest = includes_left c.rows.items first n places more (h.grows.by_rows places first more here);
+      asked = λ segs i. includes_right c.rows.items first n false segs (h.covers.at segs (segment_there branch (query current segs) i));
     }) in
     let both = gains_both a b c m n (queries_in_segments more) (queries_in_branch branch) g h in
     let swapped = gains_some a c (bit_or m n) (queries_in_segments more ++ queries_in_branch branch) (queries_in_segment (segment_in branch) ++ queries_in_segments more) (λ q i.
@@ -176,8 +191,11 @@ gains_segment a b c d m n first bit branch kind more g here h adds =
     ])) both in (
       record {
         right = λ r. k.right (swapped.right r);
-        grows = record { by_rows = λ pending segs i. k.grows.by_rows pending segs (swapped.grows.by_rows pending segs i); at_root = λ segs i. k.grows.at_root segs (swapped.grows.at_root segs i) };
-        covers = record { dollar = λ segs i. k.grows.at_root segs (swapped.covers.dollar segs i); at = λ segs i. k.grows.by_rows (bit_or m n) segs (swapped.covers.at segs i) };
+        grows = record {
+          by_rows = λ p pending segs i. k.grows.by_rows p pending segs (swapped.grows.by_rows p pending segs i);
+          at_root = λ p segs i. k.grows.at_root p segs (swapped.grows.at_root p segs i);
+        };
+        covers = record { dollar = λ segs i. k.grows.at_root false segs (swapped.covers.dollar segs i); at = λ segs i. k.grows.by_rows false (bit_or m n) segs (swapped.covers.at segs i) };
       },
       pending,
     )
@@ -194,3 +212,18 @@ first_part nodes parts i d h = rw (add-one, drop-cons parts i d) refl
 
 pub no_part : (nodes : List Node) (parts : List Part) → segments_at nodes (drop (length parts) parts) ≡ no_segments
 no_part nodes parts = let end : length parts ≤ length parts = omega arith in ap (segments_at nodes) (drop_all (length parts) parts end)
+
+-- ---- paths in order
+
+pub asks_more : (a b : Plan) (places : Bool) (asked : ℕ) (qs : List Query) (q : Query) → AsksAll a places qs → Gains a b asked (queries_in_segments (segments_of q))
+    → Includes b.rows.items places b.at_root (segments_of q) → AsksAll b places (qs ++ q ∷ [])
+asks_more a b places asked qs q before g here = record {
+  themselves = λ r i. elim ((in_append r qs (q ∷ [])).0 i) [
+    | inl j ↦ g.grows.at_root places (segments_of r) (before.themselves r j)
+    | inr j ↦ elim j [ inl e ↦ subst (λ (x : Query). Includes b.rows.items places b.at_root (segments_of x)) (sym e) here | inr never ↦ absurd never ]
+  ];
+  inside = λ r segs i k. elim ((in_append r qs (q ∷ [])).0 i) [
+    | inl j ↦ g.grows.at_root false segs (before.inside r segs j k)
+    | inr j ↦ elim j [ inl e ↦ g.covers.dollar segs (subst (λ (x : Query). IsIn (query root segs) (queries_in_segments (segments_of x))) e k) | inr never ↦ absurd never ]
+  ];
+}

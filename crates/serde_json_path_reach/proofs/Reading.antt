@@ -1,5 +1,5 @@
 -- What a reader's loops over items and members have kept so far.
-use Rattle.serde_json_path_reach.proofs.Words.{Bool, Data, Items, List, Members, None, Option, Some, Step, [], any_kept, ap, arith, array, by_name, by_position, cases_Bool, false, if◌then◌else◌, in_place, in_places, inl, inr, inside, is_whole, item, items_inside, items_len, kept, kept_object, member, members_inside, no_items, no_members, null, object, refl, suc, sym, true, zero, ℕ, ◌++◌, ◌+◌, ◌∙◌, ◌∷◌, ◌≡◌, ◌⊎◌}
+use Rattle.serde_json_path_reach.proofs.Words.{Bool, Data, Items, List, Members, None, Option, Some, Step, [], any_kept, ap, arith, array, by_name, by_position, cases_Bool, false, if◌then◌else◌, in_place, in_places, inl, inr, inside, is_place, is_whole, item, items_inside, items_len, kept, kept_object, member, members_inside, no_items, no_members, null, object, placed, refl, suc, sym, true, zero, ℕ, ◌++◌, ◌+◌, ◌∙◌, ◌∷◌, ◌≡◌, ◌⊎◌}
 use Rattle.serde_json_path_reach.proofs.Tokens.{joined, joined-nil, joined-joined}
 
 abbrev pub nulls : ℕ → Items
@@ -41,8 +41,8 @@ module _ (after : Step → ℕ → ℕ) where
   pub kept_whole : (pending : ℕ) (d : Data) → is_whole pending ≡ true → kept after pending d ≡ Some d
   kept_whole pending d e = rw e refl
 
-  pub kept_not : (pending : ℕ) (d : Data) → inside after pending d ≡ None → is_whole pending ≡ false → kept after pending d ≡ None
-  kept_not pending d i e = rw e i
+  pub kept_not : (pending : ℕ) (d : Data) → inside after pending d ≡ None → is_whole pending ≡ false → kept after pending d ≡ placed pending None
+  kept_not pending d i e = rw e (ap (placed pending) i)
 
   pub kept_there : (pending below : ℕ) (s : Step) (d : Data) (o : Option Data) → below ≡ after s pending → o ≡ kept after below d → kept after (after s pending) d ≡ o
   kept_there pending below s d o same k = rw (← same) (sym k)
@@ -97,33 +97,35 @@ module _ (after : Step → ℕ → ℕ) (stays : (s : Step) (pending : ℕ) → 
   all_whole pending i no_items e = refl
   all_whole pending i (item d ds) e = rw (stays (by_position i) pending e) (ap (item d) (all_whole pending (suc i) ds e))
 
+  placed_some : (pending : ℕ) (d : Data) → placed pending (Some d) ≡ Some d
+  placed_some pending d = elim (cases_Bool (is_place pending)) [ inl e ↦ rw e refl | inr e ↦ rw e refl ]
+
+  either : (pending : ℕ) (d : Data) → (if is_whole pending then Some d else placed pending (Some d)) ≡ Some d
+  either pending d = elim (cases_Bool (is_whole pending)) [ inl e ↦ rw e refl | inr e ↦ rw e (placed_some pending d) ]
+
   -- the array that is kept, when all its items are read
   pub array_kept : (pending : ℕ) (done found : Items) (passed : ℕ) → AreSoFar after pending done found passed
       → kept after pending (array done) ≡ (if is_whole pending then Some (array (joined found (nulls passed)))
-      else if has_items found then Some (array (joined found (nulls passed))) else None)
+      else placed pending (if has_items found then Some (array (joined found (nulls passed))) else None))
   array_kept pending done found passed so_far = elim (cases_Bool (is_whole pending)) [
     | inl e ↦ rw e (ap (λ ds. Some (array ds)) (sym (all_whole pending 0 done e) ∙ so_far.places))
     | inr e ↦ rw (e, so_far.any, so_far.places) refl
   ]
 
   pub array_dropped : (pending : ℕ) (done found : Items) (passed : ℕ) → AreSoFar after pending done found passed → is_whole pending ≡ false → has_items found ≡ false
-      → kept after pending (array done) ≡ None
+      → kept after pending (array done) ≡ placed pending None
   array_dropped pending done found passed so_far e f = array_kept pending done found passed so_far ∙ rw (e, f) refl
 
   pub array_found : (pending : ℕ) (done found : Items) (passed : ℕ) → AreSoFar after pending done found passed → (is_whole pending ≡ true) ⊎ (has_items found ≡ true)
       → kept after pending (array done) ≡ Some (array (joined found (nulls passed)))
   array_found pending done found passed so_far (inl e) = array_kept pending done found passed so_far ∙ rw e refl
-  array_found pending done found passed so_far (inr f) = array_kept pending done found passed so_far ∙ rw f (either (is_whole pending) (array (joined found (nulls passed))))
-    where
-      either : (b : Bool) (d : Data) → (if b then Some d else Some d) ≡ Some d
-      either true d = refl
-      either false d = refl
+  array_found pending done found passed so_far (inr f) = array_kept pending done found passed so_far ∙ rw f (either pending (array (joined found (nulls passed))))
 
   members_whole : (pending : ℕ) (ms : Members) → is_whole pending ≡ true → members_inside after pending ms ≡ ms
   members_whole pending no_members e = refl
   members_whole pending (member k d ms) e = rw (stays (by_name k) pending e) (ap (member k d) (members_whole pending ms e))
 
-  pub object_dropped : (pending : ℕ) (done : Members) → members_inside after pending done ≡ no_members → is_whole pending ≡ false → kept after pending (object done) ≡ None
+  pub object_dropped : (pending : ℕ) (done : Members) → members_inside after pending done ≡ no_members → is_whole pending ≡ false → kept after pending (object done) ≡ placed pending None
   object_dropped pending done is e = rw (e, is) refl
 
   pub object_found : (pending : ℕ) (done found : Members) → members_inside after pending done ≡ found → (is_whole pending ≡ true) ⊎ (kept_object found ≡ Some (object found))
@@ -131,5 +133,5 @@ module _ (after : Step → ℕ → ℕ) (stays : (s : Step) (pending : ℕ) → 
   object_found pending done found is (inl e) = rw e (ap (λ ms. Some (object ms)) (sym (members_whole pending done e) ∙ is))
   object_found pending done found is (inr f) = elim (cases_Bool (is_whole pending)) [
     | inl e ↦ rw e (ap (λ ms. Some (object ms)) (sym (members_whole pending done e) ∙ is))
-    | inr e ↦ rw (e, is) f
+    | inr e ↦ rw (e, is, f) (placed_some pending (object found))
   ]

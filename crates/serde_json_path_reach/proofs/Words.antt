@@ -11,9 +11,9 @@ pub use Rattle.serde_json.specs.Read.{max_depth, number_from, of_items, of_json,
 pub use Rattle.serde_json.specs.declared.value.Value.{the_lemmas}
 pub use Rattle.serde_json_path_core.proofs.Words.{Admits, AdmitsBy, AdmitsIn, AllZip, Answers, AnswersYes, AreArguments, Argument, Arguments, Basic, BelongsTo, Bool, Bor, Branch, Call, Compared, Data, Derives, Entry, Equal, Err, Exists, FunctionSet, Greater, Holds, HoldsAll, HoldsBasic, HoldsTest, IfOk, IsArgument, IsComparedAs, IsIn, IsPositionOf, IsResult, IsTakenAs, IsTruthOf, Items, Kind, Less, List, Located, LogicalAnd, LogicalOr, MayDescend, Members, Node, None, NotIf, Null, Num, Ok, Operand, Option, Ordering, Part, Query, QueryKind, Result, Segment, SegmentKind, Segments, Selector, Selectors, SelectsIndex, SelectsPosition, Some, Step, Term, Triple, Value, [], and, and_in, ands_in, ap, append-nil, argument, argument_in, arguments_in, arith, array, at, basic_in, boolean, branch_at, branch_in, branches, branches_named, by_name, by_position, bytes_eq, bytes_eq-Decides, call, called, cases_Bool, child, child_at, common_steps, cond, current, descendant, dot_name, dot_wildcard, drop, drop_all, false, filter, flat_map, flat_map-append, get_item, get_member, get_or, in_append, in_flat_map, index, inl, inr, ints, is_at, is_eq, is_eq-slice_cmp, is_segment, item, items_len, items_view, kind_of, length, length-drop, literal, location_of, logical_argument, long_hand, map, map-append, match_ordering, max, member, members_view, min, name, nat_cmp, nat_list_cmp_total, negsuc, no_and, no_arguments, no_items, no_members, no_or, no_segments, no_selectors, nodes_in, none-some, null, number, object, of_logical, of_nodes, of_value, one_is, operand, option_and_then, option_and_then_some, option_map, or, ordering_reverse, ors_in, params_of, paren, parts_bound, pos, put, queried, query, refl, relation, root, rules, same_Some, segment, segment_in, segment_kind_in, segment_kind_view, segments_at, segments_of, selector, selector_view, selectors_list, selectors_of, slice, slice_cmp, slice_get, step_view, string, string_bytes, subst, suc, sym, take, take_all, take_more, test, tied_itself, tree_of, true, true≢false, value, view, view-Array, wildcard, within_get, zero, ℕ, ℤ, ◌*◌, ◌++◌, ◌+◌, ◌-◌, ◌<◌, ◌||◌, ◌↔◌, ◌∙◌, ◌∷◌, ◌≡◌, ◌≤◌, ◌⊎◌}
 pub use Rattle.serde_json_path_core.specs.Selects.{Selects}
-pub use Rattle.serde_json_path_reach.specs.Alike.{SelectAlike, trees_of}
-pub use Rattle.serde_json_path_reach.specs.Inside.Bits.{is_whole}
-pub use Rattle.serde_json_path_reach.specs.Inside.Kept.{any_kept, in_place, in_places, inside, items_inside, kept, kept_array, kept_member, kept_object, members_inside}
+pub use Rattle.serde_json_path_reach.specs.Alike.{SelectAlike, SelectPlacesAlike, SelectsPlaces, trees_of}
+pub use Rattle.serde_json_path_reach.specs.Inside.Bits.{is_end, is_place, is_whole}
+pub use Rattle.serde_json_path_reach.specs.Inside.Kept.{any_kept, in_place, in_places, inside, items_inside, kept, kept_array, kept_member, kept_object, members_inside, placed}
 pub use Rattle.serde_json_path_reach.specs.Inside.Leaves.{leaf_of}
 pub use Rattle.serde_json_path_reach.specs.Inside.Queries.{queries_in_and, queries_in_argument, queries_in_arguments, queries_in_basic, queries_in_branch, queries_in_branches, queries_in_call, queries_in_operand, queries_in_or, queries_in_segment, queries_in_segments, queries_in_selector, queries_in_selectors, queries_of}
 pub use Rattle.serde_json_path_reach.specs.Inside.Rows.{AddsRow, AreRight, AsksAll, Covers, Gains, Grows, Includes, IsRight, after, after_rows, kind_of_row, may_admit_by_row, onward, rest_of_row, segment_kind_at, segment_of_row, selectors_of_row}
@@ -25,8 +25,9 @@ pub use Rattle.serde_json_path_syntax.specs.Branch.{a_basic, a_call, a_query, a_
 pub use Rattle.serde_json_path_syntax.specs.Flat.{call_in, operand_in, or_in, segment_at, selector_in, selectors_in}
 pub use Rattle.serde_json_path_syntax.specs.Words.{number_of}
 pub use Rattle.serde_json_path_syntax.specs.declared.checked.Checked.{Checked}
-pub use Rattle.std.proofs.Common.{IsSome, OnOk, add-one, drop-cons, eq-eqb, if◌then◌else◌, replicate, ◌==◌}
-pub use Rattle.std.proofs.lemmas.Nat.Bits.{bit_at-zero, bit_at_and, bit_at_or, same_from_bits}
+pub use Rattle.std.proofs.Common.{IsSome, OnOk, ◌%◌, ◌&&◌, ◌/◌, add-one, drop-cons, eq-eqb, if◌then◌else◌, replicate, ◌==◌}
+pub use Rattle.std.proofs.lemmas.Nat.{and_comm}
+pub use Rattle.std.proofs.lemmas.Nat.Bits.{and_pow, bit_at-suc, bit_at-zero, bit_at_and, bit_at_lowest, bit_at_or, same_from_bits}
 pub use Rattle.std.specs.Int.{bit_at}
 pub use Rattle.std.specs.Int.Bits.{bit_and, bit_or}
 pub use Rattle.std.specs.Map.{remove_entry}

@@ -6,7 +6,7 @@ ghost use Rattle.serde_json.specs.Errors.{IsMemory, IsOfText};
 ghost use Rattle.serde_json.specs.Read.{read as read_text};
 ghost use Rattle.serde_json.specs.View.{view};
 ghost use Rattle.serde_json_path_syntax.specs.Words.{AreOfKind, is_segment, nodes_in, parts_bound};
-ghost use Rattle.serde_json_path_reach.specs.Alike.{IsReadFor, trees_of};
+ghost use Rattle.serde_json_path_reach.specs.Alike.{IsReadFor, IsReadForPlaces, trees_of};
 
 use crate::plan::Plan;
 use crate::read::read_reached;
@@ -20,8 +20,8 @@ use std::boxed::Box;
 use std::cell::Cell;
 use std::str::from_utf8;
 
-/// How many rows a plan may have: each has a bit of its own, and one bit says that all is kept.
-const MOST_ROWS: usize = 63;
+/// How many rows a plan may have: each has a bit of its own, one bit says that all is kept, and one that the place is.
+const MOST_ROWS: usize = 61;
 
 /// Documents that have fewer bytes in all are read whole: that takes less than to make room for reading by tokens.
 const SHORT: usize = 1024;
@@ -61,7 +61,7 @@ pub struct DocumentReader<'q> {
 impl<'q> DocumentReader<'q> {
     ghost use Rattle.std.specs.Prelude.{List};
     ghost use Rattle.serde_json_path_syntax.specs.Tree.{Query};
-    ghost use Rattle.serde_json_path_reach.specs.Readers.{KeepsFor};
+    ghost use Rattle.serde_json_path_reach.specs.Readers.{Keeps, KeepsFor, KeepsPlacesFor};
 
     /// A reader for the paths, which serves many documents. An error comes only where memory is refused.
     pub fn new(alloc: Global, paths: &[&'q Checked]) -> Result<DocumentReader<'q>, AllocError>
@@ -71,7 +71,29 @@ impl<'q> DocumentReader<'q> {
         for path in paths {
             are_narrow = are_narrow && is_narrow(path, path.segments());
         }
-        let plan = Plan::of(alloc, paths)?;
+        DocumentReader::with(alloc, paths, false, are_narrow)
+    }
+
+    /// A reader that keeps of nodes their places alone, for one who asks where they are, or whether and how many there are.
+    ///
+    /// What a path selects from a value that it reads has the locations of the nodes; their values may be `null`, and arrays and
+    /// objects may lack what no path comes by.
+    pub fn of_places(alloc: Global, paths: &[&'q Checked]) -> Result<DocumentReader<'q>, AllocError>
+        ensures { IfOk result (λ reader. KeepsPlacesFor reader (trees_of paths.now)) }
+    {
+        DocumentReader::with(alloc, paths, true, true)
+    }
+
+    /// A reader that has read nothing yet.
+    fn with(
+        alloc: Global,
+        paths: &[&'q Checked],
+        places: bool,
+        are_narrow: bool,
+    ) -> Result<DocumentReader<'q>, AllocError>
+        ensures { IfOk result (λ reader. Keeps reader places (trees_of paths.now)) }
+    {
+        let plan = Plan::of(alloc, paths, places)?;
         Ok(DocumentReader {
             plan,
             are_narrow,
@@ -89,8 +111,10 @@ impl<'q> DocumentReader<'q> {
 
     /// What the paths can reach of the document that the bytes are, where these are one and memory is there.
     fn reached(&self, alloc: Global, bytes: &[u8]) -> Result<Value, Refused>
-        ensures { (qs : List Query) → KeepsFor self.now qs
+        ensures values { (qs : List Query) → KeepsFor self.now qs
             → IfOk result (λ v. IsReadFor bytes.now qs (view v)) }
+        ensures places { (qs : List Query) → KeepsPlacesFor self.now qs
+            → IfOk result (λ v. IsReadForPlaces bytes.now qs (view v)) }
     {
         let Ok(text) = from_utf8(bytes) else {
             return Err(Refused);
@@ -108,11 +132,13 @@ impl<'q> DocumentReader<'q> {
     }
 
     /// What the paths can reach of the document that the bytes are: each selects from it what it selects from the whole
-    /// document. Bytes that are no document are refused as [`Value::from_slice`] refuses them. For paths with more than 63
-    /// segments, those in filters among them, the document is read whole.
+    /// document, or, by a reader of places, the same locations. Bytes that are no document are refused as [`Value::from_slice`]
+    /// refuses them. For paths with more than 61 segments, those in filters among them, the document is read whole.
     pub fn read(&self, alloc: Global, bytes: &[u8]) -> Result<Value, Error>
         ensures ok { (qs : List Query) → KeepsFor self.now qs
             → IfOk result (λ v. IsReadFor bytes.now qs (view v)) }
+        ensures places { (qs : List Query) → KeepsPlacesFor self.now qs
+            → IfOk result (λ v. IsReadForPlaces bytes.now qs (view v)) }
         ensures err { IfErr result (λ e. ¬ IsMemory e → IsUtf8 bytes.now
             → read_text bytes.now ≡ None) }
         ensures memory { IfErr result (λ e. IsMemory e → 0 < length bytes.now) }
@@ -131,7 +157,7 @@ impl<'q> DocumentReader<'q> {
 /// What the paths can reach of the document that the bytes are: each selects from it what it selects from the whole document.
 ///
 /// Bytes that are no document are refused as [`Value::from_slice`] refuses them. A document of fewer than 1,024 bytes is read whole,
-/// and any for paths with more than 63 segments, those in filters among them.
+/// and any for paths with more than 61 segments, those in filters among them.
 ///
 /// ```text
 /// let document = read_for(alloc, bytes, &[path.tree()])?;

@@ -1,8 +1,8 @@
 //! What some queries ask of a document.
 
-ghost use Rattle.std.specs.Prelude.{◌<◌};
+ghost use Rattle.std.specs.Prelude.{◌≡◌, ◌<◌, ◌%◌};
 
-use crate::bits::{WHOLE, is_whole, meets};
+use crate::bits::{PLACE, WHOLE, is_whole, meets};
 use crate::row::{Row, only_name};
 use serde_json_path_core::{Checked, Part, PathElement, QueryKind, SegmentKind};
 use serde_json_path_syntax::{Basic, Node, Operand, Segment, Selector};
@@ -16,38 +16,47 @@ pub(crate) struct Plan<'q> {
     /// The bit that was given last.
     last: u64,
     ghost given: { 0 < last },
+    ghost apart: { last % 4 ≡ 0 },
 }
 
 impl<'q> Plan<'q> {
-    ghost use Rattle.std.specs.Prelude.{◌≡◌, ◌≤◌, ℕ, length, IfOk, OnOk};
+    ghost use Rattle.std.specs.Prelude.{◌≤◌, ℕ, length, false, IfOk, OnOk};
     ghost use Rattle.serde_json_path_nodes.specs.Views.{step_view};
-    ghost use Rattle.serde_json_path_syntax.specs.Words.{AreOfKind, IsOfKind, branch_at, branches, branches_named, is_segment, nodes_in, number_of, parts_bound, segment_at, segments_at, tree_of};
+    ghost use Rattle.serde_json_path_syntax.specs.Words.{AreOfKind, IsOfKind, branch_at, branches, branches_named, is_segment, nodes_in, number_of, parts_bound, segment_at, segments_at, segments_of, tree_of};
     ghost use Rattle.serde_json_path_reach.specs.Alike.{trees_of};
-    ghost use Rattle.serde_json_path_reach.specs.Inside.Queries.{queries_of, queries_in_branch, queries_in_branches, queries_in_segments};
+    ghost use Rattle.serde_json_path_reach.specs.Inside.Queries.{queries_in_branch, queries_in_branches, queries_in_segments};
+    ghost use Rattle.serde_json_path_reach.specs.Inside.Bits.{meets};
     ghost use Rattle.serde_json_path_reach.specs.Inside.Rows as rows;
     ghost use Rattle.serde_json_path_reach.specs.Inside.Rows.{AddsRow, AreRight, AsksAll, Gains, Includes, segment_kind_at};
 
-    /// The plan of some queries.
-    pub(crate) fn of(alloc: Global, paths: &[&'q Checked]) -> Result<Plan<'q>, AllocError>
+    /// The plan of some queries. `places` says whether the places of their nodes are enough.
+    pub(crate) fn of(
+        alloc: Global,
+        paths: &[&'q Checked],
+        places: bool,
+    ) -> Result<Plan<'q>, AllocError>
         ensures right { IfOk result (λ plan. AreRight plan.rows.items) }
-        ensures asks { IfOk result (λ plan. AsksAll plan (trees_of paths.now)) }
+        ensures asks { IfOk result (λ plan. AsksAll plan places (trees_of paths.now)) }
     {
         let mut plan = Plan {
             rows: Vec::new(alloc),
             at_root: 0,
-            last: WHOLE,
+            last: PLACE * 2,
         };
         for path in paths {
-            plan.add_path(path)?;
+            plan.add_path(path, places)?;
         }
         Ok(plan)
     }
 
     /// Adds rows for the query of a path, which is pending at the root.
-    fn add_path(&mut self, path: &'q Checked) -> Result<(), AllocError>
-        ensures { OnOk result ((asked : ℕ) × Gains self.old self.new asked (queries_of (tree_of path.now))) }
+    fn add_path(&mut self, path: &'q Checked, places: bool) -> Result<(), AllocError>
+        ensures inside { OnOk result ((asked : ℕ) × Gains self.old self.new asked
+            (queries_in_segments (segments_of (tree_of path.now)))) }
+        ensures itself { OnOk result (Includes self.new.rows.items places self.new.at_root
+            (segments_of (tree_of path.now))) }
     {
-        let (first, _) = self.add_segments(path, path.segments())?;
+        let (first, _) = self.add_segments(path, path.segments(), places)?;
         self.at_root |= first;
         Ok(())
     }
@@ -72,6 +81,7 @@ impl<'q> Plan<'q> {
     /// A bit that no row has yet, or, where all are given, the last of them.
     fn fresh(&mut self) -> u64
         ensures some { 0 < result }
+        ensures apart { meets 2 result ≡ false }
         ensures rows { self.new.rows ≡ self.old.rows }
         ensures root { self.new.at_root ≡ self.old.at_root }
     {
@@ -87,12 +97,14 @@ impl<'q> Plan<'q> {
         query: &'q Checked,
         segment: Part,
         rest: &'q [Part],
+        places: bool,
         next: u64,
     ) -> Result<u64, AllocError>
         requires within { number_of segment < length (nodes_in query.now) }
         requires kind { IsOfKind is_segment (nodes_in query.now) segment }
-        ensures { IfOk result (λ bit. AddsRow self.old self.new (segment_kind_at (nodes_in query.now) segment)
-            (segment_at (nodes_in query.now) segment) (segments_at (nodes_in query.now) rest.now) next bit) }
+        ensures { IfOk result (λ bit. AddsRow self.old self.new
+            (segment_kind_at (nodes_in query.now) segment) (segment_at (nodes_in query.now) segment)
+            (segments_at (nodes_in query.now) rest.now) places next bit) }
     {
         let bit = self.fresh();
         let again = match query.segment_kind(segment) {
@@ -104,6 +116,7 @@ impl<'q> Plan<'q> {
             segment,
             rest,
             name: only_name(query, segment),
+            places,
             bit,
             again,
             next,
@@ -112,21 +125,22 @@ impl<'q> Plan<'q> {
     }
 
     /// Adds a row for each of the segments. Gives what is pending where they begin, and what is pending where their filters
-    /// are asked.
+    /// are asked. `places` says whether places are enough of what they end at.
     #[cycle(plan)]
     fn add_segments(
         &mut self,
         query: &'q Checked,
         segments: &'q [Part],
+        places: bool,
     ) -> Result<(u64, u64), AllocError>
         requires within { parts_bound segments.now ≤ length (nodes_in query.now) }
         requires are { AreOfKind is_segment (nodes_in query.now) segments.now }
         ensures gains { IfOk result (λ pending. Gains self.old self.new pending.1
             (queries_in_segments (segments_at (nodes_in query.now) segments.now))) }
-        ensures first { IfOk result (λ pending. Includes self.new.rows.items pending.0
+        ensures first { IfOk result (λ pending. Includes self.new.rows.items places pending.0
             (segments_at (nodes_in query.now) segments.now)) }
     {
-        let mut first = WHOLE;
+        let mut first = if places { PLACE } else { WHOLE };
         let mut asked = 0;
         let mut number = segments.len();
         'segments: while 0 < number {
@@ -134,7 +148,7 @@ impl<'q> Plan<'q> {
             let segment = segments[number];
             let here = self.add(query, segment)?;
             let rest = &segments[number + 1..];
-            first = self.add_row(query, segment, rest, first | here)?;
+            first = self.add_row(query, segment, rest, places, first | here)?;
             asked |= here;
         }
         Ok((first, asked))
@@ -163,7 +177,7 @@ impl<'q> Plan<'q> {
     {
         match query.node(part) {
             Node::Query { kind, segments } => {
-                let (first, asked) = self.add_segments(query, segments.as_slice())?;
+                let (first, asked) = self.add_segments(query, segments.as_slice(), false)?;
                 match kind {
                     QueryKind::Root => {
                         self.at_root |= first;

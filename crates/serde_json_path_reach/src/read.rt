@@ -1,16 +1,16 @@
 //! Reads of a text what is pending there.
 
-ghost use Rattle.std.specs.Prelude.{◌≡◌, ◌<◌, ◌++◌, length, option_map, replicate, Some, IfOk, OnOk};
+ghost use Rattle.std.specs.Prelude.{◌≡◌, ◌<◌, ◌++◌, length, option_map, ◌⊎◌, replicate, None, Some, IfOk, IsTrue, OnOk};
 ghost use Rattle.json.specs.Json.{value};
 ghost use Rattle.serde_json.specs.Data.{Data, Items, Members, array, object, no_members};
 ghost use Rattle.serde_json.specs.Read.{read as read_text};
 ghost use Rattle.serde_json.specs.View.{view};
 ghost use Rattle.serde_json.specs.declared.value.Value.TheVariants.{Null};
-ghost use Rattle.serde_json_path_reach.specs.Inside.Kept.{kept};
+ghost use Rattle.serde_json_path_reach.specs.Inside.Kept.{kept, placed};
 ghost use Rattle.serde_json_path_reach.specs.Inside.Rows.{after};
 ghost use Rattle.serde_json_path_reach.specs.Inside.Tokens.{AreItems, AreMembers, IsRead};
 
-use crate::bits::is_whole;
+use crate::bits::{PLACE, is_place, is_whole};
 use crate::leaf::{leaf, pass_leaf};
 use crate::passed::pass;
 use crate::plan::Plan;
@@ -63,9 +63,9 @@ fn read(
         × (option_map view v ≡ kept (after plan.now.rows.items) pending d)) }
     ensures shorter { OnOk result (length reader.new < length reader.old) }
 {
-    if pending == 0 {
+    if is_bare(pending) {
         pass(reader, depth)?;
-        return Ok(None);
+        return Ok(place(pending));
     }
     let token = reader.next().ok_or(Refused)?;
     match token {
@@ -84,7 +84,7 @@ fn read(
         _ => {
             if !is_whole(pending) {
                 pass_leaf(token)?;
-                return Ok(None);
+                return Ok(place(pending));
             }
             Ok(Some(leaf(alloc, token)?))
         }
@@ -129,7 +129,7 @@ fn read_items(
         }
     }
     if found.is_empty() && !is_whole(pending) {
-        return Ok(None);
+        return Ok(place(pending));
     }
     push_nulls(&mut found, passed)?;
     Ok(Some(Value::Array(found)))
@@ -169,9 +169,29 @@ fn read_members(
         }
     }
     if found.is_empty() && !is_whole(pending) {
-        return Ok(None);
+        return Ok(place(pending));
     }
     Ok(Some(Value::Object(found)))
+}
+
+/// Whether nothing is pending at a value, or its place alone.
+#[inline(always)]
+fn is_bare(pending: u64) -> bool
+    ensures { IsTrue result → (pending ≡ 0) ⊎ (pending ≡ 2) }
+{
+    pending == 0 || pending == PLACE
+}
+
+/// What is kept of a value of which nothing is kept inside.
+#[inline(always)]
+fn place(pending: u64) -> Option<Value>
+    ensures { option_map view result ≡ placed pending None }
+{
+    if is_place(pending) {
+        Some(Value::Null)
+    } else {
+        None
+    }
 }
 
 /// Pushes so many nulls.

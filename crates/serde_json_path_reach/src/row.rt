@@ -1,9 +1,10 @@
 //! Segments that may be pending at a value.
 
-ghost use Rattle.std.specs.Prelude.{◌≡◌, ◌<◌, length, true};
+ghost use Rattle.std.specs.Prelude.{◌≡◌, ◌<◌, length, true, false};
 ghost use Rattle.serde_json_path_nodes.specs.Location.{Step};
 ghost use Rattle.serde_json_path_syntax.specs.Words.{IsOfKind, is_segment, nodes_in, number_of, segment_at};
 ghost use Rattle.serde_json_path_syntax.specs.Stages.{selectors_of};
+ghost use Rattle.serde_json_path_reach.specs.Inside.Bits.{meets};
 ghost use Rattle.serde_json_path_reach.specs.Inside.Steps.{any_may_admit, may_admit_by};
 
 use crate::steps::may_admit;
@@ -36,12 +37,15 @@ pub(crate) struct Row<'q> {
     pub(crate) rest: &'q [Part],
     /// The name of the segment's selector, where that is its only one.
     pub(crate) name: Option<&'q str>,
+    /// Whether places are enough of what the segments end at.
+    pub(crate) places: bool,
     /// Set where the row is pending.
     pub(crate) bit: u64,
     /// What stays pending at all children: the bit of a descendant segment.
     pub(crate) again: u64,
     /// What is pending at a child that the segment may select.
     pub(crate) next: u64,
+    pub ghost apart: { meets 2 bit ≡ false },
     ghost within: { number_of segment < length (nodes_in query.now) },
     ghost kind: { IsOfKind is_segment (nodes_in query.now) segment },
 }

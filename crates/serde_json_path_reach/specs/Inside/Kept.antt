@@ -1,9 +1,10 @@
 -- What is kept of a value. One that a query may end at is kept whole; of any other, the children of which something is kept.
--- A member of which nothing is kept is dropped, and an item becomes null, so that the others keep their positions.
+-- A member of which nothing is kept is dropped, and an item becomes null, so that the others keep their positions. Where the
+-- place of a value is enough, and nothing of it is kept, it is null.
 use Rattle.std.specs.Prelude.{ℕ, suc, List, [], ◌∷◌, Bool, true, false, Option, Some, None, if◌then◌else◌}
 use Rattle.serde_json.specs.Data.{Data, null, array, object, Items, no_items, item, Members, no_members, member}
 use Rattle.serde_json_path_nodes.specs.Location.{Step, by_name, by_position}
-use Rattle.serde_json_path_reach.specs.Inside.Bits.{is_whole}
+use Rattle.serde_json_path_reach.specs.Inside.Bits.{is_place, is_whole}
 
 -- null stands for what is dropped
 abbrev pub in_place : Option Data → Data
@@ -33,9 +34,13 @@ abbrev pub kept_member : List ℕ → Option Data → Members → Members
 kept_member k None ms = ms
 kept_member k (Some d) ms = member k d ms
 
+-- what is kept inside, and null, at least, where the value's place is kept
+abbrev pub placed : ℕ → Option Data → Option Data
+placed pending inside = if is_place pending then Some (in_place inside) else inside
+
 -- the whole value if some query may end at it, else what is kept inside
 abbrev pub whole_or : ℕ → Data → Option Data → Option Data
-whole_or pending d inside = if is_whole pending then Some d else inside
+whole_or pending d inside = if is_whole pending then Some d else placed pending inside
 
 -- given what is pending after a step
 module _ (after : Step → ℕ → ℕ) where
@@ -55,6 +60,6 @@ module _ (after : Step → ℕ → ℕ) where
     members_inside pending (member k d ms) =
         kept_member k (whole_or (after (by_name k) pending) d (inside (after (by_name k) pending) d)) (members_inside pending ms)
 
-  -- what is kept of a value, or Nothing
+  -- what is kept of a value, if anything
   abbrev pub kept : ℕ → Data → Option Data
   kept pending d = whole_or pending d (inside pending d)

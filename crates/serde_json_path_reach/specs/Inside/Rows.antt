@@ -1,14 +1,14 @@
 -- The rows of a plan: which segments are pending at a value, and what is pending at its children.
-use Rattle.std.specs.Prelude.{◌≡◌, ◌⊎◌, ℕ, List, [], ◌∷◌, flat_map, Bool, true, if◌then◌else◌}
+use Rattle.std.specs.Prelude.{◌≡◌, ◌⊎◌, ℕ, List, [], ◌∷◌, Bool, true, false, if◌then◌else◌}
 use Rattle.std.specs.Int.Bits.{bit_or}
 use Rattle.serde_json_path_nodes.specs.Location.{Step}
 use Rattle.serde_json_path_syntax.specs.Flat.{branch_at, segment_at, segment_kind_in, segments_at}
 use Rattle.serde_json_path_syntax.specs.Lists.{IsIn}
 use Rattle.serde_json_path_syntax.specs.Parts.{nodes_in, number_of}
 use Rattle.serde_json_path_syntax.specs.Stages.{selectors_of}
-use Rattle.serde_json_path_syntax.specs.Tree.{Query, query, root, current, Segments, no_segments, segment, SegmentKind, descendant, Segment, Selector}
-use Rattle.serde_json_path_reach.specs.Inside.Bits.{is_whole, meets}
-use Rattle.serde_json_path_reach.specs.Inside.Queries.{queries_of, queries_in_segment}
+use Rattle.serde_json_path_syntax.specs.Tree.{Query, query, root, current, segments_of, Segments, no_segments, segment, SegmentKind, descendant, Segment, Selector}
+use Rattle.serde_json_path_reach.specs.Inside.Bits.{is_end, is_whole, meets}
+use Rattle.serde_json_path_reach.specs.Inside.Queries.{queries_in_segment, queries_in_segments}
 use Rattle.serde_json_path_reach.specs.Inside.Steps.{any_may_admit, may_admit_by}
 use Rattle.serde_json_path_syntax.specs.declared.node.Node.{Node}
 use Rattle.serde_json_path_syntax.specs.declared.node.Part.{Part}
@@ -32,12 +32,12 @@ selectors_of_row row = selectors_of (segment_of_row row)
 abbrev pub rest_of_row : Row → Segments
 rest_of_row row = segments_at (nodes_in row.query.now) row.rest.now
 
--- the segments are pending: all is kept there, or it is one of their rows
-abbrev pub Includes : List Row → ℕ → Segments → Type 0
-Includes rows pending no_segments = is_whole pending ≡ true
-Includes rows pending (segment kind seg more) =
+-- the segments are pending: all is kept there, or it is one of their rows; of what they end at the places may be enough
+abbrev pub Includes : List Row → Bool → ℕ → Segments → Type 0
+Includes rows places pending no_segments = is_end places pending ≡ true
+Includes rows places pending (segment kind seg more) =
     (is_whole pending ≡ true)
-    ⊎ ((row : Row) × IsIn row rows × (meets pending row.bit ≡ true) × (segment (kind_of_row row) (segment_of_row row) (rest_of_row row) ≡ segment kind seg more))
+    ⊎ ((row : Row) × IsIn row rows × (row.places ≡ places) × (meets pending row.bit ≡ true) × (segment (kind_of_row row) (segment_of_row row) (rest_of_row row) ≡ segment kind seg more))
 
 -- ---- after a step
 
@@ -60,12 +60,12 @@ after rows s pending = if is_whole pending then 1 else after_rows rows s pending
 -- ---- rows that are right
 
 -- after a segment the rest is pending, and each `@` query of the segment's filters
-pub record IsNext (rows : List Row) (next : ℕ) (seg : Segment) (more : Segments) : Type 0 where
-  pub rest : Includes rows next more
-  pub asked : (segs : Segments) → IsIn (query current segs) (queries_in_segment seg) → Includes rows next segs
+pub record IsNext (rows : List Row) (places : Bool) (next : ℕ) (seg : Segment) (more : Segments) : Type 0 where
+  pub rest : Includes rows places next more
+  pub asked : (segs : Segments) → IsIn (query current segs) (queries_in_segment seg) → Includes rows false next segs
 
 pub record IsRight (rows : List Row) (row : Row) : Type 0 where
-  pub next : IsNext rows row.next (segment_of_row row) (rest_of_row row)
+  pub next : IsNext rows row.places row.next (segment_of_row row) (rest_of_row row)
   pub again : kind_of_row row ≡ descendant → meets row.again row.bit ≡ true
   pub named : (s : Step) → any_may_admit (selectors_of_row row) s ≡ true → may_admit_by_row row s ≡ true
 
@@ -74,13 +74,13 @@ AreRight rows = (row : Row) → IsIn row rows → IsRight rows row
 
 -- among some queries each `$` query is pending at the root, and each `@` query is by `asked`
 pub record Covers (rows : List Row) (at_root asked : ℕ) (qs : List Query) : Type 0 where
-  pub dollar : (segs : Segments) → IsIn (query root segs) qs → Includes rows at_root segs
-  pub at : (segs : Segments) → IsIn (query current segs) qs → Includes rows asked segs
+  pub dollar : (segs : Segments) → IsIn (query root segs) qs → Includes rows false at_root segs
+  pub at : (segs : Segments) → IsIn (query current segs) qs → Includes rows false asked segs
 
 -- what was pending still is
 pub record Grows (old new : Plan) : Type 0 where
-  pub by_rows : (pending : ℕ) (segs : Segments) → Includes old.rows.items pending segs → Includes new.rows.items pending segs
-  pub at_root : (segs : Segments) → Includes old.rows.items old.at_root segs → Includes new.rows.items new.at_root segs
+  pub by_rows : (places : Bool) (pending : ℕ) (segs : Segments) → Includes old.rows.items places pending segs → Includes new.rows.items places pending segs
+  pub at_root : (places : Bool) (segs : Segments) → Includes old.rows.items places old.at_root segs → Includes new.rows.items places new.at_root segs
 
 -- a plan grows by rows for some queries
 pub record Gains (old new : Plan) (asked : ℕ) (qs : List Query) : Type 0 where
@@ -88,11 +88,12 @@ pub record Gains (old new : Plan) (asked : ℕ) (qs : List Query) : Type 0 where
   pub grows : Grows old new
   pub covers : Covers new.rows.items new.at_root asked qs
 
--- each `$` query among the queries and in their filters is pending at the root
-abbrev pub AsksAll : Plan → List Query → Type 0
-AsksAll plan qs = (segs : Segments) → IsIn (query root segs) (flat_map queries_of qs) → Includes plan.rows.items plan.at_root segs
+-- the segments of each query are pending at the root, and those of each `$` query in their filters
+pub record AsksAll (plan : Plan) (places : Bool) (qs : List Query) : Type 0 where
+  pub themselves : (q : Query) → IsIn q qs → Includes plan.rows.items places plan.at_root (segments_of q)
+  pub inside : (q : Query) (segs : Segments) → IsIn q qs → IsIn (query root segs) (queries_in_segments (segments_of q)) → Includes plan.rows.items false plan.at_root segs
 
 -- a row for a segment and the rest, of which the bit is given
-abbrev pub AddsRow : Plan → Plan → SegmentKind → Segment → Segments → ℕ → ℕ → Type 0
-AddsRow old new kind seg rest next bit =
-    IsNext old.rows.items next seg rest → Gains old new 0 [] × Includes new.rows.items bit (segment kind seg rest)
+abbrev pub AddsRow : Plan → Plan → SegmentKind → Segment → Segments → Bool → ℕ → ℕ → Type 0
+AddsRow old new kind seg rest places next bit =
+    IsNext old.rows.items places next seg rest → Gains old new 0 [] × Includes new.rows.items places bit (segment kind seg rest)

@@ -1,4 +1,4 @@
-use Rattle.serde_json_path_reach.proofs.Words.{arith, branches, is_segment, nodes_in, one_is, rules, within_get}
+use Rattle.serde_json_path_reach.proofs.Words.{branches, is_segment, nodes_in, one_is, rules, within_get}
 use Rattle.serde_json_path_reach.proofs.document.is_narrow.Goals as goal
 
 pub selector_ref-selector-requires-clause-within : goal.selector_ref-selector-requires-clause-within

@@ -3,17 +3,17 @@ use Rattle.serde_json_path_reach.proofs.Words.{None, Null, Some, [], after, afte
 use Rattle.serde_json_path_reach.proofs.Plans.{if_ok}
 use Rattle.serde_json_path_reach.proofs.Puts.{without, put_kept, kept_put, rising_put}
 use Rattle.serde_json_path_reach.proofs.Reading.{none_so_far, passed_one, found_one, nulls, has_items, next_place, array_dropped, array_found, object_dropped, object_found, kept_whole, kept_not, kept_there}
-use Rattle.serde_json_path_reach.proofs.Rows.{stays, nothing_kept}
+use Rattle.serde_json_path_reach.proofs.Rows.{stays, bare_kept}
 use Rattle.serde_json_path_reach.proofs.Tokens.{joined, items_begun, items_on, items_ended, members_begun, members_on, members_ended, array_read, object_read, some_of, leaf_read, leaf_inside}
 use Rattle.serde_json_path_reach.proofs.Values.{items_view-append, items_view-nulls, pushed, members_view-remove_entry, nil, has_view, has_members}
 use Rattle.serde_json_path_reach.proofs.read.+read.Goals as goal
 use Rattle.serde_json_path_reach.proofs.read.+read.Goals.{read_items-else-is_empty-via-then-is_empty+else-not-is_whole, read_items-else-is_empty-via-else-is_empty, read_members-else-is_empty-via-then-is_empty+else-not-is_whole, read_members-else-is_empty-via-else-is_empty}
 
-pub read-returns-then-pending-eq0-clause-ok : goal.read-returns-then-pending-eq0-clause-ok
-read-returns-then-pending-eq0-clause-ok t c =
+pub read-returns-then-is_bare-clause-ok : goal.read-returns-then-is_bare-clause-ok
+read-returns-then-is_bare-clause-ok t c =
     let (d, read) = c.in_ok-pass.ensures.ok in
-    let none : c.args.pending ≡ 0 = omega arith in
-    (d, read, rw none (sym (nothing_kept c.args.plan.now.rows.items d)))
+    let bare : (c.args.pending ≡ 0) ⊎ (c.args.pending ≡ 2) = c.is_bare.ensures c.if-is_bare.true in
+    (d, read, c.place.ensures ∙ sym (bare_kept c.args.plan.now.rows.items c.args.pending d bare))
 
 pub read-returns-then-not-is_whole-clause-ok : goal.read-returns-then-not-is_whole-clause-ok
 read-returns-then-not-is_whole-clause-ok t c =
@@ -21,7 +21,7 @@ read-returns-then-not-is_whole-clause-ok t c =
     let (d, e) = some_of _ c.in_ok-pass_leaf-in_default.ensures in
     let unset : c.is_whole.result ≡ false = grind arith in
     let dropped = kept_not (after c.args.plan.now.rows.items) c.args.pending d (leaf_inside (after c.args.plan.now.rows.items) c.args.pending (token_of c.in_ok-token.token) d e) (sym c.is_whole.ensures ∙ unset) in
-    (d, rw first (leaf_read c.args.depth (token_of c.in_ok-token.token) c.next.new.self d e), sym dropped)
+    (d, rw first (leaf_read c.args.depth (token_of c.in_ok-token.token) c.next.new.self d e), c.place-then-not-is_whole.ensures ∙ sym dropped)
 
 pub read-returns-in_ok-leaf-in_default-clause-ok : goal.read-returns-in_ok-leaf-in_default-clause-ok
 read-returns-in_ok-leaf-in_default-clause-ok t c =
@@ -91,7 +91,7 @@ read_items-returns-then-not-is_whole-clause-ok t c =
     let empty : l.found.items ≡ [] = nil l.found.items (grind (arith, common_steps)) in (
       i.done,
       items_ended _ _ l.reader c.take_end_array.new.self i.done i.tokens (grind arith),
-      sym (array_dropped (after c.args.plan.now.rows.items) (stays c.args.plan.now.rows.items) c.args.pending i.done (items_view l.found.items) l.passed i.so_far (sym c.is_whole.ensures ∙ unset) (ap (λ vs. has_items (items_view vs)) empty)),
+      c.place.ensures ∙ sym (array_dropped (after c.args.plan.now.rows.items) (stays c.args.plan.now.rows.items) c.args.pending i.done (items_view l.found.items) l.passed i.so_far (sym c.is_whole.ensures ∙ unset) (ap (λ vs. has_items (items_view vs)) empty)),
     )
 
 pub read_items-returns-clause-ok : goal.read_items-returns-clause-ok
@@ -156,7 +156,7 @@ read_members-returns-then-not-is_whole-clause-ok t c =
     let empty : l.found.entries ≡ [] = nil l.found.entries (grind (arith, common_steps)) in (
       i.done,
       members_ended _ _ l.reader c.next_key.new.self i.done i.tokens (grind arith),
-      sym (object_dropped _ (stays c.args.plan.now.rows.items) c.args.pending i.done (sym i.kept ∙ ap members_view empty) (sym c.is_whole.ensures ∙ unset)),
+      c.place.ensures ∙ sym (object_dropped _ (stays c.args.plan.now.rows.items) c.args.pending i.done (sym i.kept ∙ ap members_view empty) (sym c.is_whole.ensures ∙ unset)),
     )
 
 pub read_members-returns-clause-ok : goal.read_members-returns-clause-ok

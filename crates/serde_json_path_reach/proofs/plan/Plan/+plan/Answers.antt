@@ -1,8 +1,9 @@
 -- A plan grows by rows for the queries in a part of a tree.
-use Rattle.serde_json_path_reach.proofs.Words.{Part, arith, branch_at, branches, branches_named, drop, get_or, is_segment, length, length-drop, nodes_in, number_of, one_is, refl, rules, segments_at, take, take_all, within_get, ◌+◌, ◌-◌, ◌≡◌}
+use Rattle.serde_json_path_reach.proofs.Words.{Part, arith, branch_at, branches, branches_named, drop, get_or, is_end, is_segment, length, length-drop, nodes_in, number_of, one_is, refl, rules, segments_at, take, take_all, true, within_get, ◌+◌, ◌-◌, ◌≡◌}
 use Rattle.serde_json_path_reach.proofs.Plans.{if_ok, selectors_there, ors_there, ands_there, arguments_there, sides_there, gains_none, gains_some, gains_both, gains_current, gains_root, gains_segment, one_more_part, first_part, no_part}
-use Rattle.serde_json_path_reach.proofs.Rows.{whole_one}
+use Rattle.serde_json_path_reach.proofs.Rows.{whole_one, place_two, whole_ends, place_ends}
 use Rattle.serde_json_path_reach.proofs.plan.Plan.+plan.Goals as goal
+use Rattle.serde_json_path_reach.proofs.plan.Plan.+plan.Goals.{add_segments-then-places, add_segments-else-places}
 
 pub add-returns-in-Root : goal.add-returns-in-Root
 add-returns-in-Root t c =
@@ -55,7 +56,11 @@ add_all-loop-part-preserved t c =
 pub add_segments-segments-init : goal.add_segments-segments-init
 add_segments-segments-init t c =
     let none = no_part (nodes_in c.args.query.now) c.args.segments.now in
-    record { within = omega arith; gains = rw none (gains_none _); first = rw none whole_one }
+    let ends : is_end c.args.places c.if-places.first ≡ true = elim c.if-places.branch [
+      | add_segments-then-places w ↦ rw w.first-is (place_ends c.args.places 2 w.if-places.true place_two)
+      | add_segments-else-places w ↦ rw w.first-is (whole_ends c.args.places 1 whole_one)
+    ] in
+    record { within = omega arith; gains = rw none (gains_none _); first = rw none ends }
 
 pub add_segments-add-requires : goal.add_segments-add-requires
 add_segments-add-requires t c =
@@ -81,7 +86,7 @@ add_segments-segments-preserved t c =
     let last : n + 1 ≡ c.segments.number = omega arith in
     let here = first_part nodes parts n (record { number = 0 }) (omega (arith, i.within)) in
     let rest : take (length parts - (n + 1)) (drop (n + 1) parts) ≡ drop (n + 1) parts = take_all _ (drop (n + 1) parts) (omega (arith, length-drop (n + 1) parts)) in
-    let both = gains_segment c.args.self.now c.segments.self c.add.new.self c.add_row.new.self c.segments.asked c.in_ok-here.here c.segments.first _ (branch_at nodes (number_of part)) _ _
+    let both = gains_segment c.args.self.now c.segments.self c.add.new.self c.add_row.new.self c.args.places c.segments.asked c.in_ok-here.here c.segments.first _ (branch_at nodes (number_of part)) _ _
     (rw (← last) at i.gains) (rw (← last) at i.first) c.in_ok-here.ensures (rw rest at c.in_ok-first.ensures) in
     record { within = omega (arith, i.within); gains = rw here both.0; first = rw here both.1 }
 

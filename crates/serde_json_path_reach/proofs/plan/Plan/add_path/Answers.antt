@@ -1,14 +1,15 @@
-use Rattle.serde_json_path_reach.proofs.Words.{Query, Segments, kind_of, nodes_in, query, refl, root, segments_at, segments_of, tree_of, ◌≡◌}
-use Rattle.serde_json_path_reach.proofs.Plans.{gains_root}
+use Rattle.serde_json_path_reach.proofs.Words.{nodes_in, refl, segments_at}
+use Rattle.serde_json_path_reach.proofs.Plans.{gains_more}
+use Rattle.serde_json_path_reach.proofs.Rows.{includes_right}
 use Rattle.serde_json_path_reach.proofs.plan.Plan.add_path.Goals as goal
 
-made_of : (q : Query) (segs : Segments) → kind_of q ≡ root → segs ≡ segments_of q → q ≡ query root segs
-made_of (query kind more) segs is same = rw (is, same) refl
+pub returns-clause-inside : goal.returns-clause-inside
+returns-clause-inside c = (
+  c.in_ok-first.field-0-1,
+  rw (← c.segments.ensures.tree) (gains_more c.args.self.now c.add_segments.new.self _ c.in_ok-first.first c.in_ok-first.field-0-1 _ refl refl c.in_ok-first.ensures.gains),
+)
 
-pub returns : goal.returns
-returns c =
-    let segs = segments_at (nodes_in c.args.path.now) c.segments.result.now in (
-      c.in_ok-first.field-0-1,
-      rw (made_of (tree_of c.args.path.now) segs c.args.path.now.rooted c.segments.ensures.tree)
-          (gains_root c.args.self.now c.add_segments.new.self _ c.in_ok-first.first c.in_ok-first.field-0-1 segs refl refl c.in_ok-first.ensures.first c.in_ok-first.ensures.gains),
-    )
+pub returns-clause-itself : goal.returns-clause-itself
+returns-clause-itself c =
+    let segs = segments_at (nodes_in c.args.path.now) c.segments.result.now in
+    rw (← c.segments.ensures.tree) (includes_right c.add_segments.new.self.rows.items c.add_segments.new.self.at_root c.in_ok-first.first c.args.places segs c.in_ok-first.ensures.first)
