@@ -13,6 +13,7 @@ use serde_json_path::{DocumentReader, QueryError};
 use std::alloc::{AllocError, Global};
 use std::io;
 use std::io::{BufRead, BufReader, Read, Write};
+use std::mem::forget;
 
 /// What is asked of each document.
 #[derive(Drop)]
@@ -27,6 +28,8 @@ pub(crate) struct Answering<'a> {
     pub(crate) names_files: bool,
     /// Whether each line of an input is a document.
     pub(crate) lines: bool,
+    /// Whether there is one document alone. The run ends after it, so it is not freed piece by piece.
+    pub(crate) is_only: bool,
     /// Whether a document that is refused ends the run.
     pub(crate) strict: bool,
     /// Whether lines have colours.
@@ -132,6 +135,16 @@ impl Answering<'_> {
         Ok(())
     }
 
+    /// The document of some bytes, or what of it the paths can reach.
+    fn document(&self, bytes: &[u8]) -> Result<Value, DocumentError> {
+        if let Some(reader) = &self.reader {
+            if let Ok(document) = reader.read(self.alloc, bytes) {
+                return Ok(document);
+            }
+        }
+        read_document(self.alloc, bytes)
+    }
+
     /// Answers the document of some bytes, or tells why they are none. `line` is the number of their first line in the input,
     /// from 1.
     fn answer_bytes<W: Write, E: Write>(
@@ -141,13 +154,14 @@ impl Answering<'_> {
         bytes: &[u8],
         streams: &mut Streams<'_, W, E>,
     ) -> Result<(), Stop> {
-        if let Some(reader) = &self.reader {
-            if let Ok(document) = reader.read(self.alloc, bytes) {
-                return self.answer(name, bytes, &document, streams);
+        let e = match self.document(bytes) {
+            Ok(document) => {
+                let answered = self.answer(name, bytes, &document, streams);
+                if self.is_only {
+                    forget(document);
+                }
+                return answered;
             }
-        }
-        let e = match read_document(self.alloc, bytes) {
-            Ok(document) => return self.answer(name, bytes, &document, streams),
             Err(e) => e,
         };
         let e = DocumentError {

@@ -11,7 +11,7 @@ use crate::inputs::Inputs;
 use crate::paths::{AskedPath, asked_paths};
 use crate::streams::{OUTPUT_FAILED, REFUSED, SELECTED, Stop, Streams, WRONG_USE};
 use jpq_options::options::{Color, Options, Request, read};
-use jsonpath_lines::Output;
+use jsonpath_lines::{Form, Output};
 use serde_json_path::DocumentReader;
 use serde_json_path::functions::{CachedPatterns, PatternStore};
 use serde_json_path_syntax::Checked;
@@ -71,12 +71,22 @@ fn is_colored(options: &Options<'_>, is_terminal: bool) -> bool {
 /// For more paths than these documents are read whole: to see what each can reach takes longer.
 const FEW_PATHS: usize = 8;
 
-/// A reader of documents for the paths, unless they are many, or memory for it is refused.
-fn reader_for<'q>(alloc: Global, trees: &[&'q Checked]) -> Option<DocumentReader<'q>> {
+/// A reader of documents for the paths, unless they are many, or memory for it is refused. Where nodes are shown without their
+/// values, their places are enough.
+fn reader_for<'q>(
+    alloc: Global,
+    trees: &[&'q Checked],
+    form: Form,
+) -> Option<DocumentReader<'q>> {
     if trees.len() > FEW_PATHS {
         return None;
     }
-    DocumentReader::new(alloc, trees).ok()
+    match form {
+        Form::Location | Form::Pointer | Form::Count | Form::Nothing => {
+            DocumentReader::of_places(alloc, trees).ok()
+        }
+        _ => DocumentReader::new(alloc, trees).ok(),
+    }
 }
 
 /// Answers all documents.
@@ -97,10 +107,11 @@ fn answer_documents<I: Inputs, W: Write, E: Write>(
         alloc,
         paths,
         functions: CachedPatterns::new(alloc, &store),
-        reader: reader_for(alloc, trees.as_slice()),
+        reader: reader_for(alloc, trees.as_slice(), options.form),
         output: output_of(options),
         names_files: options.files.len() > 1,
         lines: options.lines,
+        is_only: options.files.len() <= 1 && !options.lines,
         strict: options.strict,
         colored,
     };

@@ -6,10 +6,10 @@ ghost use Rattle.serde_json_path.specs.Paths.{path_signatures};
 
 use serde_json::Value;
 use serde_json_path::JsonPath;
-use serde_json_path_reach::read_for;
+use serde_json_path_reach::{DocumentReader, read_for};
 use std::alloc::{AllocError, Global};
 use std::test::Fail;
-use test_rows::{Came, Nesting, alike, fields, hold_rows, holds, located, nested};
+use test_rows::{Came, Nesting, alike, fields, hold_rows, holds, located, locations, nested};
 
 /// A path or two, a document, and what is read of it for them.
 const ROWS: &[&str] = &[
@@ -104,6 +104,71 @@ fn reached(alloc: Global, row: &str) -> Came {
 #[test]
 fn reads_what_is_reached(rt: HostRuntime) -> Result<(), Fail> {
     hold_rows(&rt, ROWS, reached)
+}
+
+/// A path, a document, and what is read of it where places are enough.
+const PLACES: &[&str] = &[
+    r#"$ ~ {"a":1} -> null"#,
+    r#"$.a ~ {"a":{"b":1},"b":2} -> {"a":null}"#,
+    "$[*] ~ [1,[2],{}] -> [null,null,null]",
+    "$[1] ~ [1,[2],3] -> [null,null,null]",
+    r#"$..* ~ [1,[2,{"a":[]}]] -> [null,[null,{"a":null}]]"#,
+    r#"$..a ~ {"a":{"a":1,"b":2},"c":[{"a":3}]} -> {"a":{"a":null},"c":[{"a":null}]}"#,
+    r#"$.a ~ {"a":1,"b":2,"a":{"c":3}} -> {"a":null}"#,
+    r#"$.a.b ~ {"a":{"b":1},"a":2} -> null"#,
+    // What filters ask keeps its value.
+    r#"$[?@.p < 2] ~ [{"p":1,"t":2},{"p":3},4] -> [{"p":1},{"p":3},null]"#,
+    r#"$[?@.p == $[0]].q ~ [5,{"p":5,"q":{"r":1}}] -> [5,{"p":5,"q":null}]"#,
+    r#"$[?count(@..a) == 1] ~ [{"b":{"a":1}},2] -> [{"b":{"a":1}},null]"#,
+    r#"$[?@.a] ~ {"k":{"a":[1,2],"b":3},"l":4} -> {"k":{"a":[1,2]},"l":null}"#,
+];
+
+/// What is read of a document where the places of a path's nodes are enough, as a text. Fails where the path does not select
+/// at the same locations of the whole document.
+fn places(alloc: Global, row: &str) -> Came {
+    let (path, text) = fields(row)?;
+    let path = JsonPath::parse(alloc, path)?;
+    let text = long(alloc, text)?;
+    let document = Value::from_str(alloc, text.as_str())?;
+    let paths = [path.tree()];
+    let reached = DocumentReader::of_places(alloc, &paths)?.read(alloc, text.as_bytes())?;
+    alike(
+        locations(alloc, &path.query_located(alloc, &document)?)?,
+        locations(alloc, &path.query_located(alloc, &reached)?)?,
+    )?;
+    Ok(reached.to_string(alloc)?)
+}
+
+#[test]
+fn keeps_the_places_that_are_reached(rt: HostRuntime) -> Result<(), Fail> {
+    hold_rows(&rt, PLACES, places)
+}
+
+/// Documents that one reader reads after another, and what it reads of them for `$.a`.
+const IN_TURN: &[&str] = &[
+    r#"{"a":1,"b":2} -> {"a":1}"#,
+    r#"{"b":[1]} -> null"#,
+    r#"{"a":"\n","b":2} -> {"a":"\n"}"#,
+    r#"[{"a":1}] -> null"#,
+];
+
+#[test]
+fn one_reader_serves_many_documents(rt: HostRuntime) -> Result<(), Fail> {
+    let alloc = rt.alloc();
+    let path = JsonPath::parse(alloc, "$.a")?;
+    let paths = [path.tree()];
+    let reader = DocumentReader::new(alloc, &paths)?;
+    for row in IN_TURN {
+        let Some((text, wanted)) = row.split_once(" -> ") else {
+            return Err(Fail::new("a row has no arrow"));
+        };
+        let read = reader.read(alloc, long(alloc, text)?.as_bytes())?;
+        holds(
+            read.to_string(alloc)?.as_str() == wanted,
+            "a later document is read otherwise",
+        )?;
+    }
+    Ok(())
 }
 
 /// As many levels as a document may have below an array.
