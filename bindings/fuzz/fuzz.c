@@ -13,6 +13,7 @@
 
 #define MOST_NODES 1000
 #define MOST_BYTES 65536
+#define LONG 1024           /* Shorter documents are read whole. */
 #define MOST_SECONDS 0.05   /* A query that takes longer is not asked again. */
 #define GUARD 16            /* Bytes behind what a call may write. */
 #define MARK 0xA5           /* What bytes hold that no call may write. */
@@ -67,6 +68,14 @@ static struct text copy(const void *bytes, size_t length) {
     struct text copied = {block(length), length};
     memcpy(copied.bytes, bytes, length);
     return copied;
+}
+
+/* A copy with blanks behind it. A document that long is read only as far as the path can reach. */
+static struct text with_blanks(struct text text) {
+    struct text longer = {block(text.length + LONG), text.length + LONG};
+    memcpy(longer.bytes, text.bytes, text.length);
+    memset(longer.bytes + text.length, ' ', LONG);
+    return longer;
 }
 
 /* Whether two texts are the same. */
@@ -503,7 +512,8 @@ static void check_limits(struct question asked, struct text lines, struct jsonpa
     free(answer.bytes);
 }
 
-/* The lines of a form, without limits and with them. In the mode of whole numbers the call with two texts answers the same. */
+/* The lines of a form, without limits and with them. In the mode of whole numbers the call with two texts answers the same, of a
+ * document that is read whole and of one that is read for the path. */
 static struct text check_form(struct question asked, uint8_t form, uint8_t numbers, size_t count) {
     asked.form = form;
     struct text lines = answer_of(write_lines, &asked);
@@ -515,6 +525,11 @@ static struct text check_form(struct question asked, uint8_t form, uint8_t numbe
         struct text report = answer_of(write_report, &asked);
         HOLD(same(report, lines));
         free(report.bytes);
+        asked.document_text = with_blanks(asked.document_text);
+        report = answer_of(write_report, &asked);
+        HOLD(same(report, lines));
+        free(report.bytes);
+        free(asked.document_text.bytes);
     }
     return lines;
 }
@@ -572,7 +587,13 @@ static void check_no_document(struct question asked) {
     uint8_t exists = MARK;
     jsonpath_nodes *nodes = NULL;
     /* The call with two texts takes whole numbers, by which the path may be none. */
-    if (asked.numbers == JSONPATH_WHOLE_NUMBERS) hold_refused(write_report, &asked, JSONPATH_DOCUMENT_REFUSED);
+    if (asked.numbers == JSONPATH_WHOLE_NUMBERS) {
+        hold_refused(write_report, &asked, JSONPATH_DOCUMENT_REFUSED);
+        struct question longer = asked;
+        longer.document_text = with_blanks(asked.document_text);
+        hold_refused(write_report, &longer, JSONPATH_DOCUMENT_REFUSED);
+        free(longer.document_text.bytes);
+    }
     hold_refused(write_lines, &asked, JSONPATH_EMPTY_HANDLE);
     HOLD(jsonpath_count(asked.path, asked.document, &count) == JSONPATH_EMPTY_HANDLE);
     HOLD(jsonpath_exists(asked.path, asked.document, &exists) == JSONPATH_EMPTY_HANDLE);
