@@ -24,3 +24,5 @@ pub mod Plans
 pub mod Selectors
 -- what is read of a document
 pub mod Documents
+-- a number of few bytes is not beyond doubles
+pub mod Small

@@ -5,7 +5,7 @@ ghost use Rattle.json.specs.Reads.{token_of};
 ghost use Rattle.serde_json.specs.View.{view};
 ghost use Rattle.serde_json_path_reach.specs.Inside.Leaves.{leaf_of};
 
-use crate::number::number;
+use crate::number::{is_number, number};
 use crate::refused::Refused;
 use json::Token;
 use serde_json::Value;
@@ -37,10 +37,7 @@ pub(crate) fn pass_leaf(token: Token<'_>) -> Result<(), Refused>
         Token::String(_) => Ok(()),
         Token::Bool(_) => Ok(()),
         Token::Null => Ok(()),
-        Token::Number(text) => match number(text) {
-            Some(_) => Ok(()),
-            None => Err(Refused),
-        },
+        Token::Number(text) if is_number(text) => Ok(()),
         _ => Err(Refused),
     }
 }
