@@ -1,5 +1,5 @@
 -- Members of lists, and lists in order.
-use Rattle.serde_json_path_syntax.proofs.Words.{true, false, refl, sym, true≢false, ◌≡◌, List, [], ◌∷◌, ◌++◌, map, flat_map, keep, ◌⊎◌, ◌↔◌, inl, inr, Bool, Option, Some, None, option_to_list, ap, subst, ◌∙◌, Decides, cases_Bool, flat_map-append, map-append, none-some, same_Some, IsIn, IsInOrder}
+use Rattle.serde_json_path_syntax.proofs.Words.{true, false, refl, sym, true≢false, ◌≡◌, List, [], ◌∷◌, ◌++◌, map, flat_map, keep, ◌⊎◌, ◌↔◌, inl, inr, Bool, Option, Some, None, option_to_list, ap, subst, ◌∙◌, Decides, cases_Bool, flat_map-append, map-append, none-some, same_Some, IsIn, IsInOrder, arith, nat_tests, common_steps}
 
 -- ---- tests that always hold, and that never do
 
@@ -60,8 +60,7 @@ in_keep p x (z ∷ xs) = let later = in_keep p x xs in elim (cases_Bool (p z)) [
 
 -- what is in an option's list is its value
 pub in_option : {A : Type 0} (x : A) (o : Option A) → IsIn x (option_to_list o) ↔ (o ≡ Some x)
-in_option x None = (λ h. absurd h, λ e. none-some x e)
-in_option x (Some y) = (elim [ inl e ↦ ap Some (sym e) | inr h ↦ absurd h ], λ e. inl (sym (same_Some y x e)))
+in_option x o = grind (arith, nat_tests, common_steps, none-some, same_Some)
 
 -- ---- order
 
@@ -100,8 +99,7 @@ in_order-keep R p (x ∷ xs) o = let later = in_order-keep R p xs o.1 in elim (c
 
 -- an option's list
 pub in_order-option : {A : Type 0} (R : A → A → Type 0) (o : Option A) → IsInOrder R (option_to_list o)
-in_order-option R None = tt
-in_order-option R (Some x) = (λ y h. absurd h, tt)
+in_order-option R o = grind (arith, nat_tests, common_steps)
 
 -- ---- one after the other
 

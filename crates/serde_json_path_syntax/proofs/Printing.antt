@@ -8,8 +8,7 @@ use Rattle.serde_json_path_syntax.proofs.Tree.NamedParts.{one_is, others, others
 
 -- where the rest is 0
 pub fraction_ended : (places rest : ℕ) → rest ≡ 0 → fraction_digits places rest ≡ []
-fraction_ended zero rest e = refl
-fraction_ended (suc places) rest e = rw e refl
+fraction_ended places rest e = grind (arith, nat_tests, common_steps)
 
 one_digit : (places rest : ℕ) → rest ≢ 0 → fraction_digits (suc places) rest ≡ decimal (rest / 100000000) ++ fraction_digits places ((rest % 100000000) * 10)
 one_digit places rest h = grind (arith, h)
@@ -24,12 +23,10 @@ fraction_more done counter rest h there =
 -- ---- numbers by their sign and their size
 
 pub negative : (i : ℤ) (size : ℕ) → size ≡ nat_abs i → lt_z i (pos 0) ≡ true → codes "-" ++ amount_text size ≡ number_text i
-negative (pos n) size e below = absurd (omega (arith, ints, below))
-negative (negsuc n) size e below = ap (λ m. codes "-" ++ amount_text m) e
+negative i size e below = grind (arith, nat_tests, common_steps, ints)
 
 pub natural : (i : ℤ) (size : ℕ) → size ≡ nat_abs i → lt_z i (pos 0) ≡ false → amount_text size ≡ number_text i
-natural (pos n) size e above = ap amount_text e
-natural (negsuc n) size e above = absurd (omega (arith, ints, above))
+natural i size e above = grind (arith, nat_tests, common_steps, ints)
 
 -- ---- texts of parts that are printed one after another
 
@@ -62,10 +59,7 @@ module _ (separator : List ℕ) (ps : List Branch) where
 
   -- a first part, and what is printed of the others once none is left
   pub begun_whole : (parts : List Part) (d : Part) (i : ℕ) → 1 ≤ length parts → length (others parts) ≤ i → text_of (get_or parts 0 d) ++ begun (others parts) i ≡ joined separator (map branch_text (branches_named ps parts))
-  begun_whole [] d i some all = absurd (omega (arith, some))
-  begun_whole (part ∷ parts) d i some all =
-      ap (λ xs. text_of part ++ flat_map (λ t. separator ++ t) (map text_of xs)) (take_all i (others (part ∷ parts)) all ∙ others-cons part parts)
-      ∙ ap (λ ts. text_of part ++ flat_map (λ t. separator ++ t) ts) (listed parts)
+  begun_whole parts d i some all = grind (arith, nat_tests, common_steps, others-cons, listed)
 
   -- all are printed, after a text before the first
   pub all_printed : {W : Type 0} (took : W → List ℕ → W → Type 0) (f g h : Formatter W) (start : List ℕ) (parts : List Part) (d : Part) (i : ℕ)
@@ -80,20 +74,16 @@ nothing_printed took f plain = record { wrote = record { parts = []; calls = ref
 -- ---- one
 
 pub text_of_query : (p : Branch) → is_query p ≡ true → branch_text p ≡ query_text (query_in p)
-text_of_query (a_query q) h = refl
-text_of_query _ h = absurd cc
+text_of_query p h = grind (arith, nat_tests, common_steps)
 
 pub text_of_or : (p : Branch) → is_or p ≡ true → branch_text p ≡ or_text (or_in p)
-text_of_or (an_or e) h = refl
-text_of_or _ h = absurd cc
+text_of_or p h = grind (arith, nat_tests, common_steps)
 
 pub text_of_operand : (p : Branch) → is_operand p ≡ true → branch_text p ≡ operand_text (operand_in p)
-text_of_operand (an_operand o) h = refl
-text_of_operand _ h = absurd cc
+text_of_operand p h = grind (arith, nat_tests, common_steps)
 
 pub text_of_call : (p : Branch) → is_call p ≡ true → branch_text p ≡ call_text (call_in p)
-text_of_call (a_call c) h = refl
-text_of_call _ h = absurd cc
+text_of_call p h = grind (arith, nat_tests, common_steps)
 
 -- ---- many
 
@@ -130,7 +120,7 @@ texts_of_arguments (an_operand o ∷ ps) h = ap (λ ts. operand_text o ∷ ts) (
 texts_of_arguments (an_or e ∷ ps) h = ap (λ ts. or_text e ∷ ts) (texts_of_arguments ps h)
 texts_of_arguments _ h = cc
 
-pub ruleset of_kinds = (operand_of_comparable, operand_of_tested, text_of_query, text_of_or, text_of_operand, text_of_call, text_of_segments, texts_of_selectors, text_of_ands, text_of_basics, texts_of_arguments)
+pub ruleset of_kinds = (nat_tests, common_steps, has_written_append, has_written_of_eq, operand_of_comparable, operand_of_tested, text_of_query, text_of_or, text_of_operand, text_of_call, text_of_segments, texts_of_selectors, text_of_ands, text_of_basics, texts_of_arguments)
 
 -- several parts, one after another
-pub ruleset of_parts = (nothing_printed, printed_more, printed_apart, all_printed, text_of_segments, one_is, others-bound, others_are, within_get)
+pub ruleset of_parts = (nat_tests, common_steps, has_written_append, has_written_of_eq, begun_whole, others, nothing_printed, printed_more, printed_apart, all_printed, text_of_segments, one_is, others-bound, others_are, within_get)

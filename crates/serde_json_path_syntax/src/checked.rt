@@ -117,6 +117,7 @@ impl Checked {
 
     /// Whether the set declares each function that the query calls, with the signature under which the query is
     /// well-typed (RFC 9535, section 2.4.3). Takes no memory.
+    #[tactic(auto, using(crate::proofs::Tree::Growing::of_fits))]
     pub fn fits<F: Functions>(&self, functions: &F) -> bool
         ensures { IsTrue result ↔ Fits (F.set functions.now) (signatures_of self.now) }
     {

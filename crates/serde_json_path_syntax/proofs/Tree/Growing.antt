@@ -1,7 +1,7 @@
 -- The tree of a vector of nodes, as it grows and is copied, and that its nodes fit.
-use Rattle.serde_json_path_syntax.proofs.Words.{nat_tests, ◌≡◌, ℕ, zero, suc, ◌+◌, ◌<◌, ◌≤◌, List, [], ◌∷◌, ◌++◌, ◌↔◌, length, drop, Bool, Result, Ok, Err, IfOk, OnOk, OnErr, inl, inr, get_or, refl, sym, ap, ◌∙◌, subst, arith, length-append, true, false, if◌then◌else◌, slice_get, slice_index_or, Option, Some, None, common_steps, flat_map-append, append-nil, drop_more, Signature, FunctionSet, Fits, IsIn, fits, AreFitting, Branch, Part, parts_bound, called_by, calls_among, no_branch, branch_in, branches_named, parts_in, branch_of, branches_from, branch_at, NamesBelow, IsGrown, query_at, query_in, cases_lt, AreCopies, IsCopy, branches, result_by, result_of_call, result_through, SyntaxBuilder, AllocError, Node, LongHand, Relation, AllZip-get_or, AllZip-long}
+use Rattle.serde_json_path_syntax.proofs.Words.{drop_all, nat_tests, ◌≡◌, ℕ, zero, suc, ◌+◌, ◌<◌, ◌≤◌, List, [], ◌∷◌, ◌++◌, ◌↔◌, length, drop, Bool, Result, Ok, Err, IfOk, OnOk, OnErr, inl, inr, get_or, refl, sym, ap, ◌∙◌, subst, arith, length-append, true, false, if◌then◌else◌, slice_get, slice_index_or, Option, Some, None, common_steps, flat_map-append, append-nil, drop_more, Signature, FunctionSet, Fits, IsIn, fits, AreFitting, Branch, Part, parts_bound, called_by, calls_among, no_branch, branch_in, branches_named, parts_in, branch_of, branches_from, branch_at, NamesBelow, IsGrown, query_at, query_in, cases_lt, AreCopies, IsCopy, branches, result_by, result_of_call, result_through, SyntaxBuilder, AllocError, Node, LongHand, Relation, AllZip-get_or, AllZip-long}
 use Rattle.serde_json_path_syntax.proofs.Lists.{in_append}
-use Rattle.serde_json_path_syntax.proofs.Names.Once.{fits_append}
+use Rattle.serde_json_path_syntax.proofs.Names.Once.{fits_append, fits_once, once_fits}
 use Rattle.serde_json_path_syntax.specs.declared.node.Node.TheVariants as node
 use Rattle.serde_json_path_syntax.specs.declared.node.Selector.TheVariants as one
 use Rattle.serde_json_path_syntax.specs.declared.node.Operand.TheVariants as one_operand
@@ -33,11 +33,7 @@ module _ (a b : List Branch) (bound : ℕ) (f : (i : ℕ) → i < bound → bran
   named (part ∷ parts) h = rw (f part.number (omega (arith, h)), named parts (omega (arith, h)))
 
   same : (n : Node) → NamesBelow bound n → seen a n ≡ seen b n
-  same (node.Segment kind (LongHand parts)) h = rw (named (parts_in parts) h)
-  same (node.Selector (one.Filter part)) h = rw (f part.number (omega (arith, h)))
-  same (node.Basic (Relation left operator right)) h = simp (f left.number (omega (arith, h)), f right.number (omega (arith, h)))
-  same (node.Operand (one_operand.Query part)) h = rw (f part.number (omega (arith, h)))
-  same _ h = grind (arith, f, named)
+  same n h = grind (arith, nat_tests, common_steps, named)
 
   same_branch : (n : Node) → NamesBelow bound n → branch_of a n ≡ branch_of b n
   same_branch n h = ap (λ s. s.0) (same n h)
@@ -84,8 +80,7 @@ pushed_keeps old new n p branch e h = grind (arith, nat_tests, common_steps, bra
 module _ (old new : List Node) (n : Node) where
   pub push_made : (made : Result Part AllocError) → OnOk made (new ≡ old ++ n ∷ []) → IfOk made (λ part. part.number ≡ length old)
       → IfOk made (λ part. (part.number < length new) × (branch_at new part.number ≡ branch_of (branches old) n))
-  push_made (Ok part) is number = pushed_is old new n part.number is number
-  push_made (Err e) is number = tt
+  push_made made is number = grind (arith, nat_tests, common_steps, pushed_is)
 
   pub push_keeps : (made : Result Part AllocError) → OnOk made (new ≡ old ++ n ∷ []) → OnErr made (new ≡ old) → (p : ℕ) (branch : Branch)
       → (p < length old) × (branch_at old p ≡ branch) → (p < length new) × (branch_at new p ≡ branch)
@@ -94,19 +89,16 @@ module _ (old new : List Node) (n : Node) where
 
   -- the calls among the nodes
   pub push_calls : (made : Result Part AllocError) → OnOk made (new ≡ old ++ n ∷ []) → OnOk made (calls_among new ≡ calls_among old ++ called_by n)
-  push_calls (Ok part) is = ap calls_among is ∙ flat_map-append called_by old (n ∷ []) ∙ ap (λ us. calls_among old ++ us) (append-nil (called_by n))
-  push_calls (Err e) is = tt
+  push_calls made is = grind (arith, nat_tests, common_steps, flat_map-append)
 
   pub push_silent : (made : Result Part AllocError) → OnOk made (new ≡ old ++ n ∷ []) → OnErr made (new ≡ old) → called_by n ≡ [] → calls_among new ≡ calls_among old
-  push_silent (Ok part) is same silent = push_calls (Ok part) is ∙ ap (λ us. calls_among old ++ us) silent ∙ append-nil (calls_among old)
-  push_silent (Err e) is same silent = ap calls_among same
+  push_silent made is same silent = grind (arith, nat_tests, common_steps, push_calls)
 
 -- ---- the types of results that calls keep
 
 get_earlier : (nodes : List Node) (n : Node) (i : ℕ) → i < length nodes → slice_get (nodes ++ n ∷ []) i ≡ slice_get nodes i
-get_earlier [] n i h = absurd (omega (arith, h))
-get_earlier (m ∷ nodes) n zero h = refl
 get_earlier (m ∷ nodes) n (suc i) h = get_earlier nodes n i (omega (arith, h))
+get_earlier nodes n i h = first_of (assumption, grind (arith, nat_tests, common_steps))
 
 get_last : (nodes : List Node) (n : Node) → slice_get (nodes ++ n ∷ []) (length nodes) ≡ Some n
 get_last [] n = refl
@@ -140,15 +132,13 @@ fitting_push nodes n grown fitting below fit i d h = grind (arith, nat_tests, co
 
 -- one more node, or none
 pub fitting_pushed : (b : Bool) (old new : List Node) (n : Node) → new ≡ (if b then old ++ n ∷ [] else old) → IsGrown old → AreFitting old → NamesBelow (length old) n → fits (branches old) n ≡ true → AreFitting new
-fitting_pushed true old new n is grown fitting below fit = subst AreFitting (sym is) (fitting_push old n grown fitting below fit)
-fitting_pushed false old new n is grown fitting below fit = subst AreFitting (sym is) fitting
+fitting_pushed b old new n is grown fitting below fit = grind (arith, nat_tests, common_steps, fitting_push)
 
 -- ---- nodes that are copies one by one make the same branches and the same calls, and each names earlier ones, such as its places want
 
 copies_from : (olds copies : List Node) → AreCopies olds copies → (earlier : List Branch) → branches_from earlier copies ≡ branches_from earlier olds
-copies_from [] [] h earlier = refl
 copies_from (old ∷ olds) (copy ∷ copies) h earlier = rw (h.0.branch earlier, copies_from olds copies h.1 (earlier ++ branch_of earlier old ∷ []))
-copies_from _ _ h earlier = absurd h
+copies_from olds copies h earlier = first_of (assumption, grind (arith, nat_tests, common_steps))
 
 -- the same branches
 pub copied_branches : (olds copies : List Node) → AreCopies olds copies → branches copies ≡ branches olds
@@ -157,9 +147,8 @@ copied_branches olds copies h = copies_from olds copies h []
 
 -- the same calls
 pub copied_calls : (olds copies : List Node) → AreCopies olds copies → calls_among copies ≡ calls_among olds
-copied_calls [] [] h = refl
 copied_calls (old ∷ olds) (copy ∷ copies) h = rw (h.0.called, copied_calls olds copies h.1)
-copied_calls _ _ h = absurd h
+copied_calls olds copies h = first_of (assumption, grind (arith, nat_tests, common_steps))
 
 -- each names earlier ones, and such as its places want
 module _ (olds copies : List Node) (h : AreCopies olds copies) where
@@ -176,10 +165,12 @@ module _ (olds copies : List Node) (h : AreCopies olds copies) where
 
 -- the same query
 pub same_query : (olds copies : List Node) → branches copies ≡ branches olds → (query : Option Part) → query_at copies query ≡ query_at olds query
-same_query olds copies e None = refl
-same_query olds copies e (Some part) = ap (λ ps. query_in (branch_in ps part.number)) e
+same_query olds copies e query = grind (arith, nat_tests, common_steps)
 
 -- what a push that may be refused gives and keeps, and what copies keep
 pub ruleset of_push = (push_made, push_keeps, push_calls, push_silent)
+
+-- whether a set fits the calls of the nodes
+pub ruleset of_fits = (nat_tests, common_steps, drop_all, fits_from, fits_once, once_fits)
 
 pub ruleset of_copies = (copied_branches, copied_calls, copied_grown, copied_fitting, AllZip-long)

@@ -1,5 +1,5 @@
 -- Well-typedness rests on the signatures of the called names alone.
-use Rattle.serde_json_path_syntax.proofs.Words.{◌≡◌, ℕ, List, [], ◌∷◌, Option, Some, None, inl, inr, refl, ap, ◌∙◌, option_map, none-some, Query, query, Segments, no_segments, segment, Segment, long_hand, Selectors, no_selectors, selector, Selector, filter, LogicalOr, no_or, or, LogicalAnd, no_and, and, Basic, paren, relation, test, Operand, literal, queried, called, Call, call, Arguments, no_arguments, argument, Argument, operand, logical_argument, Kind, of_value, of_logical, of_nodes, Signature, IsTestKind, IsTyped, AreTypedSegments, IsTypedSegment, AreTypedSelectors, IsTypedSelector, IsTypedOr, IsTypedAnd, IsTypedBasic, IsTypedComparable, IsTypedCall, AreTypedArguments, IsTypedArgument, IsTypedOperand, TakesResult, result_kind, OfEach, name_of, names_of, calls_of, calls_in_segments, calls_in_segment, calls_in_selectors, calls_in_selector, calls_in_or, calls_in_and, calls_in_basic, calls_in_operand, calls_from, calls_in_arguments, calls_in_argument, IsIn}
+use Rattle.serde_json_path_syntax.proofs.Words.{◌≡◌, ℕ, List, [], ◌∷◌, Option, Some, None, inl, inr, refl, ap, ◌∙◌, option_map, none-some, Query, query, Segments, no_segments, segment, Segment, long_hand, Selectors, no_selectors, selector, Selector, filter, LogicalOr, no_or, or, LogicalAnd, no_and, and, Basic, paren, relation, test, Operand, literal, queried, called, Call, call, Arguments, no_arguments, argument, Argument, operand, logical_argument, Kind, of_value, of_logical, of_nodes, Signature, IsTestKind, IsTyped, AreTypedSegments, IsTypedSegment, AreTypedSelectors, IsTypedSelector, IsTypedOr, IsTypedAnd, IsTypedBasic, IsTypedComparable, IsTypedCall, AreTypedArguments, IsTypedArgument, IsTypedOperand, TakesResult, result_kind, OfEach, name_of, names_of, calls_of, calls_in_segments, calls_in_segment, calls_in_selectors, calls_in_selector, calls_in_or, calls_in_and, calls_in_basic, calls_in_operand, calls_from, calls_in_arguments, calls_in_argument, IsIn, arith, nat_tests, common_steps}
 use Rattle.serde_json_path_syntax.proofs.Names.Once.{in_from, of_both}
 use Rattle.serde_json_path_syntax.proofs.Lists.{map_in}
 
@@ -19,13 +19,10 @@ module _ (few many : List ℕ → Option Signature) where
       by (Some s) known e = ap (option_map (λ (s : Signature). s.result)) (keeps s known) ∙ e
 
   test_kind : (c : Call) → KeepsSignature c → IsTestKind (result_kind few c) → IsTestKind (result_kind many c)
-  test_kind c keeps (inl e) = inl (kind_stays c of_nodes keeps e)
-  test_kind c keeps (inr e) = inr (kind_stays c of_logical keeps e)
+  test_kind c keeps h2 = grind (arith, nat_tests, common_steps, kind_stays)
 
   takes : (c : Call) (kind : Kind) → KeepsSignature c → TakesResult few kind (result_kind few c) → TakesResult many kind (result_kind many c)
-  takes c of_value keeps e = kind_stays c of_value keeps e
-  takes c of_nodes keeps e = kind_stays c of_nodes keeps e
-  takes c of_logical keeps e = test_kind c keeps e
+  takes c kind keeps e = grind (arith, nat_tests, common_steps, kind_stays, test_kind)
 
   mutual
     typed_again : (q : Query) → Keep (calls_of q) → IsTyped few q → IsTyped many q
@@ -33,8 +30,7 @@ module _ (few many : List ℕ → Option Signature) where
 
     typed_segments : (segs : Segments) → Keep (calls_in_segments segs) → AreTypedSegments few segs → AreTypedSegments many segs
     typed_segments no_segments each h = tt
-    typed_segments (segment kind seg more) each h =
-        let both = of_both KeepsSignature (calls_in_segment seg) (calls_in_segments more) each in (typed_segment seg both.0 h.0, typed_segments more both.1 h.1)
+    typed_segments (segment kind seg more) each h = let both = of_both KeepsSignature _ _ each in (typed_segment seg both.0 h.0, typed_segments more both.1 h.1)
 
     typed_segment : (seg : Segment) → Keep (calls_in_segment seg) → IsTypedSegment few seg → IsTypedSegment many seg
     typed_segment (long_hand sels) each h = typed_selectors sels each h
@@ -42,8 +38,7 @@ module _ (few many : List ℕ → Option Signature) where
 
     typed_selectors : (sels : Selectors) → Keep (calls_in_selectors sels) → AreTypedSelectors few sels → AreTypedSelectors many sels
     typed_selectors no_selectors each h = tt
-    typed_selectors (selector sel more) each h =
-        let both = of_both KeepsSignature (calls_in_selector sel) (calls_in_selectors more) each in (typed_selector sel both.0 h.0, typed_selectors more both.1 h.1)
+    typed_selectors (selector sel more) each h = let both = of_both KeepsSignature _ _ each in (typed_selector sel both.0 h.0, typed_selectors more both.1 h.1)
 
     typed_selector : (sel : Selector) → Keep (calls_in_selector sel) → IsTypedSelector few sel → IsTypedSelector many sel
     typed_selector (filter e) each h = typed_or e each h
@@ -51,18 +46,15 @@ module _ (few many : List ℕ → Option Signature) where
 
     typed_or : (e : LogicalOr) → Keep (calls_in_or e) → IsTypedOr few e → IsTypedOr many e
     typed_or no_or each h = tt
-    typed_or (or a more) each h =
-        let both = of_both KeepsSignature (calls_in_and a) (calls_in_or more) each in (typed_and a both.0 h.0, typed_or more both.1 h.1)
+    typed_or (or a more) each h = let both = of_both KeepsSignature _ _ each in (typed_and a both.0 h.0, typed_or more both.1 h.1)
 
     typed_and : (e : LogicalAnd) → Keep (calls_in_and e) → IsTypedAnd few e → IsTypedAnd many e
     typed_and no_and each h = tt
-    typed_and (and b more) each h =
-        let both = of_both KeepsSignature (calls_in_basic b) (calls_in_and more) each in (typed_basic b both.0 h.0, typed_and more both.1 h.1)
+    typed_and (and b more) each h = let both = of_both KeepsSignature _ _ each in (typed_basic b both.0 h.0, typed_and more both.1 h.1)
 
     typed_basic : (b : Basic) → Keep (calls_in_basic b) → IsTypedBasic few b → IsTypedBasic many b
     typed_basic (paren negated e) each h = typed_or e each h
-    typed_basic (relation a op b) each h =
-        let both = of_both KeepsSignature (calls_in_operand a) (calls_in_operand b) each in (typed_comparable a both.0 h.0, typed_comparable b both.1 h.1)
+    typed_basic (relation a op b) each h = let both = of_both KeepsSignature _ _ each in (typed_comparable a both.0 h.0, typed_comparable b both.1 h.1)
     typed_basic (test negated o) each h = typed_operand o of_logical each h
 
     typed_comparable : (a : Operand) → Keep (calls_in_operand a) → IsTypedComparable few a → IsTypedComparable many a

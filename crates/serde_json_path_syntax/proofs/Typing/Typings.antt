@@ -1,5 +1,5 @@
 -- Well-typedness is decided, so that it can be recovered from its truncation. Each lemma decides what its type says.
-use Rattle.serde_json_path_syntax.proofs.Words.{◌≡◌, ℕ, List, [], ◌∷◌, Option, Some, None, Bool, true, false, inl, inr, refl, sym, subst, true≢false, none-some, same_Some, Query, query, Segments, no_segments, segment, Segment, long_hand, Selectors, no_selectors, selector, Selector, filter, LogicalOr, no_or, or, LogicalAnd, no_and, and, Basic, paren, relation, test, Operand, literal, queried, called, Call, call, Arguments, no_arguments, argument, Argument, operand, logical_argument, segments_of, AreSingular, are_singular, Kind, of_value, of_nodes, of_logical, Signature, IsTestKind, result_kind, TakesResult, IsTyped, AreTypedSegments, IsTypedSegment, AreTypedSelectors, IsTypedSelector, IsTypedOr, IsTypedAnd, IsTypedBasic, IsTypedComparable, IsTypedCall, AreTypedArguments, IsTypedArgument, IsTypedOperand, map_dec, ∥∥₁_elim}
+use Rattle.serde_json_path_syntax.proofs.Words.{◌≡◌, ℕ, List, [], ◌∷◌, Option, Some, None, Bool, true, false, inl, inr, refl, sym, subst, true≢false, none-some, same_Some, Query, query, Segments, no_segments, segment, Segment, long_hand, Selectors, no_selectors, selector, Selector, filter, LogicalOr, no_or, or, LogicalAnd, no_and, and, Basic, paren, relation, test, Operand, literal, queried, called, Call, call, Arguments, no_arguments, argument, Argument, operand, logical_argument, segments_of, AreSingular, are_singular, Kind, of_value, of_nodes, of_logical, Signature, IsTestKind, result_kind, TakesResult, IsTyped, AreTypedSegments, IsTypedSegment, AreTypedSelectors, IsTypedSelector, IsTypedOr, IsTypedAnd, IsTypedBasic, IsTypedComparable, IsTypedCall, AreTypedArguments, IsTypedArgument, IsTypedOperand, map_dec, ∥∥₁_elim, arith, nat_tests, common_steps}
 use Rattle.std.proofs.Common.{Decides}
 use Rattle.std.proofs.Math.Logic.Dec.{and as both}
 use Rattle.serde_json_path_syntax.proofs.Tree.NamedParts.{Decides-are_singular}
@@ -7,21 +7,15 @@ use Rattle.serde_json_path_syntax.proofs.Tree.NamedParts.{Decides-are_singular}
 -- ---- the types of results
 
 kind : (o : Option Kind) (wanted : Kind) → Dec (o ≡ Some wanted)
-kind (Some of_value) of_value = yes refl
-kind (Some of_nodes) of_nodes = yes refl
-kind (Some of_logical) of_logical = yes refl
-kind _ _ = no (λ e. cc)
+kind o wanted = grind (arith, nat_tests, common_steps)
 
 test_kind : (o : Option Kind) → Dec (IsTestKind o)
-test_kind (Some of_nodes) = yes (inl refl)
-test_kind (Some of_logical) = yes (inr refl)
-test_kind _ = no (elim [ inl e ↦ cc | inr e ↦ cc ])
+test_kind o = grind (arith, nat_tests, common_steps)
 
 -- ---- singular queries
 
 by_test : {P : Type 0} (b : Bool) → Decides b P → Dec P
-by_test true decides = yes (decides.0 refl)
-by_test false decides = no (λ h. true≢false (sym (decides.1 h)))
+by_test b decides = grind (arith, nat_tests, common_steps)
 
 singular : (segs : Segments) → Dec (AreSingular segs)
 singular segs = by_test (are_singular segs) (Decides-are_singular segs)
@@ -36,9 +30,7 @@ params_meet {Meets} (Some s) each =
 
 module _ (signature : List ℕ → Option Signature) where
   takes_result : (wanted : Kind) (o : Option Kind) → Dec (TakesResult signature wanted o)
-  takes_result of_value o = kind o of_value
-  takes_result of_nodes o = kind o of_nodes
-  takes_result of_logical o = test_kind o
+  takes_result wanted o = grind (arith, nat_tests, common_steps, kind, test_kind)
 
   -- ---- well-typed forms
 
@@ -95,11 +87,10 @@ module _ (signature : List ℕ → Option Signature) where
     typed_argument (logical_argument e) _ = no (λ h. h)
 
     typed_operand : (o : Operand) (wanted : Kind) → Dec (IsTypedOperand signature o wanted)
-    typed_operand (literal l) of_value = yes tt
-    typed_operand (literal l) _ = no (λ h. h)
     typed_operand (queried q) of_value = both (typed q) (singular (segments_of q))
     typed_operand (queried q) _ = typed q
     typed_operand (called c) wanted = both (typed_call c) (takes_result wanted (result_kind signature c))
+    typed_operand o wanted = first_of (assumption, grind (arith, nat_tests, common_steps, singular, takes_result))
 
   -- what is well-typed for some reason is decided to be so, and from that a reason is built
   pub typed_recovered : (q : Query) → ∥ IsTyped signature q ∥₁ → IsTyped signature q
