@@ -16,8 +16,7 @@ is_integer (billionths b) amount e = let whole = literal_is_whole b amount e in 
 is_integer _ amount e = absurd cc
 
 some_of : (o : Option ℤ) → is_some o ≡ true → (z : ℤ) × (o ≡ Some z)
-some_of (Some z) e = (z, refl)
-some_of None e = absurd cc
+some_of o e = grind (arith, nat_tests, common_steps)
 
 -- ---- a common factor
 
@@ -48,24 +47,18 @@ rising a b is_x is_y =
 -- ---- two whole numbers, by either rule
 
 amount_of_whole : (side : Compared) (amount : ℤ) → whole_of side ≡ Some amount → amount_of side ≡ Some amount
-amount_of_whole (billionths b) amount e = ap Some (literal_is_whole b amount e).0
-amount_of_whole (value v) amount e = e
-amount_of_whole nothing amount e = e
+amount_of_whole side amount e = grind (arith, nat_tests, common_steps, literal_is_whole)
 
 pub same_whole : (numbers : Numbers) (a b : Compared) → is_some (whole_of a) ≡ true → is_some (whole_of b) ≡ true → of_both int_eq (whole_of a) (whole_of b) ≡ same_sides numbers a b
-same_whole whole_numbers a b is_x is_y = grind (arith, nat_tests, common_steps, some_of, amount_of_whole)
-same_whole all_numbers a b is_x is_y = equal a b is_x is_y
+same_whole numbers a b is_x is_y = grind (arith, nat_tests, common_steps, some_of, amount_of_whole, equal)
 
 pub rising_whole : (numbers : Numbers) (a b : Compared) (x y : ℤ) → whole_of a ≡ Some x → whole_of b ≡ Some y → int_lt x y ≡ rising_sides numbers a b
-rising_whole whole_numbers a b x y is_x is_y = rw (amount_of_whole a x is_x, amount_of_whole b y is_y) refl
-rising_whole all_numbers a b x y is_x is_y = sym (rw (is_x, is_y) refl) ∙ rising a b (ap is_some is_x) (ap is_some is_y)
+rising_whole numbers a b x y is_x is_y = grind (arith, nat_tests, common_steps, amount_of_whole, rising)
 
 -- ---- two numbers of documents
 
 short_integer : (n : Num) (x : ℤ) → as_i64 n ≡ Some x → (as_integer n ≡ Some x) × (document_number n ≡ integer x)
-short_integer (unsigned n) x e = grind (arith, nat_tests)
-short_integer (negative z) x e = grind (arith)
-short_integer (float f) x e = absurd cc
+short_integer n x e = grind (arith, nat_tests, common_steps)
 
 pub same : (numbers : Numbers) (a b : Num) (x y : ℤ) → as_i64 a ≡ Some x → as_i64 b ≡ Some y → int_eq x y ≡ same_number numbers a b
 same whole_numbers a b x y is_x is_y = rw ((short_integer a x is_x).0, (short_integer b y is_y).0) refl

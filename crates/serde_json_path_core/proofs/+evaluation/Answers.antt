@@ -110,15 +110,6 @@ evaluation::frame::Frame::next_arrival-returns-in-Some-peek-clause-found g t c =
 stands : (top : Data) (all left : List (Step × Data)) (first : Step × Data) → EndsIn all left → AllStandIn top all → left ≡ first ∷ drop 1 left → StandsIn top first.1
 stands top all left first ends inside is = ends-stand top all left ends inside first (subst (IsIn first) (sym is) (inl refl))
 
--- the child that is left first is admitted, as the expression holds for it
-at_child : (F : FunctionSet) (top : Data) (e : LogicalOr) (left : List (Step × Data)) (first : Step × Data) (found : Option Child)
-    → left ≡ first ∷ drop 1 left → computed.is_true F top e first.1 ≡ true → MatchOption found (left ≡ []) (λ c. left ≡ child_view c ∷ drop 1 left)
-    → advances.IsAtAdmitted F top (filter e) left (option_map child_view found)
-at_child F top e left first None is holds none = let lengths = ap length (sym none ∙ is) in absurd (omega arith)
-at_child F top e left first (Some c) is holds some =
-    let same : first ≡ child_view c = ap (λ children. get_or children 0 first) (sym is ∙ some) in
-    (some, rw (some, ap (λ (x : Step × Data). computed.is_true F top e x.1) (sym same) ∙ holds) refl)
-
 -- another child is passed for which the expression does not hold
 skips_another : (F : FunctionSet) (top : Data) (e : LogicalOr) (old left new : List (Step × Data)) (first : Step × Data)
     → advances.Skips F top (filter e) old left → left ≡ first ∷ drop 1 left → computed.is_true F top e first.1 ≡ false → new ≡ drop 1 left → advances.Skips F top (filter e) old new
@@ -130,23 +121,11 @@ evaluation::frame::next_passing-compares-requires g t c =
     let inside = stands (top_of c.args.scope.now) (cursor_left c.args.cursor.now) (cursor_left c.loop-child.cursor) (child_view c.in-Some-peek.child) c.loop-child.invariant.1 c.requires.inside c.in-Some-peek.ensures in
     search rules
 
-pub evaluation::frame::next_passing-returns-then-branch-clause-found : goal.evaluation::frame::next_passing-returns-then-branch-clause-found
-evaluation::frame::next_passing-returns-then-branch-clause-found g t c = grind (arith, nat_tests, common_steps, at_child)
-
-pub evaluation::frame::next_passing-loop-child-smaller : goal.evaluation::frame::next_passing-loop-child-smaller
-evaluation::frame::next_passing-loop-child-smaller g t c = grind (arith, nat_tests, common_steps)
-
 pub evaluation::frame::next_passing-loop-child-preserved : goal.evaluation::frame::next_passing-loop-child-preserved
 evaluation::frame::next_passing-loop-child-preserved g t c =
     let scope = c.args.scope.now in
     let e = or_at (nodes_of scope) c.args.test in
     skips_another (set_of scope) (top_of scope) e _ _ _ (child_view c.in-Some-peek.child) c.loop-child.invariant c.in-Some-peek.ensures (search rules) c.pass.ensures
-
-pub evaluation::frame::next_holding-returns-then-branch-clause-found : goal.evaluation::frame::next_holding-returns-then-branch-clause-found
-evaluation::frame::next_holding-returns-then-branch-clause-found g t c = grind (arith, nat_tests, common_steps, at_child)
-
-pub evaluation::frame::next_holding-loop-child-smaller : goal.evaluation::frame::next_holding-loop-child-smaller
-evaluation::frame::next_holding-loop-child-smaller g t c = grind (arith, nat_tests, common_steps)
 
 pub evaluation::frame::next_holding-loop-child-preserved : goal.evaluation::frame::next_holding-loop-child-preserved
 evaluation::frame::next_holding-loop-child-preserved g t c =
@@ -261,12 +240,6 @@ filter::query::first_from-find_next-requires g t c =
     let inside : ∥ IsStackIn (top_of scope) frames ∥₁ = ∣ entered-inside _ (view c.args.value.now) _ _ c.requires.inside c.in_ok-frames.ensures ∣₁ in
     search rules
 
-pub filter::query::first_from-returns-in-Some : goal.filter::query::first_from-returns-in-Some
-filter::query::first_from-returns-in-Some g t c = grind (arith, nat_tests, common_steps, found-some, rest-started)
-
-pub filter::query::first_from-returns : goal.filter::query::first_from-returns
-filter::query::first_from-returns g t c = grind (arith, nat_tests, common_steps, found-none, rest-started)
-
 pub filter::query::all_from-values-init : goal.filter::query::all_from-values-init
 filter::query::all_from-values-init g t c =
     let scope = c.args.scope.now in
@@ -283,9 +256,6 @@ filter::query::all_from-values-init g t c =
 pub filter::query::all_from-pass_node-requires : goal.filter::query::all_from-pass_node-requires
 filter::query::all_from-pass_node-requires g t c = (found-some _ _ c.in_ok-node.field-0 c.in-Some.node c.in-Some.is c.in_ok-node.ensures.found).0
 
-pub filter::query::all_from-values-smaller : goal.filter::query::all_from-values-smaller
-filter::query::all_from-values-smaller g t c = grind (arith, nat_tests, common_steps, found-some)
-
 pub filter::query::all_from-values-preserved : goal.filter::query::all_from-values-preserved
 filter::query::all_from-values-preserved g t c =
     let scope = c.args.scope.now in
@@ -301,9 +271,6 @@ filter::query::all_from-values-preserved g t c =
           (sym (append_assoc found (view node.value.now ∷ []) left));
       inside = ∥∥₁_map c.values.invariant.inside (λ h. (h.0, h.1, subst (IsStack h.0) (sym c.pass_node.ensures) (at.1.2 h.0 (c.find_next.ensures.kept.2 h.0 h.2))));
     }
-
-pub filter::query::first-returns-in-None : goal.filter::query::first-returns-in-None
-filter::query::first-returns-in-None g t c = grind (arith, nat_tests, common_steps, first-of-values)
 
 -- ---- logical expressions and calls
 
@@ -352,14 +319,8 @@ filter::call::answer-loop-argument-init g t c =
       means = search rules;
     }
 
-pub filter::call::answer-argument_as-requires : goal.filter::call::answer-argument_as-requires
-filter::call::answer-argument_as-requires g t c = grind (arith, nat_tests, common_steps, next-argument)
-
 pub filter::call::answer-loop-argument-preserved : goal.filter::call::answer-loop-argument-preserved
 filter::call::answer-loop-argument-preserved g t c = grind (arith, nat_tests, common_steps, next-argument)
-
-pub filter::call::answer-returns-clause-kind : goal.filter::call::answer-returns-clause-kind
-filter::call::answer-returns-clause-kind g t c = grind (arith, nat_tests, common_steps, answered-kind)
 
 pub filter::call::answer-returns-clause-computes : goal.filter::call::answer-returns-clause-computes
 filter::call::answer-returns-clause-computes g t c =

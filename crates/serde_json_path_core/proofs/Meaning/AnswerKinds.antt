@@ -1,5 +1,5 @@
 -- Well-typed calls have answers, and under a function set that keeps types these and the computed arguments have their declared types.
-use Rattle.serde_json_path_core.proofs.Words.{◌≡◌, List, [], ◌∷◌, map, Some, true, refl, sym, ap, ◌∙◌, same_Some, Data, Operand, literal, queried, called, Call, call, Arguments, no_arguments, argument, Argument, operand, logical_argument, Kind, of_value, of_logical, Term, FunctionSet, kind_of_term, KeepsTypes, Compared, literal_compared, value_compared, first_value, result_kind, IsTypedComparable, IsTypedCall, AreTypedArguments, IsTypedArgument, IsTypedOperand, results, compared, answer, arguments, argument_as, answer_compared, are_taken, is_answered, is_taken, is_given, operand_as, value}
+use Rattle.serde_json_path_core.proofs.Words.{◌≡◌, List, [], ◌∷◌, map, Some, true, refl, sym, ap, ◌∙◌, same_Some, Data, Operand, literal, queried, called, Call, call, Arguments, no_arguments, argument, Argument, operand, logical_argument, Kind, of_value, of_logical, Term, FunctionSet, kind_of_term, KeepsTypes, Compared, literal_compared, value_compared, first_value, result_kind, IsTypedComparable, IsTypedCall, AreTypedArguments, IsTypedArgument, IsTypedOperand, results, compared, answer, arguments, argument_as, answer_compared, are_taken, is_answered, is_taken, is_given, operand_as, value, arith, nat_tests, common_steps}
 
 module _ (F : FunctionSet) where
   mutual
@@ -8,9 +8,8 @@ module _ (F : FunctionSet) where
     answered-typed (call f args) typed = rw typed.1 (taken-typed args typed.0.params typed.2)
 
     pub taken-typed : (args : Arguments) (kinds : List Kind) → AreTypedArguments F.signature args kinds → are_taken F args kinds ≡ true
-    taken-typed no_arguments kinds typed = refl
-    taken-typed (argument a more) [] typed = absurd typed
     taken-typed (argument a more) (kind ∷ kinds) typed = rw (argument-typed a kind typed.0) (taken-typed more kinds typed.1)
+    taken-typed args kinds typed = first_of (assumption, grind (arith, nat_tests, common_steps))
 
     argument-typed : (a : Argument) (kind : Kind) → IsTypedArgument F.signature a kind → is_taken F a ≡ true
     argument-typed (operand o) kind typed = operand-typed o kind typed
@@ -30,14 +29,12 @@ module _ (F : FunctionSet) (top : Data) (keeps : KeepsTypes F) where
 
     -- the arguments have the types of the parameters
     pub arguments_kinds : (args : Arguments) (kinds : List Kind) → AreTypedArguments F.signature args kinds → (v : Data) → map kind_of_term (arguments F top args kinds v) ≡ kinds
-    arguments_kinds no_arguments kinds typed v = sym typed
-    arguments_kinds (argument a more) [] typed v = absurd typed
     arguments_kinds (argument a more) (kind ∷ kinds) typed v = λ i. argument_kind a kind typed.0 v i ∷ arguments_kinds more kinds typed.1 v i
+    arguments_kinds args kinds typed v = first_of (assumption, grind (arith, nat_tests, common_steps))
 
     argument_kind : (a : Argument) (kind : Kind) → IsTypedArgument F.signature a kind → (v : Data) → kind_of_term (argument_as F top a kind v) ≡ kind
     argument_kind (operand o) kind typed v = operand_kind o kind typed v
-    argument_kind (logical_argument e) of_logical typed v = refl
-    argument_kind (logical_argument e) _ typed v = absurd typed
+    argument_kind a kind typed v = first_of (assumption, grind (arith, nat_tests, common_steps))
 
     operand_kind : (o : Operand) (kind : Kind) → IsTypedOperand F.signature o kind → (v : Data) → kind_of_term (operand_as F top o kind v) ≡ kind
     operand_kind (literal l) of_value typed v = refl

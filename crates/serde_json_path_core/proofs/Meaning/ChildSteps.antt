@@ -12,8 +12,7 @@ in_child_by v s c = grind (arith, nat_tests, common_steps, in_option, by_step)
 
 -- the position that an index means is the one that it selects
 selects_index : (i : ℤ) (len p : ℕ) → (position_in i len ≡ Some p) ↔ SelectsIndex i len p
-selects_index (pos q) len p = grind (arith, nat_tests, common_steps, same_Some)
-selects_index (negsuc k) len p = grind (arith, nat_tests, common_steps, none-some, same_Some, cases_Bool)
+selects_index i len p = grind (arith, nat_tests, common_steps, same_Some, none-some, cases_Bool)
 
 -- the one child at an index
 pub in_item_at : (v : Data) (i : ℤ) (c : Step × Data) → IsIn c (option_to_list (item_at v i)) ↔ (IsPositionOf (SelectsIndex i) v c.0 × (child_at v c.0 ≡ Some c.1))
@@ -53,9 +52,7 @@ pub found_here : (k : List ℕ) (d : Data) (ms : Members) → get_member k (memb
 found_here k d ms = let e : slice_cmp nat_cmp k k ≡ Equal = tied_itself nat_list_cmp_total k in rw e
 
 either : (o : Ordering) (a b : Option Data) → is_eq o ≡ false → match_ordering o a b a ≡ a
-either Less a b e = refl
-either Equal a b e = absurd (true≢false e)
-either Greater a b e = refl
+either o a b e = grind (arith, nat_tests, common_steps)
 
 found_later : (q k : List ℕ) (d : Data) (ms : Members) → bytes_eq q k ≡ false → get_member q (member k d ms) ≡ get_member q ms
 found_later q k d ms e = either (slice_cmp nat_cmp q k) _ _ (is_eq-slice_cmp q k ∙ e)
@@ -143,9 +140,7 @@ children_sound (object ms) c h =
 children_sound _ c h = absurd h
 
 children_complete : (v : Data) (s : Step) (c : Data) → child_at v s ≡ Some c → IsIn {A = Step × Data} (s, c) (children v)
-children_complete (array items) (by_position p) c e = grind (arith, nat_tests, common_steps, items_in)
-children_complete (object ms) (by_name k) c e = members_in (in_order ms) k c (get_member-in_order k ms ∙ e)
-children_complete _ _ c e = absurd (none-some c e)
+children_complete v s c e = grind (arith, nat_tests, common_steps, items_in, members_in, get_member-in_order, none-some)
 
 -- the children are what the steps lead to
 pub in_children : (v : Data) (c : Step × Data) → IsIn c (children v) ↔ (child_at v c.0 ≡ Some c.1)
@@ -153,6 +148,4 @@ in_children v c = (children_sound v c, children_complete v c.0 c.1)
 
 -- the children stand in document order
 pub children_ordered : (v : Data) → IsInOrder (λ (a b : Step × Data). StepBefore a.0 b.0) (children v)
-children_ordered (array items) = items_ordered 0 items
-children_ordered (object ms) = members_ordered (in_order ms) (rising-in_order ms)
-children_ordered _ = tt
+children_ordered v = grind (arith, nat_tests, common_steps, items_ordered, members_ordered, rising-in_order)

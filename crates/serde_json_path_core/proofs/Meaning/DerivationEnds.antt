@@ -47,8 +47,7 @@ triple_place : (down : List Step) (cs : List (Step × Data)) (t : Triple × Data
 triple_place down cs t h = ap (λ (u : Triple × Data). u.0.descent) ((in_map (triple_at down) t cs).0 h).2
 
 levels_reached : (kind : SegmentKind) (n : Located) → map (beneath n.location) (levels kind n.value) ≡ reached kind n
-levels_reached child n = ap (λ l. record { location = l; value = n.value } ∷ []) (append-nil n.location)
-levels_reached descendant n = refl
+levels_reached kind n = grind (arith, nat_tests, common_steps)
 
 module _ (F : FunctionSet) (top : Data) where
   -- the triples of what the selectors select
@@ -74,11 +73,8 @@ module _ (F : FunctionSet) (top : Data) where
   -- ---- order
 
   selected_ordered : (sel : Selector) (v : Data) → IsInOrder (λ (a b : Step × Data). SelectedBefore sel a.0 b.0) (selected F top sel v)
-  selected_ordered (name k) v = in_order-option (λ (a b : Step × Data). StepBefore a.0 b.0) (child_by v (by_name k))
-  selected_ordered wildcard v = children_ordered v
-  selected_ordered (index i) v = in_order-option (λ (a b : Step × Data). StepBefore a.0 b.0) (item_at v i)
-  selected_ordered (slice s) v = sliced_ordered s v
   selected_ordered (filter e) v = in_order-keep (λ (a b : Step × Data). StepBefore a.0 b.0) (λ c. is_true F top e c.1) (children v) (children_ordered v)
+  selected_ordered sel v = first_of (assumption, grind (arith, nat_tests, common_steps, in_order-option, children_ordered, sliced_ordered, in_order-keep))
 
   -- a segment's triples are at the node where it is applied
   picks_by_place : (sels : Selectors) (down : List Step) (v : Data) (t : Triple × Data) → IsIn t (picks_by sels down v) → t.0.descent ≡ down
@@ -90,9 +86,7 @@ module _ (F : FunctionSet) (top : Data) where
       ]
 
   picks_place : (seg : Segment) (down : List Step) (v : Data) (t : Triple × Data) → IsIn t (picks seg down v) → t.0.descent ≡ down
-  picks_place (dot_name k) down v t h = triple_place down (option_to_list (child_by v (by_name k))) t h
-  picks_place dot_wildcard down v t h = triple_place down (children v) t h
-  picks_place (long_hand sels) down v t h = picks_by_place sels down v t h
+  picks_place seg down v t h = grind (arith, nat_tests, common_steps, triple_place, picks_by_place)
 
   picks_by_ordered : (sels : Selectors) (down : List Step) (v : Data) → IsInOrder (λ (t u : Triple × Data). TripleBefore (long_hand sels) t.0 u.0) (picks_by sels down v)
   picks_by_ordered no_selectors down v = tt
@@ -110,9 +104,7 @@ module _ (F : FunctionSet) (top : Data) where
       rw (c.2, d.2) (inr (sym (picks_by_place more down v d.0 d.1), inl (omega arith))))
 
   picks_ordered : (seg : Segment) (down : List Step) (v : Data) → IsInOrder (λ (t u : Triple × Data). TripleBefore seg t.0 u.0) (picks seg down v)
-  picks_ordered (dot_name k) down v = in_order-map _ (triple_at down) (option_to_list (child_by v (by_name k))) (in_order-option _ (child_by v (by_name k)))
-  picks_ordered dot_wildcard down v = grind (arith, nat_tests, common_steps, weaker, in_order-map, children_ordered)
-  picks_ordered (long_hand sels) down v = picks_by_ordered sels down v
+  picks_ordered seg down v = grind (arith, nat_tests, common_steps, in_order-map, in_order-option, weaker, children_ordered, picks_by_ordered)
 
   through_ordered : (kind : SegmentKind) (seg : Segment) (v : Data) → IsInOrder (λ (t u : Triple × Data). TripleBefore seg t.0 u.0) (through kind seg v)
   through_ordered kind seg v =
@@ -139,9 +131,7 @@ module _ (F : FunctionSet) (top : Data) where
   child_of-picks_by (selector sel more) n down v = grind (arith, nat_tests, common_steps, map-append, map-map, child_of-triple, child_of-picks_by more n down v)
 
   child_of-picks : (seg : Segment) (n : Located) (down : List Step) (v : Data) → map (child_of n) (picks seg down v) ≡ map (placed (n.location ++ down)) (chosen F top seg v)
-  child_of-picks (dot_name k) n down v = child_of-triple n down (option_to_list (child_by v (by_name k)))
-  child_of-picks dot_wildcard n down v = child_of-triple n down (children v)
-  child_of-picks (long_hand sels) n down v = child_of-picks_by sels n down v
+  child_of-picks seg n down v = grind (arith, nat_tests, common_steps, child_of-triple, child_of-picks_by)
 
   -- the nodes that segments select from a node are those of the ends
   pub results-ends : (segs : Segments) (n : Located) → results_from F top segs n ≡ map (node_at n) (ends segs n.value)

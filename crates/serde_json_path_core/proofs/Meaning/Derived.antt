@@ -24,8 +24,7 @@ at_below v down d s c rest p q = grind (arith, nat_tests, common_steps, at-appen
 
 -- the values at which selectors are applied are those that the segment may descend to
 in_levels : (kind : SegmentKind) (v : Data) (m : Located) → IsIn m (levels kind v) ↔ (MayDescend kind m.location × (at v m.location ≡ Some m.value))
-in_levels child v m = grind (arith, nat_tests, common_steps, same_Some)
-in_levels descendant v m = let d = in_descents v m in (λ h. (tt, d.0 h), λ h. d.1 h.1)
+in_levels kind v m = grind (arith, nat_tests, common_steps, same_Some, in_descents)
 
 -- the triples of children
 in_triples : (down : List Step) (cs : List (Step × Data)) (t : Triple × Data)
@@ -39,10 +38,7 @@ in_triples down cs t = (
 -- ---- tests and answers
 
 yes_decides : (t : Term) → Decides (answer_holds t) (AnswersYes t)
-yes_decides (value v) = (λ e. true≢false (sym e), λ h. absurd h)
-yes_decides (nodes []) = (λ e. absurd (true≢false (sym e)), λ h. absurd (h refl))
-yes_decides (nodes (d ∷ ds)) = (λ e f. let g : [] ≡ d ∷ ds = sym f in cc, λ h. refl)
-yes_decides (logical b) = (λ e. e, λ e. e)
+yes_decides t = grind (arith, nat_tests, common_steps)
 
 truth_of : (P : Type 0) (b : Bool) (t : Term) → Decides b P → IsTruthOf P t ↔ (t ≡ logical b)
 truth_of P b t d = (λ h. h.1 ∙ ap logical (same_from_decides h.0 b h.2 d), λ e. (b, e, d))
@@ -69,8 +65,7 @@ answer_side there a A f x = (λ h. ap answer_compared (sym ((f.1 (value h.0)).0 
 
 -- an answer as a test
 answer_test : (there : Bool) (a : Term) (A : Term → Type 0) → IsAnswer there a A → Decides (answer_holds a) ((t : Term) × A t × AnswersYes t)
-answer_test true a A f = grind (arith, nat_tests, common_steps, yes_decides)
-answer_test false a A f = (λ e. absurd (true≢false (sym e ∙ ap answer_holds (f.0 refl))), λ h. absurd (true≢false (sym ((f.1 h.0).0 h.1).0)))
+answer_test there a A f = grind (arith, nat_tests, common_steps, yes_decides)
 
 -- an answer as an argument of type Logical
 answer_logical : (there : Bool) (a : Term) (A : Term → Type 0) → IsAnswer there a A → (t : Term)
@@ -84,8 +79,7 @@ plainly f = (λ p. (refl, f.0 p), λ h. f.1 h.1)
 -- one argument and those after it
 one_more : (first others : Bool) (P Q : Type 0) (t a : Term) (ts more : List Term) → P ↔ ((first ≡ true) × (t ≡ a)) → Q ↔ ((others ≡ true) × (ts ≡ more))
     → (P × Q) ↔ (((first && others) ≡ true) × ((t ∷ ts) ≡ (a ∷ more)))
-one_more true others P Q t a ts more f g = grind (arith, nat_tests, common_steps)
-one_more false others P Q t a ts more f g = (λ h. absurd (true≢false (sym (f.0 h.0).0)), λ e. absurd (true≢false (sym e.0)))
+one_more first others P Q t a ts more f g = grind (arith, nat_tests, common_steps)
 
 module _ (F : FunctionSet) (top : Data) where
   -- ---- what the computed lists and tests of a tree are to be
@@ -157,38 +151,10 @@ module _ (F : FunctionSet) (top : Data) where
           (in_append t _ _).1
           (inr ((in_map later t (picks_by F top more down v)).1 (u, (are_picks down v u).1 (d, a, c), λ i. (record { descent = t.0.descent; number = e i; step = t.0.step }, t.1))))
 
-  dot_name_step : (k : List ℕ) → ArePicks (dot_name k)
-  dot_name_step k down v t = grind (arith, nat_tests, common_steps, in_child_by, in_triples)
-
-  dot_wildcard_step : ArePicks dot_wildcard
-  dot_wildcard_step down v t =
-      let i = in_triples down (children v) t in
-      let c = in_children v (t.0.step, t.1) in
-      (λ h. let j = i.0 h in (j.0, j.1, c.0 j.2), λ h. i.1 (h.0, h.1, c.1 h.2))
-
-  filter_step : (e : LogicalOr) → ((v : Data) → Decides (is_true F top e v) (Holds F top e v)) → AreSelected (filter e)
-  filter_step e right v c =
-      let k = in_keep (λ (x : Step × Data). is_true F top e x.1) c (children v) in
-      let i = in_children v c in (
-        λ h. let j = k.0 h in ((c.1, i.0 j.0, (right c.1).0 j.1), i.0 j.0),
-        λ h. k.1 (i.1 h.1, (right c.1).1 (subst (Holds F top e) (same_Some h.0.0 c.1 (sym h.0.1 ∙ h.1)) h.0.2)),
-      )
-
   zipped : (start : Data) (es : List End) → ((e : End) → IsIn e es → at start (location_of e.0) ≡ Some e.1)
       → AllZip (BelongsTo start) (map (λ (e : End). e.0) es) (map (node_at (itself start)) es)
   zipped start [] f = tt
   zipped start (e ∷ es) f = ((refl, f e (inl refl)), zipped start es (λ x h. f x (inr h)))
-
-  query_step : (kind : QueryKind) (segs : Segments) → AreEnds segs → IsQueryRight (query kind segs)
-  query_step kind segs are_ends v =
-      let start = start_of kind top v in
-      let es = ends F top segs start in
-      let derive : (xs : List Triple) → IsIn xs (map (λ (e : End). e.0) es) ↔ Derives F top segs start xs = λ xs. (
-        λ h. let k = (in_map (λ (e : End). e.0) xs es).0 h in subst (Derives F top segs start) (sym k.2) ((are_ends start).0 k.0 k.1).0,
-        λ h. let d = (are_ends start).1 xs h in map_in (λ (e : End). e.0) (xs, d.0) es d.1,
-      ) in
-      subst (IsResult F top (query kind segs) v) (sym (results-ends F top segs (itself start)))
-      (map (λ (e : End). e.0) es, in_order-map (Before segs) (λ (e : End). e.0) es (ends_ordered F top segs start), derive, zipped start es (λ e h. ((are_ends start).0 e h).1))
 
   -- a result has a node exactly where the query has a derivation
   has_node : (q : Query) (v : Data) (ns : List Located) → IsResult F top q v ns → Decides (is_nonempty ns) (Exists F top q v)
@@ -203,15 +169,23 @@ module _ (F : FunctionSet) (top : Data) where
 
   -- what is negated is decided by the opposite
   Decides-not_if : {P : Type 0} (negated b : Bool) → Decides b P → Decides (not_if negated b) (NotIf negated P)
-  Decides-not_if true b decides = Decides-not b decides
-  Decides-not_if false b decides = decides
+  Decides-not_if negated b decides = grind (arith, nat_tests, common_steps)
 
   -- ---- the whole language
 
   mutual
     -- the computed list of a query is its result
     pub computed_result : (q : Query) → IsQueryRight q
-    computed_result (query kind segs) = query_step kind segs (are_ends segs)
+    computed_result (query kind segs) = λ v.
+        let start = start_of kind top v in
+        let es = ends F top segs start in
+        let are = are_ends segs start in
+        let derive : (xs : List Triple) → IsIn xs (map (λ (e : End). e.0) es) ↔ Derives F top segs start xs = λ xs. (
+          λ h. let k = (in_map (λ (e : End). e.0) xs es).0 h in subst (Derives F top segs start) (sym k.2) (are.0 k.0 k.1).0,
+          λ h. let d = are.1 xs h in map_in (λ (e : End). e.0) (xs, d.0) es d.1,
+        ) in
+        subst (IsResult F top (query kind segs) v) (sym (results-ends F top segs (itself start)))
+        (map (λ (e : End). e.0) es, in_order-map (Before segs) (λ (e : End). e.0) es (ends_ordered F top segs start), derive, zipped start es (λ e h. (are.0 e h).1))
 
     -- the computed ends of segments are those of their derivations
     are_ends : (segs : Segments) → AreEnds segs
@@ -222,8 +196,11 @@ module _ (F : FunctionSet) (top : Data) where
     are_ends (segment kind seg more) = ends_step kind seg more (are_picks seg) (are_ends more)
 
     are_picks : (seg : Segment) → ArePicks seg
-    are_picks (dot_name k) = dot_name_step k
-    are_picks dot_wildcard = dot_wildcard_step
+    are_picks (dot_name k) = λ down v t. grind (arith, nat_tests, common_steps, in_child_by, in_triples)
+    are_picks dot_wildcard = λ down v t.
+        let i = in_triples down (children v) t in
+        let c = in_children v (t.0.step, t.1) in
+        (λ h. let j = i.0 h in (j.0, j.1, c.0 j.2), λ h. i.1 (h.0, h.1, c.1 h.2))
     are_picks (long_hand sels) = are_picks_by sels
 
     are_picks_by : (sels : Selectors) → ArePicks (long_hand sels)
@@ -235,7 +212,12 @@ module _ (F : FunctionSet) (top : Data) where
     are_selected wildcard = λ v c. let i = in_children v c in (λ h. (tt, i.0 h), λ h. i.1 h.1)
     are_selected (index i) = λ v c. in_item_at v i c
     are_selected (slice s) = λ v c. in_sliced s v c
-    are_selected (filter e) = filter_step e (or_right e)
+    are_selected (filter e) = λ v c.
+        let k = in_keep (λ (x : Step × Data). is_true F top e x.1) c (children v) in
+        let i = in_children v c in (
+          λ h. let j = k.0 h in ((c.1, i.0 j.0, (or_right e c.1).0 j.1), i.0 j.0),
+          λ h. k.1 (i.1 h.1, (or_right e c.1).1 (subst (Holds F top e) (same_Some h.0.0 c.1 (sym h.0.1 ∙ h.1)) h.0.2)),
+        )
 
     -- a logical expression holds exactly where it computes to true
     or_right : (e : LogicalOr) (v : Data) → Decides (is_true F top e v) (Holds F top e v)

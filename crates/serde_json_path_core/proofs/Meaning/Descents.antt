@@ -18,8 +18,7 @@ blocks no_members = []
 blocks (member k d more) = (k, descents d) ∷ blocks more
 
 blocks-match_ordering : (o : Ordering) (a b c : Members) → match_ordering o (blocks a) (blocks b) (blocks c) ≡ blocks (match_ordering o a b c)
-blocks-match_ordering Less a b c = refl
-blocks-match_ordering _ a b c = refl
+blocks-match_ordering o a b c = grind (arith, nat_tests, common_steps)
 
 blocks-put : (k : List ℕ) (d : Data) (ms : Members) → insert_entry (slice_cmp nat_cmp) (blocks ms) k (descents d) ≡ blocks (put k d ms)
 blocks-put k d no_members = refl
@@ -35,9 +34,7 @@ blocks-children (member k d more) = ap (λ ns. below_child (by_name k, d) ++ ns)
 
 -- a value and all below it are the value, and each child and all below it
 pub descents_are : (v : Data) → descents v ≡ itself v ∷ flat_map below_child (children v)
-descents_are (array items) = ap (λ ns. itself (array items) ∷ ns) (items_descents-children 0 items)
-descents_are (object ms) = grind (arith, nat_tests, common_steps, members_descents-in_order, blocks-children)
-descents_are _ = refl
+descents_are v = grind (arith, nat_tests, common_steps, itself, items_descents-children, members_descents-in_order, blocks-children)
 
 -- ---- membership
 

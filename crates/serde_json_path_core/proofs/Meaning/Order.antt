@@ -5,37 +5,25 @@ use Rattle.serde_json_path_core.proofs.Words.{nat_tests, common_steps, ◌≡◌
 
 pub step_once : (s t : Step) → StepBefore s t → StepBefore t s → ⊥
 step_once (by_name k) (by_name l) h g = let e : Less ≡ Greater = sym h ∙ nat_list_cmp_total.antisymm k l ∙ ap ordering_reverse g in cc
-step_once (by_position i) (by_position j) h g = absurd (omega arith)
-step_once _ _ h g = h
+step_once s t h g = first_of (assumption, grind (arith, nat_tests, common_steps))
 
 -- where what comes first decides, and otherwise what follows
 first_once : {A P Q : Type 0} (R : A → A → Type 0) (once : (x y : A) → R x y → R y x → ⊥) (x y : A) → (x ≡ y → P → Q → ⊥) → R x y ⊎ ((x ≡ y) × P) → R y x ⊎ ((y ≡ x) × Q) → ⊥
-first_once R once x y rest (inl h) (inl g) = once x y h g
-first_once R once x y rest (inl h) (inr g) = let k = subst (R x) g.0 h in once x x k k
-first_once R once x y rest (inr h) (inl g) = let k = subst (R y) h.0 g in once y y k k
-first_once R once x y rest (inr h) (inr g) = rest h.0 h.1 g.1
+first_once R once x y rest h5 h6 = grind (arith, nat_tests, common_steps)
 
 descent_once : (xs ys : List Step) → DescentBefore xs ys → DescentBefore ys xs → ⊥
-descent_once [] [] h g = h
-descent_once [] (t ∷ ts) h g = g
-descent_once (s ∷ ss) [] h g = h
 descent_once (s ∷ ss) (t ∷ ts) h g = first_once StepBefore step_once s t (λ e. descent_once ss ts) h g
+descent_once xs ys h g = first_of (assumption, grind (arith, nat_tests, common_steps, first_once, step_once))
 
 selected_once : (sel : Selector) (s t : Step) → SelectedBefore sel s t → SelectedBefore sel t s → ⊥
-selected_once (slice sl) s t (inl h) (inl g) = step_once s t h.1 g.1
-selected_once (slice sl) s t (inr h) (inr g) = step_once t s h.1 g.1
-selected_once (slice sl) s t (inl h) (inr g) = let p = h.0 in let q = g.0 in absurd (omega (arith, ints))
-selected_once (slice sl) s t (inr h) (inl g) = let p = h.0 in let q = g.0 in absurd (omega (arith, ints))
-selected_once _ s t h g = step_once s t h g
+selected_once sel s t h g = grind (arith, nat_tests, common_steps, step_once, ints)
 
 selected_once_by : (sels : Selectors) (n : ℕ) (s t : Step) → SelectedBeforeBy sels n s t → SelectedBeforeBy sels n t s → ⊥
-selected_once_by no_selectors n s t h g = h
-selected_once_by (selector sel more) zero s t h g = selected_once sel s t h g
 selected_once_by (selector sel more) (suc n) s t h g = selected_once_by more n s t h g
+selected_once_by sels n s t h g = first_of (assumption, grind (arith, nat_tests, common_steps, selected_once))
 
 selected_once_in : (seg : Segment) (n : ℕ) (s t : Step) → SelectedBeforeIn seg n s t → SelectedBeforeIn seg n t s → ⊥
-selected_once_in (long_hand sels) n s t h g = selected_once_by sels n s t h g
-selected_once_in _ n s t h g = step_once s t h g
+selected_once_in seg n s t h g = grind (arith, nat_tests, common_steps, selected_once_by, step_once)
 
 triple_once : (seg : Segment) (x y : Triple) → TripleBefore seg x y → TripleBefore seg y x → ⊥
 triple_once seg x y h g =
@@ -52,8 +40,7 @@ before_once _ _ _ h g = h
 
 in_rest : {A : Type 0} (R : A → A → Type 0) (once : (x y : A) → R x y → R y x → ⊥) (x y z : A) (xs ys : List A)
     → x ≡ y → IsInOrder R (x ∷ xs) → IsIn z xs → IsIn z (y ∷ ys) → IsIn z ys
-in_rest R once x y z xs ys e o h (inr g) = g
-in_rest R once x y z xs ys e o h (inl f) = let k = subst (R x) (f ∙ sym e) (o.0 z h) in absurd (once x x k k)
+in_rest R once x y z xs ys e o h h10 = grind (arith, nat_tests, common_steps)
 
 pub in_order_once : {A : Type 0} (R : A → A → Type 0) (once : (x y : A) → R x y → R y x → ⊥) (xs ys : List A)
     → IsInOrder R xs → IsInOrder R ys → ((z : A) → IsIn z xs → IsIn z ys) → ((z : A) → IsIn z ys → IsIn z xs) → xs ≡ ys
@@ -80,9 +67,8 @@ same_pair : (start : Data) (xs : List Triple) (n m : Located) → BelongsTo star
 same_pair start xs n m h g = grind (arith, nat_tests, common_steps, same_Some)
 
 same_pairs : (start : Data) (ds : List (List Triple)) (ns ms : List Located) → AllZip (BelongsTo start) ds ns → AllZip (BelongsTo start) ds ms → ns ≡ ms
-same_pairs start [] [] [] h g = refl
 same_pairs start (d ∷ ds) (n ∷ ns) (m ∷ ms) h g = grind (arith, nat_tests, common_steps, same_pair, same_pairs start ds ns ms h.1 g.1)
-same_pairs start _ _ _ h g = absurd (assumption (h, g))
+same_pairs start ds ns ms h g = first_of (assumption, grind (arith, nat_tests, common_steps, same_pair))
 
 -- a query has one result at most
 pub result_once : (F : FunctionSet) (top : Data) (q : Query) (v : Data) (ns ms : List Located) → IsResult F top q v ns → IsResult F top q v ms → ns ≡ ms

@@ -78,8 +78,7 @@ counted_within j (suc width) stride =
     (λ h. let k = many.0 (omega arith) in omega arith, λ h. let k = many.1 (omega arith) in omega arith)
 
 counted : (z : ℤ) (len : ℕ) → pos 0 ≤ℤ z → z ≤ℤ pos len → (pos (nat_abs z) ≡ z) × (nat_abs z ≤ len)
-counted (pos n) len low high = (refl, omega (arith, ints))
-counted (negsuc n) len low high = absurd (omega (arith, ints))
+counted z len low high = grind (arith, nat_tests, common_steps, ints)
 
 -- a bound that is cut to an array's length counts items, and so does one that may lie before position 0, with 1 added
 cut_counted : (len : ℕ) (x : ℤ) → let z = int_min (pos len) (int_max (pos 0) x) in (pos (nat_abs z) ≡ z) × (nat_abs z ≤ len)

@@ -1,27 +1,24 @@
 -- A call of a set answers what is computed, and is refused for its pattern only where it goes by one.
-use Rattle.serde_json_path_core.proofs.Words.{◌≡◌, ◌⊎◌, ℕ, List, [], ◌∷◌, ◌++◌, length, map, inl, inr, Option, Some, None, option_map, Result, Ok, Err, IfOk, IfErr, refl, sym, ap, subst, ◌∙◌, append-nil, Data, Query, Call, call, Term, FunctionSet, Signature, kind_of_term, result_kind, term_view, params_of, IsTypedCall, AreTypedArguments, CallsByPattern, StandsIn, IsSound, arguments_of, calls_from, name_of, answer, arguments, Branch, arguments_in, branches_named, Part, kind_view, Gives, MayRefuse, QueryError, Pattern, FunctionArgType, FunctionValue}
-use Rattle.serde_json_path_core.proofs.Sound.{own-call}
+use Rattle.serde_json_path_core.proofs.Words.{◌≡◌, ◌⊎◌, ℕ, List, [], ◌∷◌, ◌++◌, length, map, inl, inr, Option, Some, None, option_map, Result, Ok, Err, IfOk, IfErr, refl, sym, ap, subst, ◌∙◌, append-nil, Data, Query, Call, call, Term, FunctionSet, Signature, kind_of_term, result_kind, term_view, params_of, IsTypedCall, AreTypedArguments, CallsByPattern, StandsIn, IsSound, arguments_of, calls_from, name_of, answer, arguments, Branch, arguments_in, branches_named, Part, kind_view, Gives, MayRefuse, QueryError, Pattern, FunctionArgType, FunctionValue, nat_tests, common_steps, arith}
+use Rattle.serde_json_path_core.proofs.Sound.{next-argument, own-call}
 use Rattle.serde_json_path_core.proofs.Meaning.AnswerKinds.{answered-typed, taken-typed}
 use Rattle.serde_json_path_core.proofs.Meaning.Derived.{arguments_right}
 
 -- a term that a signature gives is of its result's type
 given-kind : (s : Option Signature) (t : Term) → Gives s t → Some (kind_of_term t) ≡ option_map (λ (s : Signature). s.result) s
-given-kind None t gives = absurd gives
-given-kind (Some s) t gives = ap Some gives
+given-kind s t gives = grind (arith, nat_tests, common_steps)
 
 -- and so is a call's answer
 pub answered-kind : {E : Type 0} (F : FunctionSet) (c : Call) (name : List ℕ) (r : Result FunctionValue E) → name ≡ name_of c
     → IfOk r (λ a. Gives (F.signature name) (term_view a)) → IfOk r (λ a. Some (kind_of_term (term_view a)) ≡ result_kind F.signature c)
-answered-kind F (call f args) name (Ok a) e gives = given-kind (F.signature f) (term_view a) (subst (λ n. Gives (F.signature n) (term_view a)) e gives)
-answered-kind F _ name (Err x) e gives = tt
+answered-kind F c name r e gives = grind (arith, nat_tests, common_steps, given-kind)
 
 module _ (F : FunctionSet) (top : Data) where
   -- where no argument is left, or no parameter, nothing is left to give
   none-left : (ps : List Branch) (parts : List Part) (kinds : List FunctionArgType) (v : Data) → (length parts ≡ 0) ⊎ (length kinds ≡ 0)
       → arguments F top (arguments_in (branches_named ps parts)) (map kind_view kinds) v ≡ []
-  none-left ps [] kinds v h = refl
-  none-left ps (part ∷ parts) [] v h = refl
   none-left ps (part ∷ parts) (kind ∷ kinds) v h = absurd (elim h [ inl e ↦ cc | inr e ↦ cc ])
+  none-left ps parts kinds v h = first_of (assumption, grind (arith, nat_tests, common_steps))
 
   -- then what is given are all arguments
   pub given-all : (ps : List Branch) (parts : List Part) (kinds : List FunctionArgType) (v : Data) (given all : List Term) → (length parts ≡ 0) ⊎ (length kinds ≡ 0)
@@ -31,9 +28,7 @@ module _ (F : FunctionSet) (top : Data) where
   pub answered : {E : Type 0} (c : Call) (name : List ℕ) (v : Data) (given : List Term) (r : Result FunctionValue E) → IsTypedCall F.signature c → name ≡ name_of c
       → given ≡ arguments F top (arguments_of c) (params_of (F.signature (name_of c))) v
       → IfOk r (λ a. term_view a ≡ F.meaning name given) → IfOk r (λ a. term_view a ≡ answer F top c v)
-  answered (call f args) name v given (Ok a) typed e is means =
-      rw (answered-typed F (call f args) typed) (means ∙ ap (λ n. F.meaning n given) e ∙ ap (F.meaning f) is)
-  answered _ name v given (Err x) typed e is means = tt
+  answered c name v given r typed e is means = grind (arith, nat_tests, common_steps, answered-typed)
 
   -- a call that is refused for its pattern goes by one
   pub by_pattern : (q : Query) (c : Call) (name : List ℕ) (v : Data) (given : List Term) → name ≡ name_of c → IsSound F q IsTypedCall calls_from c → StandsIn top v
@@ -48,5 +43,7 @@ module _ (F : FunctionSet) (top : Data) where
 
 -- an error that a call hands on
 pub if_refused : {A P Q : Type 0} (r : Result A QueryError) → (P → Q) → (r ≡ Err Pattern → P) → IfErr r (λ e. e ≡ Pattern → Q)
-if_refused (Ok a) then h = tt
-if_refused (Err e) then h = λ is. then (h (ap Err is))
+if_refused r then h = grind (arith, nat_tests, common_steps)
+
+-- what a call is given and answers
+pub ruleset of_calls = (nat_tests, common_steps, next-argument, answered-kind)

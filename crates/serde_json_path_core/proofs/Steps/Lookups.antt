@@ -1,5 +1,5 @@
 -- What the code looks up: names of a map in order, operands, and known cases.
-use Rattle.serde_json_path_core.proofs.Words.{nat_tests, common_steps, ◌≡◌, Option, Some, None, MatchOption, Result, Ok, Err, IfErr, subst, List, ◌∷◌, Bool, true, false, ap, [], String, Global, Less, string_cmp, string_bytes, ◌<◌, ◌≤◌, length, slice_index_or, ◌&&◌, ◌||◌, refl, ◌∙◌, arith, ℕ, get_or, ℤ, option_and_then, option_map, Equal, nat_cmp, is_eq, sym, AllByRecursion, keys_of, members_view, Entry, in_order, Data, FunctionSet, LogicalOr, no_or, or, no_and, and, relation, Operand, Operator, and_in, ands_in, basic_in, ors_in, branch_in, branches_named, Branch, Part, compare_sides, compared, is_true, slice_cmp, is_at, lookup, is_eq-slice_cmp, bytes_eq-Decides, object, array, view, items_view, Value, view-lookup, get_item_within, get_item_past, items_len-items_view, Step, by_name, by_position, child_by, item_at, position_in, IsStrictlySortedBy}
+use Rattle.serde_json_path_core.proofs.Words.{nat_tests, common_steps, ◌≡◌, Option, Some, None, MatchOption, Result, Ok, Err, IfErr, subst, List, ◌∷◌, Bool, true, false, ap, [], String, Global, Less, string_cmp, string_bytes, ◌<◌, ◌≤◌, length, slice_index_or, ◌&&◌, ◌||◌, refl, ◌∙◌, arith, ℕ, get_or, ℤ, option_and_then, option_map, Equal, nat_cmp, is_eq, sym, AllByRecursion, keys_of, members_view, Entry, in_order, Data, FunctionSet, LogicalOr, no_or, or, no_and, and, relation, Operand, Operator, and_in, ands_in, basic_in, ors_in, branch_in, branches_named, Branch, Part, compare_sides, compared, is_true, slice_cmp, is_at, lookup, is_eq-slice_cmp, bytes_eq-Decides, object, array, view, items_view, Value, view-lookup, get_item_within, get_item_past, items_len-items_view, Step, by_name, by_position, child_by, item_at, position_in, IsStrictlySortedBy, view-Array}
 use Rattle.serde_json_path_core.proofs.Meaning.ChildSteps.{IsBelow, AreRising, in_order-rising}
 
 -- ---- what is so of an option whose case is known
@@ -11,8 +11,7 @@ pub found-some : {A : Type 0} (P : Type 0) (Q : A → Type 0) (o : Option A) (x 
 found-some P Q o x e h = subst (λ found. MatchOption found P Q) e h
 
 pub if-err : {A E : Type 0} (P : Type 0) (r : Result A E) → P → IfErr r (λ e. P)
-if-err P (Ok x) h = tt
-if-err P (Err e) h = h
+if-err P r h = grind (arith, nat_tests, common_steps)
 
 -- ---- the members of a map stand in order already, as its keys rise
 
@@ -32,8 +31,7 @@ in_order-members_view entries sorted = in_order-rising (members_view entries) (r
 -- ---- logical expressions of one operand, which is a comparison
 
 single : (parts : List Part) (d : Part) → 1 ≤ length parts → length parts < 2 → parts ≡ slice_index_or parts 0 d ∷ []
-single (p ∷ []) d low high = refl
-single _ d low high = absurd (omega arith)
+single parts d low high = grind (arith, nat_tests, common_steps)
 
 -- an expression of one operand of `||` with one operand of `&&`, which is a comparison
 pub one-comparison : (ps : List Branch) (e : LogicalOr) (ors ands : List Part) (d : Part) (x : Operand) (op : Operator) (y : Operand)
@@ -43,8 +41,7 @@ pub one-comparison : (ps : List Branch) (e : LogicalOr) (ors ands : List Part) (
 one-comparison ps e ors ands d x op y some_or one_or some_and one_and is_or is_and is_basic = grind (arith, nat_tests, common_steps, single)
 
 alone : (b : Bool) → ((b && true) || false) ≡ b
-alone true = refl
-alone false = refl
+alone b = grind (arith, nat_tests, common_steps)
 
 -- it holds where the comparison does
 pub only-comparison : (F : FunctionSet) (top : Data) (e : LogicalOr) (x : Operand) (op : Operator) (y : Operand)
@@ -86,3 +83,6 @@ member_found name key es v e f =
 pub member_missing : (name : List ℕ) (es : List Entry) → None ≡ lookup (is_at (λ k. slice_cmp nat_cmp name (string_bytes k))) es
     → None ≡ child_by (object (members_view es)) (by_name name)
 member_missing name es f = ap (option_map (λ d. (by_name name, d))) (ap (option_map view) f ∙ view-lookup name es)
+
+-- what a cursor is over
+pub ruleset of_cursors = (nat_tests, common_steps, in_order-members_view, view-Array, items_len-items_view)

@@ -6,8 +6,7 @@ use Rattle.serde_json_path_core.proofs.Meaning.Derived.{at-append}
 
 pub begun-of : (all : List Stage) (v : Data) → AreChildrenOf v (begun all v)
 unfolding AreChildrenOf
-begun-of [] v = λ c h. absurd h
-begun-of (stage ∷ more) v = opened-of stage.kind stage.selectors v
+begun-of all v = grind (arith, nat_tests, common_steps, opened-of)
 
 -- ---- chains
 

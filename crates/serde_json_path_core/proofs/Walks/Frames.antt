@@ -18,8 +18,7 @@ module _ (admit : Selector → List (Step × Data) → List (Step × Data)) (num
 
   -- where a segment begins
   pub next_opened : (sels : List Selector) → map onward (all_of sels) ++ map downward (lower kind v) ≡ arrivals admit number kind sels (opened kind sels v) v
-  next_opened [] = elim kind as (λ k. map downward (lower k v) ≡ arrivals admit number k [] (opened k [] v) v) [ child ↦ refl | descendant ↦ refl ]
-  next_opened (sel ∷ more) = refl
+  next_opened sels = grind (arith, nat_tests, common_steps)
 
   -- the selector at work passes some that it admits
   pub skips_over : (sels : List Selector) (sel : Selector) (more : List Selector) (cs ds front : List (Step × Data))
@@ -58,16 +57,12 @@ first-of v c cs h = h c (inl refl)
 -- the children with which a selector begins are of the value
 pub candidates-of : (sel : Selector) (v : Data) → AreChildrenOf v (candidates sel v)
 unfolding AreChildrenOf
-candidates-of (name k) v = λ c h. ((in_child_by v (by_name k) c).0 h).1
-candidates-of (index i) v = λ c h. ((in_item_at v i c).0 h).1
-candidates-of (slice s) v = λ c h. ((in_sliced s v c).0 h).1
-candidates-of _ v = λ c h. (in_children v c).0 h
+candidates-of sel v = grind (arith, nat_tests, common_steps, in_child_by, in_item_at, in_sliced, in_children)
 
 pub opened-of : (kind : SegmentKind) (sels : List Selector) (v : Data) → AreChildrenOf v (opened kind sels v)
 unfolding AreChildrenOf
-opened-of kind (sel ∷ more) v = candidates-of sel v
-opened-of child [] v = λ c h. absurd h
 opened-of descendant [] v = candidates-of wildcard v
+opened-of kind sels v = first_of (assumption, grind (arith, nat_tests, common_steps, candidates-of))
 
 -- ---- frames
 

@@ -1,5 +1,5 @@
 -- A query goes down by segments that select one child at most: the values that it selects stay.
-use Rattle.serde_json_path_core.proofs.Words.{nat_tests, common_steps, IfSome, option_map_or, append-nil, drop_more, length-drop, take-append-drop, take_all, flat_map-map, map-map, Data, Step, Located, FunctionSet, Query, query, kind_of, segments_of, Segments, no_segments, segment, SegmentKind, child, descendant, Segment, Selector, stage_at, stage_of, Stage, branch_at, segment_in, segment_kind_in, segments_at, Node, Part, flat_map-same, map-flat_map, chosen, descents, itself, placed, reached, results, results_from, start_of, beneath, first_value, admitted, candidates, AreChildrenOf, EndsIn, IsIn, child_at, SelectOnly, candidate_values, single_view, values_from, dot_name, index, long_hand, name, no_selectors, selector, are_singular, is_single, ◌≡◌, ℕ, ◌+◌, ◌<◌, List, [], ◌∷◌, ◌++◌, ◌-◌, ◌≤◌, map, take, drop, flat_map, length, get_or, arith, inl, Option, Some, None, option_to_list, slice_get, slice_index_or, true, refl, sym, ap, ◌∙◌, flat_map_single, SingleSelector}
+use Rattle.serde_json_path_core.proofs.Words.{nat_tests, common_steps, IfSome, option_map_or, append-nil, drop_more, length-drop, take-append-drop, take_all, flat_map-map, map-map, Data, Step, Located, FunctionSet, Query, query, kind_of, segments_of, Segments, no_segments, segment, SegmentKind, child, descendant, Segment, Selector, stage_at, stage_of, Stage, branch_at, segment_in, segment_kind_in, segments_at, Node, Part, flat_map-same, map-flat_map, chosen, descents, itself, placed, reached, results, results_from, start_of, beneath, first_value, admitted, candidates, AreChildrenOf, EndsIn, IsIn, child_at, SelectOnly, candidate_values, single_view, values_from, dot_name, index, long_hand, name, no_selectors, selector, are_singular, is_single, ◌≡◌, ℕ, ◌+◌, ◌<◌, List, [], ◌∷◌, ◌++◌, ◌-◌, ◌≤◌, map, take, drop, flat_map, length, get_or, arith, inl, Option, Some, None, option_to_list, slice_get, slice_index_or, true, refl, sym, ap, ◌∙◌, flat_map_single, SingleSelector, within_get, one_is, option_map, get, by_name, object}
 use Rattle.serde_json_path_core.proofs.Walks.Frames.{candidates-of}
 use Rattle.serde_json_path_core.specs.declared.evaluation.single_children.SingleSelector.TheVariants as single
 use Rattle.serde_json_path_core.proofs.Walks.Stacks.{chosen-list}
@@ -12,8 +12,7 @@ values-beneath above ns = map-map value_of (beneath above) ns
 
 -- the values of a node, and of those below it that a segment goes down to, depend on its value alone
 values-reached : (kind : SegmentKind) (n : Located) → map value_of (reached kind (itself n.value)) ≡ map value_of (reached kind n)
-values-reached child n = refl
-values-reached descendant n = values-beneath [] (descents n.value) ∙ sym (values-beneath n.location (descents n.value))
+values-reached kind n = grind (arith, nat_tests, common_steps, values-beneath)
 
 -- some parts end with those from that one on
 pub ends-at : {A : Type 0} (xs : List A) (i : ℕ) → EndsIn xs (take (length xs - i) (drop i xs))
@@ -21,9 +20,19 @@ ends-at xs i =
     let long : length (drop i xs) ≤ length xs - i = let e = length-drop i xs in omega arith in
     (take i xs, sym (take-append-drop i xs) ∙ ap (λ ys. take i xs ++ ys) (sym (take_all (length xs - i) (drop i xs) long)))
 
+-- a part of some, and some parts that end with those from that one on
+pub ruleset of_ends = (nat_tests, common_steps, within_get, one_is, ends-at)
+
 value_in : (cs : List (Step × Data)) (d : Data) → d ∷ [] ≡ map (λ (c : Step × Data). c.1) cs → (c : Step × Data) × IsIn c cs × (d ≡ c.1)
 value_in [] d e = absurd cc
 value_in (c ∷ cs) d e = (c, inl refl, ap (λ ds. get_or ds 0 d) e)
+
+value_alone : (s : Step) (found : Option Data) → option_to_list found ≡ map (λ (c : Step × Data). c.1) (option_to_list (option_map (λ d. (s, d)) found))
+value_alone s found = grind (arith, nat_tests, common_steps)
+
+-- the value of a name
+pub member_value : (k : List ℕ) (v : Data) → option_to_list (get k v) ≡ candidate_values (name k) v
+member_value k v = grind (arith, nat_tests, common_steps, value_alone)
 
 -- the value that a selector selects is a child's
 pub child-selected : (s : SingleSelector) (v d : Data) → d ∷ [] ≡ candidate_values (single_view s) v → (step : Step) × (child_at v step ≡ Some d)
@@ -48,8 +57,7 @@ next-singular nodes parts i part within is h = grind (arith, nat_tests, common_s
 -- it is that of a name or an index, if this is the selector
 pub single_stage : (stage : Stage) (sel : Selector) (single : Option SingleSelector) → stage ≡ record { kind = child; selectors = sel ∷ [] }
     → IfSome single (λ s. sel ≡ single_view s) → IfSome single (λ s. stage ≡ record { kind = child; selectors = single_view s ∷ [] })
-single_stage stage sel None is e = tt
-single_stage stage sel (Some s) is e = λ i. record { kind = ap (λ (x : Stage). x.kind) is i; selectors = (ap (λ (x : Stage). x.selectors) is ∙ ap (λ x. x ∷ []) e) i }
+single_stage stage sel single is e = grind (arith, nat_tests, common_steps)
 
 module _ (F : FunctionSet) (top : Data) where
   -- the values that come of the children that a segment selects
@@ -76,13 +84,11 @@ module _ (F : FunctionSet) (top : Data) where
       ∙ sym (from_node kind seg more (λ m. values-anywhere more m) (itself n.value))
 
   plain : (s : SingleSelector) (cs : List (Step × Data)) → admitted F top (single_view s) cs ≡ cs
-  plain (single.Name k) cs = refl
-  plain (single.Index i) cs = refl
+  plain s cs = grind (arith, nat_tests, common_steps)
 
   -- the values that come of a child, if there is one
   child_only : (more : Segments) (found : Option Data) → flat_map (values_from F top more) (option_to_list found) ≡ option_map_or (values_from F top more) found []
-  child_only more None = refl
-  child_only more (Some d) = append-nil (values_from F top more d)
+  child_only more found = grind (arith, nat_tests, common_steps)
 
   -- the values that come of a child segment of one selector, which admits all
   values-only : (kind : SegmentKind) (seg : Segment) (more : Segments) (v : Data) (sel : Selector) → stage_of kind seg ≡ record { kind = child; selectors = sel ∷ [] }
@@ -115,8 +121,7 @@ module _ (F : FunctionSet) (top : Data) where
 
 -- the first value of nodes is the first of their values
 pub first-of-values : (ns : List Located) → first_value ns ≡ slice_get (map value_of ns) 0
-first-of-values [] = refl
-first-of-values (n ∷ ns) = refl
+first-of-values ns = grind (arith, nat_tests, common_steps)
 
 -- ---- segments that are one child segment of one selector
 
@@ -131,5 +136,4 @@ select-only nodes _ d sel some one is all = absurd (omega arith)
 pub select-single : (nodes : List Node) (parts : List Part) (d : Part) (single : Option SingleSelector) → 1 ≤ length parts → length parts < 2
     → IfSome single (λ s. stage_at nodes (slice_index_or parts 0 d) ≡ record { kind = child; selectors = single_view s ∷ [] })
     → IfSome single (λ s. SelectOnly nodes parts (single_view s))
-select-single nodes parts d None some one is = tt
-select-single nodes parts d (Some s) some one is = select-only nodes parts d (single_view s) some one is (λ F top cs. plain F top s cs)
+select-single nodes parts d single some one is = grind (arith, nat_tests, common_steps, select-only, plain)

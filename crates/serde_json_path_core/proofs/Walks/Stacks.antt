@@ -17,8 +17,7 @@ module _ {A : Type 0} (make : Located → List A) where
 
   -- a node, and then its children with all below them
   pub unrolled : (kind : SegmentKind) (n : Located) → flat_map make (reached kind n) ≡ make n ++ flat_map (λ c. flat_map make (reached kind (placed n.location c))) (lower kind n.value)
-  unrolled child n = refl
-  unrolled descendant n = grind (arith, nat_tests, common_steps, flat_map-map, flat_map-same, flat_map-flat_map, below_child, descents_are, below-placed)
+  unrolled kind n = grind (arith, nat_tests, common_steps, flat_map-map, flat_map-same, flat_map-flat_map, below_child, descents_are, below-placed)
 
 -- ---- stacks
 
@@ -98,18 +97,14 @@ module _ (admit : Selector → List (Step × Data) → List (Step × Data)) {A :
 -- ---- leaves
 
 leaf-admits : (F : FunctionSet) (top : Data) (sel : Selector) (v : Data) → is_leaf v ≡ true → admitted F top sel (candidates sel v) ≡ []
-leaf-admits F top sel (array items) h = absurd cc
-leaf-admits F top sel (object of) h = absurd cc
-leaf-admits F top (name k) _ h = refl
-leaf-admits F top _ _ h = refl
+leaf-admits F top sel v h = grind (arith, nat_tests, common_steps)
 
 leaf-picks : (F : FunctionSet) (top : Data) (sels : List Selector) (v : Data) → is_leaf v ≡ true → flat_map (λ s. admitted F top s (candidates s v)) sels ≡ []
 leaf-picks F top [] v h = refl
 leaf-picks F top (sel ∷ more) v h = rw (leaf-admits F top sel v h) (leaf-picks F top more v h)
 
 leaf-lower : (F : FunctionSet) (top : Data) (kind : SegmentKind) (v : Data) → is_leaf v ≡ true → lower kind v ≡ []
-leaf-lower F top child v h = refl
-leaf-lower F top descendant v h = leaf-admits F top wildcard v h
+leaf-lower F top kind v h = grind (arith, nat_tests, common_steps, leaf-admits)
 
 -- a frame where a segment begins at a leaf has no arrival
 pub leaf-done : (F : FunctionSet) (top : Data) (step : Option Step) (number : ℕ) (stage : Stage) (more : List Stage) (v : Data) → is_leaf v ≡ true
@@ -159,17 +154,14 @@ work-moved all ps p m stage more front number c d t ms mk =
 
 module _ (F : FunctionSet) (top : Data) where
   selected-admitted : (sel : Selector) (v : Data) → admitted F top sel (candidates sel v) ≡ selected F top sel v
-  selected-admitted (filter e) v = refl
-  selected-admitted _ v = refl
+  selected-admitted sel v = grind (arith, nat_tests, common_steps)
 
   chosen_by-list : (sels : Selectors) (v : Data) → flat_map (λ s. admitted F top s (candidates s v)) (selectors_list sels) ≡ chosen_by F top sels v
   chosen_by-list no_selectors v = refl
   chosen_by-list (selector sel more) v = grind (arith, nat_tests, common_steps, selected-admitted, chosen_by-list more v)
 
   pub chosen-list : (seg : Segment) (v : Data) → flat_map (λ s. admitted F top s (candidates s v)) (selectors_of seg) ≡ chosen F top seg v
-  chosen-list (dot_name k) v = append-nil _
-  chosen-list dot_wildcard v = append-nil _
-  chosen-list (long_hand sels) v = chosen_by-list sels v
+  chosen-list seg v = grind (arith, nat_tests, common_steps, chosen_by-list)
 
   visit-results : (segs : Segments) (n : Located) → visit (admitted F top) [] (λ m. m ∷ []) (stages segs) n ≡ results_from F top segs n
   visit-results no_segments n = refl

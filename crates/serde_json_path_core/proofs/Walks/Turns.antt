@@ -1,9 +1,10 @@
 -- Turns of a walk: what the last frame comes to.
-use Rattle.serde_json_path_core.proofs.Words.{nat_tests, common_steps, ◌≡◌, ℕ, ◌+◌, ◌<◌, List, [], ◌∷◌, ◌++◌, take, set, length, get_or, refl, ap, ◌∙◌, sym, arith, zero, suc, ◌≤◌, drop, slice_get, option_map, Option, Some, None, slice_index_or, inl, inr, ◌-◌, frame_view, frames_view, Frame, last_passed, passed, get_or_append_left, take_all, length-set, map-append, drop_all, drop_more, none-some, slice_get_read, slice_get_past, Branch, Node, Part, branch_in, branches, branches_named, segment_in, segment_kind_in, segments_in, stage_of, stages, stage_at, stages_at, append-nil, take-append_seam, Data, Step, FunctionSet, Stage, admitted, entered, entering, is_leaf, rest_of, stack_path, work, IsAtStart, IsStack, ComesTo, IsAtNode, IsDone, Passes, cases_Bool, get_or_default, view, IsAtArrival, arrival_view, set-append_left, take_more, take_more_set, take-set, get_or_from_slice_get, slice_get_cases, slice_get_within, IsKept, Arrival}
+use Rattle.serde_json_path_core.proofs.Words.{nat_tests, common_steps, ◌≡◌, ℕ, ◌+◌, ◌<◌, List, [], ◌∷◌, ◌++◌, take, set, length, get_or, refl, ap, ◌∙◌, sym, arith, zero, suc, ◌≤◌, drop, slice_get, option_map, Option, Some, None, slice_index_or, inl, inr, ◌-◌, frame_view, frames_view, Frame, last_passed, passed, get_or_append_left, take_all, length-set, map-append, drop_all, drop_more, none-some, slice_get_read, slice_get_past, Branch, Node, Part, branch_in, branches, branches_named, segment_in, segment_kind_in, segments_in, stage_of, stages, stage_at, stages_at, append-nil, take-append_seam, Data, Step, FunctionSet, Stage, admitted, entered, entering, is_leaf, rest_of, stack_path, work, IsAtStart, IsStack, ComesTo, IsAtNode, IsDone, Passes, cases_Bool, get_or_default, view, IsAtArrival, arrival_view, set-append_left, take_more, take_more_set, take-set, get_or_from_slice_get, slice_get_cases, slice_get_within, IsKept, Arrival, one_is, within_bound, below_length, past_length, LogicalOr, MatchOption, filter, is_true, child_view, IsAtAdmitted, true, Child}
 use Rattle.serde_json_path_core.specs.declared.evaluation.frame.Frame as declared
 use Rattle.serde_json_path_core.proofs.Walks.Chains.{begun-of, chain-split, stack-held, stack-moved}
-use Rattle.serde_json_path_core.proofs.Walks.Stacks.{drops, gives, leaf-done, located, moves, passes, stack_path-last, work-fewer, work-held, work-moved}
+use Rattle.serde_json_path_core.proofs.Walks.Stacks.{drops, gives, leaf-done, located, moves, passes, stack_path-last, work-fewer, work-held, work-moved, rest-started}
 use Rattle.serde_json_path_core.proofs.Steps.Lookups.{found-none, found-some}
+use Rattle.serde_json_path_core.proofs.Walks.SingleChildren.{first-of-values}
 
 -- ---- the last of so many frames
 
@@ -18,9 +19,8 @@ sees_replaced items n old new long is =
     (ap frames_view last ∙ map-append frame_view (take n items) (old ∷ []), ap frames_view replaced ∙ map-append frame_view (take n items) (new ∷ []))
 
 pub passes-last : (ps : List Frame) (p : Frame) → last_passed (ps ++ p ∷ []) ≡ ps ++ passed p ∷ []
-passes-last [] p = refl
-passes-last (q ∷ []) p = refl
 passes-last (q ∷ r ∷ rs) p = ap (λ more. q ∷ more) (passes-last (r ∷ rs) p)
+passes-last ps p = first_of (assumption, grind (arith, nat_tests, common_steps))
 
 -- where the last one is replaced by one that is seen as it, past a arrival
 pub sees_passed : (items : List declared.Frame) (n : ℕ) (old new : declared.Frame) → length items ≡ n + 1 → old ≡ get_or items n old → frame_view new ≡ passed (frame_view old)
@@ -45,9 +45,8 @@ drop-none xs i e = elim (slice_get_cases xs i).1 [ inl within ↦ absurd (none-s
 stages-get : (ps : List Branch) (parts : List Part) (i : ℕ)
     → slice_get (stages (segments_in (branches_named ps parts))) i
     ≡ option_map (λ (part : Part). stage_of (segment_kind_in (branch_in ps part.number)) (segment_in (branch_in ps part.number))) (slice_get parts i)
-stages-get ps [] i = refl
-stages-get ps (part ∷ parts) zero = refl
 stages-get ps (part ∷ parts) (suc i) = stages-get ps parts i
+stages-get ps parts i = first_of (assumption, grind (arith, nat_tests, common_steps))
 
 pub stages-from : (nodes : List Node) (parts : List Part) (i : ℕ) (part : Part) → i < length parts → part ≡ slice_index_or parts i part
     → drop i (stages_at nodes parts) ≡ stage_at nodes part ∷ drop (i + 1) (stages_at nodes parts)
@@ -57,10 +56,21 @@ stages-from nodes parts i part lt e =
 pub stages-past : (nodes : List Node) (parts : List Part) (i : ℕ) → length parts ≤ i → drop i (stages_at nodes parts) ≡ []
 stages-past nodes parts i le = drop-none (stages_at nodes parts) i (stages-get (branches nodes) parts i ∙ ap (option_map (stage_at nodes)) (slice_get_past parts i le))
 
+-- where a frame begins
+pub ruleset of_stages = (nat_tests, common_steps, one_is, within_bound, below_length, past_length, drop-none, stages-from, stages-past)
+
 -- where a value is seen nowhere, there is none
 pub missing : {A B : Type 0} (see : A → B) (found : Option A) (o : Option B) → ((x : A) → found ≡ Some x → ⊥) → option_map see found ≡ o → o ≡ None
-missing see None o none e = sym e
-missing see (Some x) o none e = absurd (none x refl)
+missing see found o none e = grind (arith, nat_tests, common_steps)
+
+-- the child that is left first is admitted, as the expression holds for it
+pub at_child : (F : FunctionSet) (top : Data) (e : LogicalOr) (left : List (Step × Data)) (first : Step × Data) (found : Option Child)
+    → left ≡ first ∷ drop 1 left → is_true F top e first.1 ≡ true → MatchOption found (left ≡ []) (λ c. left ≡ child_view c ∷ drop 1 left)
+    → IsAtAdmitted F top (filter e) left (option_map child_view found)
+at_child F top e left first found is holds none = grind (arith, nat_tests, common_steps)
+
+-- what is found, of an expression's children and of a walk's nodes
+pub ruleset of_found = (nat_tests, common_steps, at_child, found-none, found-some, rest-started, first-of-values)
 
 -- ---- one turn of a walk: what it gives, and what stays
 

@@ -40,6 +40,7 @@ pub(crate) struct MembersLeft<'b> {
 
 impl<'b> MembersLeft<'b> {
     /// All members of an object.
+    #[tactic(auto, using(crate::proofs::Steps::Lookups::of_cursors))]
     fn of(members: &'b Map<String, Value>) -> MembersLeft<'b>
         ensures { members_left result ≡ children (object (members_view members.now.entries)) }
     {
@@ -88,6 +89,7 @@ impl<'b> Cursor<'b> {
     }
 
     /// A cursor over the children that a slice selects, in its order.
+    #[tactic(auto, using(crate::proofs::Steps::Lookups::of_cursors))]
     pub(crate) fn slice(value: &'b Value, slice: &Slice) -> Cursor<'b>
         ensures { cursor_left result ≡ sliced (slice_view slice.now) (view value.now) }
     {

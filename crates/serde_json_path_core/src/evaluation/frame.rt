@@ -49,6 +49,7 @@ fn choose<'b>(query: &Checked, selector_ref: SelectorRef<'_>, value: &'b Value) 
 }
 
 /// The children for one selector of a segment; after the last selector, those to go down to.
+#[tactic(auto, using(crate::proofs::Walks::Turns::of_stages))]
 fn open<'b>(query: &Checked, segment: Part, selector: usize, value: &'b Value) -> Cursor<'b>
     requires within { segment.number < length (nodes_in query.now) }
     requires kind { IsOfKind is_segment (nodes_in query.now) segment }
@@ -66,6 +67,7 @@ fn open<'b>(query: &Checked, segment: Part, selector: usize, value: &'b Value) -
 }
 
 /// The children with which a segment begins.
+#[tactic(auto, using(crate::proofs::Walks::Turns::of_stages))]
 fn begin<'b>(query: &Checked, segments: &[Part], number: usize, value: &'b Value) -> Cursor<'b>
     requires within { parts_bound segments.now ≤ length (nodes_in query.now) }
     requires are { AreOfKind is_segment (nodes_in query.now) segments.now }
@@ -197,6 +199,7 @@ fn next_admitted<'b, F: Functions>(
 /// each child is looked up before them.
 #[cycle(evaluation)]
 #[inline(never)]
+#[tactic(auto, using(crate::proofs::Walks::Turns::of_found))]
 fn next_passing<'b, F: Functions>(
     scope: &Scope<'_, 'b, F>,
     test: Part,
@@ -228,6 +231,7 @@ fn next_passing<'b, F: Functions>(
 /// The same for any logical expression.
 #[cycle(evaluation)]
 #[inline(always)]
+#[tactic(auto, using(crate::proofs::Walks::Turns::of_found))]
 fn next_holding<'b, F: Functions>(
     scope: &Scope<'_, 'b, F>,
     test: Part,

@@ -85,6 +85,7 @@ pub(crate) fn is_wildcard(query: &Checked, segments: &[Part]) -> bool
 
 /// The value of the child that a selector selects, if there is one.
 #[inline(always)]
+#[tactic(auto, using(crate::proofs::Words::common_steps, crate::proofs::Walks::SingleChildren::member_value))]
 pub(crate) fn select<'b>(single: SingleSelector<'_>, value: &'b Value) -> Option<&'b Value>
     ensures { option_to_list (option_map node_value result)
         ≡ candidate_values (single_view single.entry) (view value.now) }
@@ -97,6 +98,7 @@ pub(crate) fn select<'b>(single: SingleSelector<'_>, value: &'b Value) -> Option
 
 /// Goes down by the first of these segments, as long as each selects one child at most.
 #[inline(always)]
+#[tactic(auto, using(crate::proofs::Walks::SingleChildren::of_ends))]
 pub(crate) fn go_down<'q, 'b>(
     query: &Checked,
     segments: &'q [Part],

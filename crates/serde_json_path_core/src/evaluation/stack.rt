@@ -77,6 +77,7 @@ fn is_leaf(value: &Value) -> bool
 
 /// Passes the arrival that the last frame has come to, with a frame for it unless nothing can come of it. If memory is
 /// refused, nothing changes.
+#[tactic(auto, using(crate::proofs::Words::common_steps, crate::proofs::Walks::Turns::sees_passed_below))]
 fn enter<'b>(
     query: &Checked,
     segments: &[Part],

@@ -38,6 +38,7 @@ fn answer_as<'x>(answer: FunctionValue<'x>, kind: FunctionArgType) -> FunctionVa
 
 /// The answer of a call, with `@` at the value.
 #[cycle(evaluation)]
+#[tactic(auto, using(crate::proofs::Steps::Answered::of_calls))]
 pub(crate) fn answer<'x, 'q: 'x, 'b: 'x, F: Functions>(
     scope: &Scope<'q, 'b, F>,
     call: Part,

@@ -134,6 +134,7 @@ pub(crate) fn form_of<'x, 'q: 'x, 'b: 'x, F: Functions>(
 }
 
 /// The comparison of which a filter consists; `None` for any other filter.
+#[tactic(auto, using(crate::proofs::Words::common_steps, crate::proofs::Words::one_is))]
 pub(crate) fn only_comparison<'x, 'q: 'x, 'b: 'x, F: Functions>(
     scope: &Scope<'q, 'b, F>,
     test: Part,

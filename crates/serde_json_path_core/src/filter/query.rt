@@ -33,6 +33,7 @@ fn reached<'q, 'b, F: Functions>(
 
 /// The value of the first node that segments select from a value, if there is one.
 #[cycle(evaluation)]
+#[tactic(auto, using(crate::proofs::Walks::Turns::of_found))]
 fn first_from<'b, F: Functions>(
     scope: &Scope<'_, 'b, F>,
     segments: &[Part],
@@ -54,6 +55,7 @@ fn first_from<'b, F: Functions>(
 /// The value of the first node that a query selects, if there is one. A singular query takes no memory.
 #[cycle(evaluation)]
 #[inline(always)]
+#[tactic(auto, using(crate::proofs::Walks::Turns::of_found))]
 pub(crate) fn first<'b, F: Functions>(
     scope: &Scope<'_, 'b, F>,
     query: Part,
@@ -77,6 +79,7 @@ pub(crate) fn first<'b, F: Functions>(
 
 /// The values of all nodes that segments select from a value, in order.
 #[cycle(evaluation)]
+#[tactic(auto, using(crate::proofs::Walks::Turns::of_found))]
 pub(crate) fn all_from<'x, 'b: 'x, F: Functions>(
     scope: &Scope<'_, 'b, F>,
     segments: &[Part],

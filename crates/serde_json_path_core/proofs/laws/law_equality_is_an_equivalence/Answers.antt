@@ -1,4 +1,4 @@
-use Rattle.serde_json_path_core.proofs.Words.{◌≡◌, List, [], ◌∷◌, Option, Some, None, pos, true, refl, sym, subst, ◌∙◌, String, number_view, view_step, map-Value, out-Value, fold_out-Value, Num, float, document_number, literal_number, all_numbers, Data, null, boolean, number, string, array, object, Items, no_items, item, Members, no_members, member, Value, view, items_view, members_view, Compared, nothing, billionths, AreEqual, EqualData, EqualItems, EqualMembers, is_valid, num_of, N, PosInt, NegInt, Value-F, equality, all_finite, IsFinite}
+use Rattle.serde_json_path_core.proofs.Words.{◌≡◌, List, [], ◌∷◌, Option, Some, None, pos, true, refl, sym, subst, ◌∙◌, String, number_view, view_step, map-Value, out-Value, fold_out-Value, Num, float, document_number, literal_number, all_numbers, Data, null, boolean, number, string, array, object, Items, no_items, item, Members, no_members, member, Value, view, items_view, members_view, Compared, nothing, billionths, AreEqual, EqualData, EqualItems, EqualMembers, is_valid, num_of, N, PosInt, NegInt, Value-F, equality, all_finite, IsFinite, arith, nat_tests, common_steps}
 use Rattle.std.specs.declared.alloc.Global.{Global}
 use Rattle.serde_json.specs.declared.number.N.TheVariants.{Float as Double}
 use Rattle.serde_json_path_core.specs.Compared.{value}
@@ -22,12 +22,10 @@ finite_held (NegInt z) h = all_finite.integers z
 finite_held (Double x) h = h
 
 number_in : (layer : Value-F Value) (n : Num) → view_step (map-Value Value Data view layer) ≡ number n → IsFinite (document_number n)
-number_in (Value-F.Number x) n h = let same : number_view x ≡ n = cc in subst (λ m. IsFinite (document_number m)) same (finite_held x.n x.valid)
-number_in _ n h = absurd cc
+number_in layer n h = grind (arith, nat_tests, common_steps, finite_held)
 
 items_in : (layer : Value-F Value) (xs : Items) → view_step (map-Value Value Data view layer) ≡ array xs → AreOfValues xs
-items_in (Value-F.Array items) xs h = (items.items, cc)
-items_in _ xs h = absurd cc
+items_in layer xs h = grind (arith, nat_tests, common_steps)
 
 members_in : (layer : Value-F Value) (ms : Members) → view_step (map-Value Value Data view layer) ≡ object ms → AreOfEntries ms
 members_in (Value-F.Object members) ms h = (members.entries, cc)
@@ -46,14 +44,12 @@ mutual
   itself (object ms) h = members_themselves ms (members_in (out-Value h.0) ms (layer_of h.0 (object ms) h.1))
 
   items_themselves : (xs : Items) → AreOfValues xs → EqualItems all_numbers xs xs
-  items_themselves no_items h = tt
-  items_themselves (item d xs) ([], e) = absurd cc
   items_themselves (item d xs) (v ∷ vs, e) = (itself d (v, cc), items_themselves xs (vs, cc))
+  items_themselves xs h = first_of (assumption, grind (arith, nat_tests, common_steps))
 
   members_themselves : (ms : Members) → AreOfEntries ms → EqualMembers all_numbers ms ms
-  members_themselves no_members h = tt
-  members_themselves (member k d ms) ([], h) = absurd cc
   members_themselves (member k d ms) (e ∷ es, h) = (refl, itself d (e.1, cc), members_themselves ms (es, cc))
+  members_themselves ms h = first_of (assumption, grind (arith, nat_tests, common_steps))
 
 -- ---- equal values are equal either way round, and the first equals what the second does
 
@@ -72,20 +68,18 @@ mutual
   data_equal _ _ c h = absurd h
 
   items_equal : (xs ys zs : Items) → EqualItems all_numbers xs ys → EqualItems all_numbers ys xs × (EqualItems all_numbers ys zs → EqualItems all_numbers xs zs)
-  items_equal no_items no_items zs h = (tt, λ g. g)
   items_equal (item a xs) (item b ys) no_items h = (((data_equal a b null h.0).0, (items_equal xs ys no_items h.1).0), λ g. absurd g)
   items_equal (item a xs) (item b ys) (item c zs) h =
       let first = data_equal a b c h.0 in
       let more = items_equal xs ys zs h.1 in ((first.0, more.0), λ g. (first.1 g.0, more.1 g.1))
-  items_equal _ _ zs h = absurd h
+  items_equal xs ys zs h = first_of (assumption, grind (arith, nat_tests, common_steps))
 
   members_equal : (xs ys zs : Members) → EqualMembers all_numbers xs ys → EqualMembers all_numbers ys xs × (EqualMembers all_numbers ys zs → EqualMembers all_numbers xs zs)
-  members_equal no_members no_members zs h = (tt, λ g. g)
   members_equal (member k a xs) (member l b ys) no_members h = ((sym h.0, (data_equal a b null h.1).0, (members_equal xs ys no_members h.2).0), λ g. absurd g)
   members_equal (member k a xs) (member l b ys) (member m c zs) h =
       let first = data_equal a b c h.1 in
       let more = members_equal xs ys zs h.2 in ((sym h.0, first.0, more.0), λ g. (h.0 ∙ g.0, first.1 g.1, more.1 g.2))
-  members_equal _ _ zs h = absurd h
+  members_equal xs ys zs h = first_of (assumption, grind (arith, nat_tests, common_steps))
 
 -- ---- sides: a number literal is as the value of its exact number
 
@@ -101,12 +95,7 @@ EqualValues _ _ = ⊥
 
 -- so two sides are equal exactly where their values are
 by_values : (x y : Compared) → ◌≡◌ {A = Type 0} (AreEqual all_numbers x y) (EqualValues (as_value x) (as_value y))
-by_values nothing nothing = refl
-by_values (value a) (value b) = refl
-by_values (value (number a)) (billionths b) = refl
-by_values (billionths a) (value (number b)) = refl
-by_values (billionths a) (billionths b) = refl
-by_values _ _ = refl
+by_values x y = grind (arith, nat_tests, common_steps)
 
 values_equal : (a b c : Option Data) → EqualValues a b → EqualValues b a × (EqualValues b c → EqualValues a c)
 values_equal None None c h = (tt, λ g. g)

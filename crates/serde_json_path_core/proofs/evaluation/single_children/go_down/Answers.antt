@@ -1,22 +1,7 @@
-use Rattle.serde_json_path_core.proofs.Words.{nat_tests, common_steps, get_or, None, Some, ◌∙◌, arith, sym, true≢false, get_or_default, view, one_is, nodes_in, Part, within_get}
+use Rattle.serde_json_path_core.proofs.Words.{get_or, None, Some, ◌∙◌, sym, true≢false, get_or_default, view, nodes_in, Part}
 use Rattle.serde_json_path_core.proofs.Walks.Chains.{child_stands}
-use Rattle.serde_json_path_core.proofs.Walks.SingleChildren.{child-selected, ends-at, goes_down, next-singular}
+use Rattle.serde_json_path_core.proofs.Walks.SingleChildren.{child-selected, goes_down, next-singular}
 use Rattle.serde_json_path_core.proofs.evaluation.single_children.go_down.Goals as goal
-
-pub single_selector-requires-clause-within : goal.single_selector-requires-clause-within
-single_selector-requires-clause-within c = grind (arith, nat_tests, common_steps, within_get)
-
-pub single_selector-requires-clause-kind : goal.single_selector-requires-clause-kind
-single_selector-requires-clause-kind c = grind (arith, nat_tests, common_steps, one_is)
-
-pub returns-in_default-clause-ends : goal.returns-in_default-clause-ends
-returns-in_default-clause-ends c = ends-at c.args.segments.now c.loop-passed.passed
-
-pub returns-in-None-clause-ends : goal.returns-in-None-clause-ends
-returns-in-None-clause-ends c = ends-at c.args.segments.now c.loop-passed.passed
-
-pub returns-clause-ends : goal.returns-clause-ends
-returns-clause-ends c = ends-at _ _
 
 pub returns-in-None-clause-selects : goal.returns-in-None-clause-selects
 returns-in-None-clause-selects c = λ F top.

@@ -4,9 +4,6 @@ use Rattle.serde_json_path_core.proofs.Steps.Lookups.{one-comparison, only-compa
 use Rattle.serde_json_path_core.proofs.filter.comparison.only_comparison.Goals.{In-Basic-Relation}
 use Rattle.serde_json_path_core.proofs.filter.comparison.only_comparison.Goals as goal
 
-pub and_parts-requires-clause-kind : goal.and_parts-requires-clause-kind
-and_parts-requires-clause-kind g c = grind (arith, nat_tests, common_steps, one_is)
-
 -- the filter is that comparison alone
 only : (g : _) (c : In-Basic-Relation g)
     → or_at (nodes_of c.args.scope.now) c.args.test

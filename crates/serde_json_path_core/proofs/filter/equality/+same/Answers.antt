@@ -2,8 +2,7 @@ use Rattle.serde_json_path_core.proofs.Words.{arith, nat_tests, common_steps, �
 use Rattle.serde_json_path_core.proofs.filter.equality.+same.Goals as goal
 
 and-false : (b : Bool) → (b && false) ≡ false
-and-false true = refl
-and-false false = refl
+and-false b = grind (arith, nat_tests, common_steps)
 
 -- lists of two lengths are not equal
 items_differ : (numbers : Numbers) (xs ys : List Value) → (length xs ≡ length ys → ⊥) → false ≡ same_items numbers (items_view xs) (items_view ys)
@@ -24,9 +23,3 @@ same_items-returns-then-len t c =
 pub same_members-returns-then-len : goal.same_members-returns-then-len
 same_members-returns-then-len t c =
     members_differ _ _ _ (λ e. c.if-len.true (c.len.ensures.len ∙ e ∙ sym c.len-2.ensures.len))
-
-pub same_members-returns-then-ne : goal.same_members-returns-then-ne
-same_members-returns-then-ne t c = search rules
-
-pub same_members-loop-name-preserved : goal.same_members-loop-name-preserved
-same_members-loop-name-preserved t c = search rules

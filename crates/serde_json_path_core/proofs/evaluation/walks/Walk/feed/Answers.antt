@@ -1,4 +1,4 @@
-use Rattle.serde_json_path_core.proofs.Words.{[], ◌∷◌, ◌++◌, sym, ap, ◌∙◌, append_assoc, located, rest, rules}
+use Rattle.serde_json_path_core.proofs.Words.{[], ◌∷◌, ◌++◌, sym, ap, ◌∙◌, append_assoc, located, rest}
 use Rattle.serde_json_path_core.proofs.evaluation.walks.Walk.feed.Goals as goal
 
 pub nodes-preserved : goal.nodes-preserved
@@ -17,6 +17,3 @@ nodes-preserved g c =
         before.given.2 ∙ ap (λ more. done ++ more) (rw c.in-Some.is at c.in_ok-node.ensures.given) ∙ sym (append_assoc done (node ∷ []) left),
       );
     }
-
-pub returns-in-Enough-clause-all : goal.returns-in-Enough-clause-all
-returns-in-Enough-clause-all g c = search rules
