@@ -8,12 +8,9 @@ use Rattle.json.specs.Tree as tree
 -- the tokens of a value leave a value just ended
 mutual
   ended : (b : Bool) (j : json.Json) → fold (λ _ u. ends u) b (json_tokens j) ≡ true
-  ended b json.null = refl
-  ended b (json.boolean x) = refl
-  ended b (json.number s) = refl
-  ended b (json.string s) = refl
   ended b (json.array js) = items_ended false js
   ended b (json.object ms) = members_ended false ms
+  ended b _ = refl
 
   items_ended : (b : Bool) (js : json.Items) → fold (λ _ u. ends u) b (items_tokens js) ≡ true
   items_ended b json.no_items = refl
@@ -26,12 +23,9 @@ mutual
 -- a tree without the texts of its floats nests as deep
 mutual
   depth_blank : (j : json.Json) → tree.depth (blank j) ≡ tree.depth j
-  depth_blank json.null = refl
-  depth_blank (json.boolean x) = refl
-  depth_blank (json.number s) = refl
-  depth_blank (json.string s) = refl
   depth_blank (json.array js) = ap suc (items_depth_blank js)
   depth_blank (json.object ms) = ap suc (members_depth_blank ms)
+  depth_blank _ = refl
 
   items_depth_blank : (js : json.Items) → tree.items_depth (blank_items js) ≡ tree.items_depth js
   items_depth_blank json.no_items = refl
@@ -43,12 +37,9 @@ mutual
 
 mutual
   depth_outline : (d : Data) → tree.depth (outline d) ≡ depth d
-  depth_outline null = refl
-  depth_outline (boolean x) = refl
-  depth_outline (number n) = refl
-  depth_outline (string s) = refl
   depth_outline (array ds) = ap suc (items_depth_outline ds)
   depth_outline (object ms) = ap suc (members_depth_outline ms)
+  depth_outline _ = refl
 
   items_depth_outline : (ds : Items) → tree.items_depth (items_outline ds) ≡ items_depth ds
   items_depth_outline no_items = refl
@@ -67,7 +58,7 @@ abbrev whole : Option (json.Json × List Token) → Option Data
 whole o = option_and_then of_json (option_and_then (λ p. json.if_last p.0 p.1) o)
 
 -- what the text reads as is what its tree is
-read_tree : (text : List ℕ) (j : json.Json) (d : Data) → tokens text ≡ json_tokens j → blank j ≡ outline d → depth d ≤ max_depth → read text ≡ of_json j
+pub read_tree : (text : List ℕ) (j : json.Json) (d : Data) → tokens text ≡ json_tokens j → blank j ≡ outline d → depth d ≤ max_depth → read text ≡ of_json j
 read_tree text j d same order shallow =
     let nests : tree.depth j ≤ max_depth = subst (λ n. n ≤ max_depth) (sym (same_depth j d order)) shallow in
     ap whole (ap (json.value max_depth) (same ∙ sym (append-nil (json_tokens j))) ∙ value-json_tokens j max_depth [] nests)
@@ -96,8 +87,7 @@ print_end text j ts same = ap (print_from false) (append_assoc (json_tokens j) (
 print_begun : (later : Bool) (n : Located) (j : json.Json) (ts : List Token)
     → print_from later (json_tokens (object_tree n j) ++ ts) ≡ comma_if later ++ (codes "{\"path\":" ++ (path_string n ++ (codes ",\"value\":" ++ print_from false ((json_tokens j ++ end_object ∷ []) ++ ts))))
 unfolding print_from escape_byte
-print_begun true n j ts = refl
-print_begun false n j ts = refl
+print_begun later n j ts = grind (arith, nat_tests, common_steps)
 
 print_item : (later : Bool) (n : Located) (text it : List ℕ) (j : json.Json) (ts : List Token) → text ≡ print (json_tokens j)
     → it ≡ codes "{\"path\":" ++ (path_string n ++ (codes ",\"value\":" ++ (text ++ codes "}"))) → print_from later (json_tokens (object_tree n j) ++ ts) ≡ comma_if later ++ (it ++ print_from true ts)
@@ -183,9 +173,4 @@ json_of_printed d text is = (λ exact. is.0 ∙ ap print (tokens_from_order text
 
 -- JSON in one line, laid out, is JSON in the layout
 pub json_laid_out : (layout : Layout) (d : Data) (text laid : List ℕ) → IsPrintedOf d text → IsLaidOut layout text laid → IsJsonIn layout d laid
-json_laid_out Compact d text laid is same = subst (IsJsonOf d) (sym same) (json_of_printed d text is)
-json_laid_out Pretty d text laid is same = (
-  same.1,
-  (is.1.0, same.0 ∙ is.1.1, is.1.2),
-  λ shallow. ap (λ ts. whole (json.value max_depth ts)) same.0 ∙ is.2 shallow,
-)
+json_laid_out layout d text laid is same = grind (arith, nat_tests, common_steps, json_of_printed)

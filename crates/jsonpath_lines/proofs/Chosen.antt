@@ -11,20 +11,15 @@ IsWithin None count = Unit {0}
 IsWithin (Some most) count = count ≤ most
 
 pub within_further : (limit : Option ℕ) (count : ℕ) → is_reached limit count ≡ false → IsWithin limit (count + 1)
-within_further None count not_yet = tt
-within_further (Some most) count not_yet = grind arith
+within_further limit count not_yet = grind (arith, nat_tests, common_steps)
 
 -- where the limit is reached, no further nodes are asked for
 pub reached : (limit : Option ℕ) (done left all : List Located) (count : ℕ) → count ≡ length done → IsWithin limit count → is_reached limit count ≡ true → all ≡ done ++ left → done ≡ up_to limit all
-reached None done left all count same within full is = absurd cc
-reached (Some most) done left all count same within full is =
-    let exactly : most ≡ length done = grind arith in
-    sym (ap (λ (ns : List Located). take most ns) is ∙ take-append-le most done left (omega (arith, exactly)) ∙ take_all most done (omega (arith, exactly)))
+reached limit done left all count same within full is = grind (arith, nat_tests, common_steps)
 
 -- below the limit all are asked for
 pub all_below : (limit : Option ℕ) (nodes : List Located) (count : ℕ) → count ≡ length nodes → is_reached limit count ≡ false → nodes ≡ up_to limit nodes
-all_below None nodes count same below = refl
-all_below (Some most) nodes count same below = sym (take_all most nodes (grind (arith, same, below)))
+all_below limit nodes count same below = grind (arith, nat_tests, common_steps)
 
 -- what is appended for these nodes, which are those that are asked for
 pub pushed_so_far : (output : Output) (head : List ℕ) (limit : Option ℕ) (all done : List Located) (old new : List ℕ) (count : ℕ) → limit ≡ limit_in output.form output.most → done ≡ up_to limit all
@@ -65,11 +60,7 @@ filled_by_one before old nodes later n text count took piece further full =
 -- what was written of all nodes, or up to the limit
 pub pushed_either : (before now : Lines) (all : List Located) → before.limit ≡ limit_in before.writer.output.form before.writer.output.most → TookLines before all now ⊎ FilledLines before all now
     → Pushes before.writer.output before.writer.head.now all (string_bytes before.text) (string_bytes now.text) now.count
-pushed_either before now all is (inl took) =
-    let below : is_reached before.limit now.count ≡ false = ap (λ l. is_reached l now.count) (sym took.limit) ∙ took.more in
-    pushed_so_far before.writer.output before.writer.head.now before.limit all all _ _ _ is (all_below before.limit all now.count took.count below) took.text took.count
-pushed_either before now all is (inr filled) =
-    pushed_so_far before.writer.output before.writer.head.now before.limit all (up_to before.limit all) _ _ _ is refl filled.0 filled.1
+pushed_either before now all is either = grind (arith, nat_tests, common_steps, pushed_so_far, all_below)
 
 -- ---- what is shown of the chosen nodes, by what a walk is asked for
 
@@ -80,31 +71,18 @@ one_tells (Some zero) n m ns ms count same = (grind (arith, length-take), (λ _.
 one_tells (Some (suc most)) n m ns ms count same = (grind (arith, length-take), (λ none. absurd (grind (arith, length-take)), λ none. absurd cc))
 
 none_tells : (most : Option ℕ) (count : ℕ) → count ≡ length (up_to (limit_in Nothing most) []) → (count ≤ 1) × ((count ≡ 0) ↔ (up_to most [] ≡ []))
-none_tells None count same = (grind arith, (λ _. refl, λ _. same))
-none_tells (Some zero) count same = (grind (arith, length-take), (λ _. refl, λ _. grind (arith, length-take)))
-none_tells (Some (suc most)) count same = (grind (arith, length-take), (λ _. refl, λ _. grind (arith, length-take)))
+none_tells most count same = grind (arith, nat_tests, common_steps, length-take)
 
 nothing_counted : (most : Option ℕ) (unique : Bool) (nodes : List Located) (count : ℕ) → count ≡ length (up_to (limit_in Nothing most) nodes)
     → (count ≤ 1) × ((count ≡ 0) ↔ (up_to most (once unique nodes) ≡ []))
-nothing_counted most true [] count same = none_tells most count same
-nothing_counted most false [] count same = none_tells most count same
-nothing_counted most true (n ∷ ns) count same = one_tells most n n ns (first_places_after (n.location ∷ []) ns) count same
-nothing_counted most false (n ∷ ns) count same = one_tells most n n ns ns count same
+nothing_counted most unique nodes count same = grind (arith, nat_tests, common_steps, none_tells, one_tells)
 
 -- the lines and the count of the chosen nodes, in a form
 shown_in : (form : Form) (output : Output) (head : List ℕ) (most : Option ℕ) (unique : Bool) (nodes : List Located) (pieces written shown : List ℕ) (count : ℕ)
     → count ≡ length (up_to (limit_in form most) (once (leaves_out_in form unique) nodes)) → ArePiecesIn form output head false (up_to (limit_in form most) (once (leaves_out_in form unique) nodes)) pieces
     → written ≡ opening form ++ pieces → IsClosedIn form output head count written shown
     → AreLinesIn form output head (up_to most (once unique nodes)) shown × IsCountIn form (up_to most (once unique nodes)) count
-shown_in Nothing output head most unique nodes pieces written shown count same h is closed =
-    (lines_written Nothing output head (up_to (limit_in Nothing most) nodes) pieces written shown count same h is closed, nothing_counted most unique nodes count same)
-shown_in LocationAndValue output head most unique nodes pieces written shown count same h is closed = (lines_written LocationAndValue output head (up_to most (once unique nodes)) pieces written shown count same h is closed, same)
-shown_in Value output head most unique nodes pieces written shown count same h is closed = (lines_written Value output head (up_to most (once unique nodes)) pieces written shown count same h is closed, same)
-shown_in Raw output head most unique nodes pieces written shown count same h is closed = (lines_written Raw output head (up_to most (once unique nodes)) pieces written shown count same h is closed, same)
-shown_in Location output head most unique nodes pieces written shown count same h is closed = (lines_written Location output head (up_to most (once unique nodes)) pieces written shown count same h is closed, same)
-shown_in Pointer output head most unique nodes pieces written shown count same h is closed = (lines_written Pointer output head (up_to most (once unique nodes)) pieces written shown count same h is closed, same)
-shown_in Json output head most unique nodes pieces written shown count same h is closed = (lines_written Json output head (up_to most (once unique nodes)) pieces written shown count same h is closed, same)
-shown_in Count output head most unique nodes pieces written shown count same h is closed = (lines_written Count output head (up_to most (once unique nodes)) pieces written shown count same h is closed, same)
+shown_in form output head most unique nodes pieces written shown count same h is closed = grind (arith, nat_tests, common_steps, lines_written, nothing_counted)
 
 -- the lines and the count of the chosen nodes, by what is written before and of them, and what is made of it
 pub chosen_shown : (output : Output) (head : List ℕ) (nodes : List Located) (opened written shown : List ℕ) (count : ℕ) → opened ≡ opening output.form

@@ -14,10 +14,7 @@ after_append earlier (n ∷ nodes) later =
 
 -- a location that is among others adds none to them
 absorbed : (same among : Bool) → (same ≡ true → among ≡ true) → (among || same) ≡ among
-absorbed true true h = refl
-absorbed true false h = sym (h refl)
-absorbed false true h = refl
-absorbed false false h = refl
+absorbed same among h = grind (arith, nat_tests, common_steps)
 
 adds_none : (location known : List Step) (earlier : List (List Step)) → is_among known earlier ≡ true
     → (is_among location earlier || same_steps location known) ≡ is_among location earlier
@@ -35,20 +32,7 @@ one_among : (earlier : List (List Step)) (n : Located) (nodes : List Located) (l
     ≡ is_among location ((earlier ++ n.location ∷ []) ++ map location_of nodes)
     → is_among location (earlier ++ map location_of ((if among then [] else n ∷ []) ++ first_places_after (earlier ++ n.location ∷ []) nodes))
     ≡ is_among location (earlier ++ n.location ∷ map location_of nodes)
-one_among earlier n nodes location true is further =
-    let seen : List (List Step) = earlier ++ n.location ∷ [] in
-    let taken : List (List Step) = map location_of (first_places_after seen nodes) in
-    list_any-append (same_steps location) earlier taken
-    ∙ ap (λ b. b || is_among location taken) (sym (adds_none location n.location earlier is))
-    ∙ sym (with_one location n.location earlier taken)
-    ∙ further
-    ∙ ap (is_among location) (append_assoc earlier (n.location ∷ []) (map location_of nodes))
-one_among earlier n nodes location false is further =
-    let seen : List (List Step) = earlier ++ n.location ∷ [] in
-    let taken : List (List Step) = map location_of (first_places_after seen nodes) in
-    ap (is_among location) (sym (append_assoc earlier (n.location ∷ []) taken))
-    ∙ further
-    ∙ ap (is_among location) (append_assoc earlier (n.location ∷ []) (map location_of nodes))
+one_among earlier n nodes location among is further = grind (arith, nat_tests, common_steps, list_any-append, adds_none, with_one)
 
 same_among : (earlier : List (List Step)) (nodes : List Located) (location : List Step)
     → is_among location (earlier ++ map location_of (first_places_after earlier nodes)) ≡ is_among location (earlier ++ map location_of nodes)
@@ -74,11 +58,7 @@ one_again : (earlier known : List (List Step)) (n : Located) (nodes : List Locat
     → ((k : List (List Step)) → AreAmong k (earlier ++ n.location ∷ []) → first_places_after k (first_places_after (earlier ++ n.location ∷ []) nodes) ≡ first_places_after (earlier ++ n.location ∷ []) nodes)
     → first_places_after known ((if among then [] else n ∷ []) ++ first_places_after (earlier ++ n.location ∷ []) nodes)
     ≡ (if among then [] else n ∷ []) ++ first_places_after (earlier ++ n.location ∷ []) nodes
-one_again earlier known n nodes true is are further = further known (among_more n.location known earlier are)
-one_again earlier known n nodes false is are further =
-    let taken : List Located = first_places_after (earlier ++ n.location ∷ []) nodes in
-    ap (λ b. (if b then [] else n ∷ []) ++ first_places_after (known ++ n.location ∷ []) taken) (not_among n.location known earlier are is)
-    ∙ ap (λ l. n ∷ l) (further (known ++ n.location ∷ []) (among_both n.location known earlier are))
+one_again earlier known n nodes among is are further = grind (arith, nat_tests, common_steps, among_more, not_among, among_both)
 
 again_after : (earlier known : List (List Step)) (nodes : List Located) → AreAmong known earlier
     → first_places_after known (first_places_after earlier nodes) ≡ first_places_after earlier nodes

@@ -3,8 +3,7 @@
 -- Chosen: the nodes that a walk is asked for, and a line sink that has enough.
 -- EachOnce: nodes of which each location is taken once.
 -- Seen: a line so far, in colours.
--- Compact: the texts of null, truth values and integers are their compact JSON, and read back.
--- Scalars: the same in each layout.
+-- Scalars: the texts of null, truth values and integers are their JSON in each layout.
 -- Arrays: the array of nodes, written item by item, is its JSON.
 -- Appended: what writes leave, one after the other.
 -- Words: the words of definitions and lemmas, from one place.
@@ -12,7 +11,6 @@ pub mod Pieces
 pub mod Chosen
 pub mod EachOnce
 pub mod Seen
-pub mod Compact
 pub mod Scalars
 pub mod Arrays
 pub mod Appended

@@ -10,8 +10,7 @@ later_after later [] = later
 later_after later (n ∷ ns) = true
 
 later_after-length : (ns : List Located) → nat_lt 0 (length ns) ≡ later_after false ns
-later_after-length [] = refl
-later_after-length (n ∷ ns) = grind arith
+later_after-length ns = grind (arith, nat_tests, common_steps)
 
 pushed : (form : Form) (output : Output) (head : List ℕ) (later : Bool) (ns : List Located) (pieces piece : List ℕ) (n : Located) → ArePiecesIn form output head later ns pieces
     → IsPieceIn form output head (later_after later ns) n piece → ArePiecesIn form output head later (ns ++ n ∷ []) (pieces ++ piece)
@@ -68,13 +67,5 @@ lines_written Count output head ns pieces written shown count same h is closed =
     closed ∙ ap (λ count. head ++ (decimal count ++ end_text output.end)) same
 lines_written Nothing output head ns pieces written shown count same h is closed =
     closed ∙ is ∙ none_of Nothing output head (λ later n piece h. h) false ns pieces h
-lines_written LocationAndValue output head ns pieces written shown count same h is closed =
-    subst (IsLineOfEach output head ns) (sym (closed ∙ is)) (lines_of_each LocationAndValue output head (λ later n piece h. h) false ns pieces h)
-lines_written Value output head ns pieces written shown count same h is closed =
-    subst (IsLineOfEach output head ns) (sym (closed ∙ is)) (lines_of_each Value output head (λ later n piece h. h) false ns pieces h)
-lines_written Raw output head ns pieces written shown count same h is closed =
-    subst (IsLineOfEach output head ns) (sym (closed ∙ is)) (lines_of_each Raw output head (λ later n piece h. h) false ns pieces h)
-lines_written Location output head ns pieces written shown count same h is closed =
-    subst (IsLineOfEach output head ns) (sym (closed ∙ is)) (lines_of_each Location output head (λ later n piece h. h) false ns pieces h)
-lines_written Pointer output head ns pieces written shown count same h is closed =
-    subst (IsLineOfEach output head ns) (sym (closed ∙ is)) (lines_of_each Pointer output head (λ later n piece h. h) false ns pieces h)
+lines_written form output head ns pieces written shown count same h is closed =
+    subst (IsLineOfEach output head ns) (sym (closed ∙ is)) (lines_of_each form output head (λ later n piece h. h) false ns pieces h)

@@ -114,6 +114,7 @@ fn text_of(bytes: Vec<u8>) -> String
 }
 
 /// The same JSON in the indented layout of `serde_json`.
+#[tactic(auto, unfolding(json::specs::Print::ArePrintable))]
 pub(crate) fn indented(alloc: Global, json: &str) -> Result<String, AllocError>
     requires { ArePrintable (tokens json.now) }
     ensures { IfOk result (λ text. IsIndented json.now (string_bytes text)) }

@@ -7,14 +7,8 @@ closed-requires g c =
     array_begun c.args.output.now c.args.head.now (asked c.args.output.now (rest c.args.walk)) (string_bytes c.open.new.text) (string_bytes c.in_ok-written.written.text)
     c.in_ok-written.written.count (c.in_ok-open.ensures ∙ ap (λ text. text ++ opening c.args.output.now.form) c.requires) c.in_ok-written.ensures.pushed
 
-pub returns-clause-lines : goal.returns-clause-lines
-returns-clause-lines g c =
+pub returns : goal.returns
+returns g c =
     let shown = chosen_shown c.args.output.now c.args.head.now (rest c.args.walk) (string_bytes c.open.new.text) (string_bytes c.in_ok-written.written.text)
     (string_bytes c.in_ok-text.text) c.in_ok-written.written.count (c.in_ok-open.ensures ∙ ap (λ text. text ++ opening c.args.output.now.form) c.requires) c.in_ok-written.ensures.pushed c.in_ok-text.ensures in
-    shown.0
-
-pub returns-clause-count : goal.returns-clause-count
-returns-clause-count g c =
-    let shown = chosen_shown c.args.output.now c.args.head.now (rest c.args.walk) (string_bytes c.open.new.text) (string_bytes c.in_ok-written.written.text)
-    (string_bytes c.in_ok-text.text) c.in_ok-written.written.count (c.in_ok-open.ensures ∙ ap (λ text. text ++ opening c.args.output.now.form) c.requires) c.in_ok-written.ensures.pushed c.in_ok-text.ensures in
-    shown.1
+    record { lines = shown.0; count = shown.1; refused = tt }
