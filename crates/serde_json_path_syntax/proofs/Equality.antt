@@ -48,24 +48,24 @@ call_same p q h g = grind (arith, nat_tests, common_steps)
 
 pub segments_same : (xs ys : List Branch) → each_is is_segment xs ≡ true → each_is is_segment ys ≡ true → pointwise same_branch xs ys ≡ same_segments (segments_in xs) (segments_in ys)
 segments_same (a_segment k s ∷ xs) (a_segment l t ∷ ys) h g = ap (λ rest. same_branch (a_segment k s) (a_segment l t) && rest) (segments_same xs ys h g)
-segments_same xs ys h g = first_of (assumption, grind (arith, nat_tests, common_steps, same_branch))
+segments_same xs ys h g = grind (arith, nat_tests, common_steps, same_branch)
 
 pub selectors_same : (xs ys : List Branch) → each_is is_selector xs ≡ true → each_is is_selector ys ≡ true → pointwise same_branch xs ys ≡ same_selectors (selectors_in xs) (selectors_in ys)
 selectors_same (a_selector s ∷ xs) (a_selector t ∷ ys) h g = ap (λ rest. same_branch (a_selector s) (a_selector t) && rest) (selectors_same xs ys h g)
-selectors_same xs ys h g = first_of (assumption, grind (arith, nat_tests, common_steps, same_branch))
+selectors_same xs ys h g = grind (arith, nat_tests, common_steps, same_branch)
 
 pub ors_same : (xs ys : List Branch) → each_is is_and xs ≡ true → each_is is_and ys ≡ true → pointwise same_branch xs ys ≡ same_or (ors_in xs) (ors_in ys)
 ors_same (an_and a ∷ xs) (an_and b ∷ ys) h g = ap (λ rest. same_branch (an_and a) (an_and b) && rest) (ors_same xs ys h g)
-ors_same xs ys h g = first_of (assumption, grind (arith, nat_tests, common_steps, same_branch))
+ors_same xs ys h g = grind (arith, nat_tests, common_steps, same_branch)
 
 pub ands_same : (xs ys : List Branch) → each_is is_basic xs ≡ true → each_is is_basic ys ≡ true → pointwise same_branch xs ys ≡ same_and (ands_in xs) (ands_in ys)
 ands_same (a_basic a ∷ xs) (a_basic b ∷ ys) h g = ap (λ rest. same_branch (a_basic a) (a_basic b) && rest) (ands_same xs ys h g)
-ands_same xs ys h g = first_of (assumption, grind (arith, nat_tests, common_steps, same_branch))
+ands_same xs ys h g = grind (arith, nat_tests, common_steps, same_branch)
 
 pub arguments_same : (xs ys : List Branch) → each_is is_argument xs ≡ true → each_is is_argument ys ≡ true → pointwise same_branch xs ys ≡ same_arguments (arguments_in xs) (arguments_in ys)
 arguments_same (an_operand a ∷ xs) (an_operand b ∷ ys) h g = ap (λ rest. same_branch (an_operand a) (an_operand b) && rest) (arguments_same xs ys h g)
 arguments_same (an_or a ∷ xs) (an_or b ∷ ys) h g = ap (λ rest. same_branch (an_or a) (an_or b) && rest) (arguments_same xs ys h g)
-arguments_same xs ys h g = first_of (assumption, grind (arith, nat_tests, common_steps, same_branch))
+arguments_same xs ys h g = grind (arith, nat_tests, common_steps, same_branch)
 
 -- what the parts that are left are the same by
 pub ruleset of_parts = (uneven, all_left, unlike_next, none_left)

@@ -98,7 +98,7 @@ module _ (old new : List Node) (n : Node) where
 
 get_earlier : (nodes : List Node) (n : Node) (i : ℕ) → i < length nodes → slice_get (nodes ++ n ∷ []) i ≡ slice_get nodes i
 get_earlier (m ∷ nodes) n (suc i) h = get_earlier nodes n i (omega (arith, h))
-get_earlier nodes n i h = first_of (assumption, grind (arith, nat_tests, common_steps))
+get_earlier nodes n i h = grind (arith, nat_tests, common_steps)
 
 get_last : (nodes : List Node) (n : Node) → slice_get (nodes ++ n ∷ []) (length nodes) ≡ Some n
 get_last [] n = refl
@@ -138,7 +138,7 @@ fitting_pushed b old new n is grown fitting below fit = grind (arith, nat_tests,
 
 copies_from : (olds copies : List Node) → AreCopies olds copies → (earlier : List Branch) → branches_from earlier copies ≡ branches_from earlier olds
 copies_from (old ∷ olds) (copy ∷ copies) h earlier = rw (h.0.branch earlier, copies_from olds copies h.1 (earlier ++ branch_of earlier old ∷ []))
-copies_from olds copies h earlier = first_of (assumption, grind (arith, nat_tests, common_steps))
+copies_from olds copies h earlier = grind (arith, nat_tests, common_steps)
 
 -- the same branches
 pub copied_branches : (olds copies : List Node) → AreCopies olds copies → branches copies ≡ branches olds
@@ -148,7 +148,7 @@ copied_branches olds copies h = copies_from olds copies h []
 -- the same calls
 pub copied_calls : (olds copies : List Node) → AreCopies olds copies → calls_among copies ≡ calls_among olds
 copied_calls (old ∷ olds) (copy ∷ copies) h = rw (h.0.called, copied_calls olds copies h.1)
-copied_calls olds copies h = first_of (assumption, grind (arith, nat_tests, common_steps))
+copied_calls olds copies h = grind (arith, nat_tests, common_steps)
 
 -- each names earlier ones, and such as its places want
 module _ (olds copies : List Node) (h : AreCopies olds copies) where

@@ -18,7 +18,7 @@ pub within_get : (parts : List Part) (i : ℕ) (d : Part) → i < length parts �
 within_get (p ∷ parts) (suc i) d h =
     let later = within_get parts i d (omega (arith, h)) in
     omega arith
-within_get parts i d h = first_of (assumption, grind (arith, nat_tests, common_steps))
+within_get parts i d h = grind (arith, nat_tests, common_steps)
 
 pub within_bound : (parts : List Part) (i : ℕ) (part : Part) → i < length parts → part ≡ get_or parts i part → part.number < parts_bound parts
 within_bound parts i part h e = subst (λ (p : Part). p.number < parts_bound parts) (sym e) (within_get parts i part h)
@@ -67,7 +67,7 @@ two_selectors ps _ two h = omega (arith, two)
 pub parts_below : (builder : SyntaxBuilder) (parts : List Part) (ps : List Branch) → ArePartsFor builder parts ps → parts_bound parts ≤ length builder.arena.nodes.items
 parts_below builder (part ∷ parts) (p ∷ ps) h =
     let later = parts_below builder parts ps h.1 in omega (arith, h.0.0)
-parts_below builder parts ps h = first_of (assumption, grind (arith, nat_tests, common_steps))
+parts_below builder parts ps h = grind (arith, nat_tests, common_steps)
 
 pub branches_of_parts : (builder : SyntaxBuilder) (parts : List Part) (ps : List Branch) → ArePartsFor builder parts ps → branches_named (branches builder.arena.nodes.items) parts ≡ ps
 branches_of_parts builder [] [] h = refl
@@ -115,7 +115,7 @@ Decides-is_singular_segment seg = grind (arith, nat_tests, common_steps, always,
 pub Decides-are_singular : (segs : tree.Segments) → Decides (are_singular segs) (tree.AreSingular segs)
 Decides-are_singular (tree.segment tree.child seg more) =
     Decides-and (is_singular_segment seg) (are_singular more) (Decides-is_singular_segment seg) (Decides-are_singular more)
-Decides-are_singular segs = first_of (assumption, grind (arith, nat_tests, common_steps, always, Decides-is_singular_segment, never))
+Decides-are_singular segs = grind (arith, nat_tests, common_steps, always, Decides-is_singular_segment, never)
 
 -- ---- operands that may be compared, and such as may be tested
 
@@ -157,12 +157,12 @@ pub ruleset of_named_parts = (
 
 pub parts_for_kept : (old new : SyntaxBuilder) → KeepsTrees old new → (parts : List Part) (ps : List Branch) → ArePartsFor old parts ps → ArePartsFor new parts ps
 parts_for_kept old new keeps (part ∷ parts) (p ∷ ps) h = (keeps part p h.0, parts_for_kept old new keeps parts ps h.1)
-parts_for_kept old new keeps parts ps h = first_of (assumption, grind (arith, nat_tests, common_steps))
+parts_for_kept old new keeps parts ps h = grind (arith, nat_tests, common_steps)
 
 -- the selectors of so many parts, one by one
 pub selectors_get : (ps : List Branch) (parts : List Part) (i : ℕ) → slice_get (selectors_list (selectors_in (branches_named ps parts))) i ≡ option_map (λ (part : Part). selector_in (branch_in ps part.number)) (slice_get parts i)
 selectors_get ps (part ∷ parts) (suc i) = selectors_get ps parts i
-selectors_get ps parts i = first_of (assumption, grind (arith, nat_tests, common_steps))
+selectors_get ps parts i = grind (arith, nat_tests, common_steps)
 
 -- one of several selectors
 pub ruleset of_one_selector = (selectors_get, one_is, within_bound, slice_get_read, slice_get_past, below_length, past_length)

@@ -18,11 +18,8 @@ module _ (few many : List ℕ → Option Signature) where
       by None known e = absurd (none-some kind e)
       by (Some s) known e = ap (option_map (λ (s : Signature). s.result)) (keeps s known) ∙ e
 
-  test_kind : (c : Call) → KeepsSignature c → IsTestKind (result_kind few c) → IsTestKind (result_kind many c)
-  test_kind c keeps h2 = grind (arith, nat_tests, common_steps, kind_stays)
-
   takes : (c : Call) (kind : Kind) → KeepsSignature c → TakesResult few kind (result_kind few c) → TakesResult many kind (result_kind many c)
-  takes c kind keeps e = grind (arith, nat_tests, common_steps, kind_stays, test_kind)
+  takes c kind keeps e = grind (arith, nat_tests, common_steps, kind_stays)
 
   mutual
     typed_again : (q : Query) → Keep (calls_of q) → IsTyped few q → IsTyped many q

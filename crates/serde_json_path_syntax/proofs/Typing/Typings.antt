@@ -9,9 +9,6 @@ use Rattle.serde_json_path_syntax.proofs.Tree.NamedParts.{Decides-are_singular}
 kind : (o : Option Kind) (wanted : Kind) → Dec (o ≡ Some wanted)
 kind o wanted = grind (arith, nat_tests, common_steps)
 
-test_kind : (o : Option Kind) → Dec (IsTestKind o)
-test_kind o = grind (arith, nat_tests, common_steps)
-
 -- ---- singular queries
 
 by_test : {P : Type 0} (b : Bool) → Decides b P → Dec P
@@ -30,7 +27,7 @@ params_meet {Meets} (Some s) each =
 
 module _ (signature : List ℕ → Option Signature) where
   takes_result : (wanted : Kind) (o : Option Kind) → Dec (TakesResult signature wanted o)
-  takes_result wanted o = grind (arith, nat_tests, common_steps, kind, test_kind)
+  takes_result wanted o = grind (arith, nat_tests, common_steps, kind)
 
   -- ---- well-typed forms
 
@@ -90,7 +87,7 @@ module _ (signature : List ℕ → Option Signature) where
     typed_operand (queried q) of_value = both (typed q) (singular (segments_of q))
     typed_operand (queried q) _ = typed q
     typed_operand (called c) wanted = both (typed_call c) (takes_result wanted (result_kind signature c))
-    typed_operand o wanted = first_of (assumption, grind (arith, nat_tests, common_steps, singular, takes_result))
+    typed_operand o wanted = grind (arith, nat_tests, common_steps, singular, takes_result)
 
   -- what is well-typed for some reason is decided to be so, and from that a reason is built
   pub typed_recovered : (q : Query) → ∥ IsTyped signature q ∥₁ → IsTyped signature q
