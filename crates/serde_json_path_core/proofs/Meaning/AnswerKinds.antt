@@ -9,7 +9,7 @@ module _ (F : FunctionSet) where
 
     pub taken-typed : (args : Arguments) (kinds : List Kind) → AreTypedArguments F.signature args kinds → are_taken F args kinds ≡ true
     taken-typed (argument a more) (kind ∷ kinds) typed = rw (argument-typed a kind typed.0) (taken-typed more kinds typed.1)
-    taken-typed args kinds typed = first_of (assumption, grind (arith, nat_tests, common_steps))
+    taken-typed args kinds typed = grind (arith, nat_tests, common_steps)
 
     argument-typed : (a : Argument) (kind : Kind) → IsTypedArgument F.signature a kind → is_taken F a ≡ true
     argument-typed (operand o) kind typed = operand-typed o kind typed
@@ -30,11 +30,11 @@ module _ (F : FunctionSet) (top : Data) (keeps : KeepsTypes F) where
     -- the arguments have the types of the parameters
     pub arguments_kinds : (args : Arguments) (kinds : List Kind) → AreTypedArguments F.signature args kinds → (v : Data) → map kind_of_term (arguments F top args kinds v) ≡ kinds
     arguments_kinds (argument a more) (kind ∷ kinds) typed v = λ i. argument_kind a kind typed.0 v i ∷ arguments_kinds more kinds typed.1 v i
-    arguments_kinds args kinds typed v = first_of (assumption, grind (arith, nat_tests, common_steps))
+    arguments_kinds args kinds typed v = grind (arith, nat_tests, common_steps)
 
     argument_kind : (a : Argument) (kind : Kind) → IsTypedArgument F.signature a kind → (v : Data) → kind_of_term (argument_as F top a kind v) ≡ kind
     argument_kind (operand o) kind typed v = operand_kind o kind typed v
-    argument_kind a kind typed v = first_of (assumption, grind (arith, nat_tests, common_steps))
+    argument_kind a kind typed v = grind (arith, nat_tests, common_steps)
 
     operand_kind : (o : Operand) (kind : Kind) → IsTypedOperand F.signature o kind → (v : Data) → kind_of_term (operand_as F top o kind v) ≡ kind
     operand_kind (literal l) of_value typed v = refl

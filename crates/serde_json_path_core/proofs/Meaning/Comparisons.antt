@@ -5,33 +5,21 @@ use Rattle.serde_json_path_core.specs.Compared.{value}
 Decides-int_lt : (a b : ℤ) → Decides (int_lt a b) (a <ℤ b)
 Decides-int_lt a b = (λ e. grind (arith, ints), λ h. grind (arith, ints))
 
-Decides-is_lt : (o : Ordering) → Decides (is_lt o) (o ≡ Less)
-Decides-is_lt o = grind (arith, nat_tests, common_steps)
-
 amounts_same : (a b : Option ℤ) → Decides (of_both int_eq a b) (AreEqualAmounts a b)
 amounts_same a b = grind (arith, nat_tests, common_steps, never)
-
-amounts_rising : (a b : Option ℤ) → Decides (of_both int_lt a b) (AreRisingAmounts a b)
-amounts_rising a b = grind (arith, nat_tests, common_steps, Decides-int_lt, never)
 
 -- a test that is its own fact
 Decides-true : (b : Bool) → Decides b (IsTrue b)
 Decides-true b = (λ e. e, λ h. h)
 
-exact_same : (a b : Option Float) → Decides (of_both eq a b) (AreEqualExact a b)
-exact_same a b = grind (arith, nat_tests, common_steps, Decides-true, never)
-
 exact_rising : (a b : Option Float) → Decides (of_both lt a b) (AreRisingExact a b)
 exact_rising a b = grind (arith, nat_tests, common_steps, Decides-true, never)
 
-numbers_same : (numbers : Numbers) (a b : Num) → Decides (same_number numbers a b) (EqualNumbers numbers a b)
-numbers_same numbers a b = grind (arith, nat_tests, common_steps, amounts_same, Decides-true)
-
 sides_same : (numbers : Numbers) (a b : Compared) → Decides (same_sides numbers a b) (EqualSides numbers a b)
-sides_same numbers a b = grind (arith, nat_tests, common_steps, amounts_same, exact_same)
+sides_same numbers a b = grind (arith, nat_tests, common_steps, amounts_same, Decides-true, never)
 
 sides_rising : (numbers : Numbers) (a b : Compared) → Decides (rising_sides numbers a b) (RisingSides numbers a b)
-sides_rising numbers a b = grind (arith, nat_tests, common_steps, amounts_rising, exact_rising)
+sides_rising numbers a b = grind (arith, nat_tests, common_steps, Decides-int_lt, never, exact_rising)
 
 module _ (numbers : Numbers) where
   mutual
@@ -39,27 +27,27 @@ module _ (numbers : Numbers) where
     pub data_same : (a b : Data) → Decides (same_data numbers a b) (EqualData numbers a b)
     data_same (array xs) (array ys) = items_same xs ys
     data_same (object xs) (object ys) = members_same xs ys
-    data_same a b = first_of (assumption, grind (arith, nat_tests, common_steps, always, numbers_same, bytes_eq-Decides, never))
+    data_same a b = first_of (assumption, grind (arith, nat_tests, common_steps, always, amounts_same, Decides-true, bytes_eq-Decides, never))
 
     items_same : (xs ys : Items) → Decides (same_items numbers xs ys) (EqualItems numbers xs ys)
     items_same (item a xs) (item b ys) = Decides-and (same_data numbers a b) (same_items numbers xs ys) (data_same a b) (items_same xs ys)
-    items_same xs ys = first_of (assumption, grind (arith, nat_tests, common_steps, always, never))
+    items_same xs ys = grind (arith, nat_tests, common_steps, always, never)
 
     members_same : (xs ys : Members) → Decides (same_members numbers xs ys) (EqualMembers numbers xs ys)
     members_same (member k a xs) (member l b ys) =
         let rest = Decides-and (same_data numbers a b) (same_members numbers xs ys) (data_same a b) (members_same xs ys) in
         let all = Decides-and (bytes_eq k l) (same_data numbers a b && same_members numbers xs ys) (bytes_eq-Decides k l) rest in
         (λ e. let h = all.0 e in (h.0, h.1.0, h.1.1), λ h. all.1 (h.0, (h.1, h.2)))
-    members_same xs ys = first_of (assumption, grind (arith, nat_tests, common_steps, always, bytes_eq-Decides, never))
+    members_same xs ys = grind (arith, nat_tests, common_steps, always, bytes_eq-Decides, never)
 
   -- `==`
   pub Decides-is_same : (a b : Compared) → Decides (is_same numbers a b) (AreEqual numbers a b)
   Decides-is_same (value a) (billionths b) = sides_same numbers (value a) (billionths b)
-  Decides-is_same a b = first_of (assumption, grind (arith, nat_tests, common_steps, always, data_same, sides_same, never))
+  Decides-is_same a b = grind (arith, nat_tests, common_steps, always, data_same, sides_same, never)
 
   -- `<`
   pub Decides-comes_before : (a b : Compared) → Decides (comes_before numbers a b) (IsLess numbers a b)
-  Decides-comes_before a b = grind (arith, nat_tests, common_steps, Decides-is_lt, sides_rising)
+  Decides-comes_before a b = grind (arith, nat_tests, common_steps, sides_rising)
 
   -- a comparison of what two sides stand for holds exactly where it computes to true
   pub Decides-compare : (op : Operator) (a b : Compared) → Decides (compare numbers op a b) (Compares numbers op a b)

@@ -74,7 +74,7 @@ module _ (F : FunctionSet) (top : Data) where
 
   selected_ordered : (sel : Selector) (v : Data) → IsInOrder (λ (a b : Step × Data). SelectedBefore sel a.0 b.0) (selected F top sel v)
   selected_ordered (filter e) v = in_order-keep (λ (a b : Step × Data). StepBefore a.0 b.0) (λ c. is_true F top e c.1) (children v) (children_ordered v)
-  selected_ordered sel v = first_of (assumption, grind (arith, nat_tests, common_steps, in_order-option, children_ordered, sliced_ordered, in_order-keep))
+  selected_ordered sel v = grind (arith, nat_tests, common_steps, in_order-option, children_ordered, sliced_ordered, in_order-keep)
 
   -- a segment's triples are at the node where it is applied
   picks_by_place : (sels : Selectors) (down : List Step) (v : Data) (t : Triple × Data) → IsIn t (picks_by sels down v) → t.0.descent ≡ down

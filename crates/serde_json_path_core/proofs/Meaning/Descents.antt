@@ -17,12 +17,9 @@ abbrev blocks : Members → List (List ℕ × List Located)
 blocks no_members = []
 blocks (member k d more) = (k, descents d) ∷ blocks more
 
-blocks-match_ordering : (o : Ordering) (a b c : Members) → match_ordering o (blocks a) (blocks b) (blocks c) ≡ blocks (match_ordering o a b c)
-blocks-match_ordering o a b c = grind (arith, nat_tests, common_steps)
-
 blocks-put : (k : List ℕ) (d : Data) (ms : Members) → insert_entry (slice_cmp nat_cmp) (blocks ms) k (descents d) ≡ blocks (put k d ms)
 blocks-put k d no_members = refl
-blocks-put k d (member l e more) = grind (arith, nat_tests, common_steps, blocks-match_ordering, blocks-put k d more)
+blocks-put k d (member l e more) = grind (arith, nat_tests, common_steps, blocks-put k d more)
 
 members_descents-in_order : (ms : Members) → members_descents ms ≡ blocks (in_order ms)
 members_descents-in_order no_members = refl

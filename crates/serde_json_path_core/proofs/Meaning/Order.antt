@@ -5,22 +5,19 @@ use Rattle.serde_json_path_core.proofs.Words.{nat_tests, common_steps, ◌≡◌
 
 pub step_once : (s t : Step) → StepBefore s t → StepBefore t s → ⊥
 step_once (by_name k) (by_name l) h g = let e : Less ≡ Greater = sym h ∙ nat_list_cmp_total.antisymm k l ∙ ap ordering_reverse g in cc
-step_once s t h g = first_of (assumption, grind (arith, nat_tests, common_steps))
+step_once s t h g = grind (arith, nat_tests, common_steps)
 
 -- where what comes first decides, and otherwise what follows
 first_once : {A P Q : Type 0} (R : A → A → Type 0) (once : (x y : A) → R x y → R y x → ⊥) (x y : A) → (x ≡ y → P → Q → ⊥) → R x y ⊎ ((x ≡ y) × P) → R y x ⊎ ((y ≡ x) × Q) → ⊥
-first_once R once x y rest h5 h6 = grind (arith, nat_tests, common_steps)
+first_once R once x y rest h g = grind (arith, nat_tests, common_steps)
 
 descent_once : (xs ys : List Step) → DescentBefore xs ys → DescentBefore ys xs → ⊥
 descent_once (s ∷ ss) (t ∷ ts) h g = first_once StepBefore step_once s t (λ e. descent_once ss ts) h g
-descent_once xs ys h g = first_of (assumption, grind (arith, nat_tests, common_steps, first_once, step_once))
-
-selected_once : (sel : Selector) (s t : Step) → SelectedBefore sel s t → SelectedBefore sel t s → ⊥
-selected_once sel s t h g = grind (arith, nat_tests, common_steps, step_once, ints)
+descent_once xs ys h g = grind (arith, nat_tests, common_steps, first_once, step_once)
 
 selected_once_by : (sels : Selectors) (n : ℕ) (s t : Step) → SelectedBeforeBy sels n s t → SelectedBeforeBy sels n t s → ⊥
 selected_once_by (selector sel more) (suc n) s t h g = selected_once_by more n s t h g
-selected_once_by sels n s t h g = first_of (assumption, grind (arith, nat_tests, common_steps, selected_once))
+selected_once_by sels n s t h g = first_of (assumption, grind (arith, nat_tests, common_steps, step_once, ints))
 
 selected_once_in : (seg : Segment) (n : ℕ) (s t : Step) → SelectedBeforeIn seg n s t → SelectedBeforeIn seg n t s → ⊥
 selected_once_in seg n s t h g = grind (arith, nat_tests, common_steps, selected_once_by, step_once)
@@ -40,7 +37,7 @@ before_once _ _ _ h g = h
 
 in_rest : {A : Type 0} (R : A → A → Type 0) (once : (x y : A) → R x y → R y x → ⊥) (x y z : A) (xs ys : List A)
     → x ≡ y → IsInOrder R (x ∷ xs) → IsIn z xs → IsIn z (y ∷ ys) → IsIn z ys
-in_rest R once x y z xs ys e o h h10 = grind (arith, nat_tests, common_steps)
+in_rest R once x y z xs ys e o h g = grind (arith, nat_tests, common_steps)
 
 pub in_order_once : {A : Type 0} (R : A → A → Type 0) (once : (x y : A) → R x y → R y x → ⊥) (xs ys : List A)
     → IsInOrder R xs → IsInOrder R ys → ((z : A) → IsIn z xs → IsIn z ys) → ((z : A) → IsIn z ys → IsIn z xs) → xs ≡ ys
@@ -68,7 +65,7 @@ same_pair start xs n m h g = grind (arith, nat_tests, common_steps, same_Some)
 
 same_pairs : (start : Data) (ds : List (List Triple)) (ns ms : List Located) → AllZip (BelongsTo start) ds ns → AllZip (BelongsTo start) ds ms → ns ≡ ms
 same_pairs start (d ∷ ds) (n ∷ ns) (m ∷ ms) h g = grind (arith, nat_tests, common_steps, same_pair, same_pairs start ds ns ms h.1 g.1)
-same_pairs start ds ns ms h g = first_of (assumption, grind (arith, nat_tests, common_steps, same_pair))
+same_pairs start ds ns ms h g = grind (arith, nat_tests, common_steps, same_pair)
 
 -- a query has one result at most
 pub result_once : (F : FunctionSet) (top : Data) (q : Query) (v : Data) (ns ms : List Located) → IsResult F top q v ns → IsResult F top q v ms → ns ≡ ms

@@ -84,9 +84,6 @@ counted z len low high = grind (arith, nat_tests, common_steps, ints)
 cut_counted : (len : ℕ) (x : ℤ) → let z = int_min (pos len) (int_max (pos 0) x) in (pos (nat_abs z) ≡ z) × (nat_abs z ≤ len)
 cut_counted len x = counted (int_min (pos len) (int_max (pos 0) x)) len (omega (arith, ints, clamps)) (omega (arith, ints, clamps))
 
-last_counted : (len : ℕ) (x : ℤ) → let z = int_min (pos len -ℤ pos 1) (int_max (pos 0 -ℤ pos 1) x) +ℤ pos 1 in (pos (nat_abs z) ≡ z) × (nat_abs z ≤ len)
-last_counted len x = grind (arith, nat_tests, common_steps, clamps, counted)
-
 module _ (s : Slice) (len k : ℕ) where
   -- where rising positions begin (RFC 9535, section 2.3.4.2.2)
   abbrev low : ℤ
@@ -126,7 +123,7 @@ module _ (s : Slice) (len k : ℕ) where
   bottom = bound_of (pos len) s.end ((pos 0 -ℤ pos len) -ℤ pos 1) (pos 0 -ℤ pos 1) last
 
   falling_bounds : (pos (nat_abs (top +ℤ pos 1)) ≡ (top +ℤ pos 1)) × (pos (nat_abs (bottom +ℤ pos 1)) ≡ (bottom +ℤ pos 1)) × (nat_abs (top +ℤ pos 1) ≤ len)
-  falling_bounds = grind (arith, nat_tests, common_steps, last_counted)
+  falling_bounds = grind (arith, nat_tests, common_steps, clamps, counted)
 
   -- a position that is so many steps below the start and above the end
   falling_at : (p n : ℕ) → step_of s ≡ negsuc k

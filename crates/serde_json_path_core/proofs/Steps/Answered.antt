@@ -4,21 +4,17 @@ use Rattle.serde_json_path_core.proofs.Sound.{next-argument, own-call}
 use Rattle.serde_json_path_core.proofs.Meaning.AnswerKinds.{answered-typed, taken-typed}
 use Rattle.serde_json_path_core.proofs.Meaning.Derived.{arguments_right}
 
--- a term that a signature gives is of its result's type
-given-kind : (s : Option Signature) (t : Term) → Gives s t → Some (kind_of_term t) ≡ option_map (λ (s : Signature). s.result) s
-given-kind s t gives = grind (arith, nat_tests, common_steps)
-
 -- and so is a call's answer
 pub answered-kind : {E : Type 0} (F : FunctionSet) (c : Call) (name : List ℕ) (r : Result FunctionValue E) → name ≡ name_of c
     → IfOk r (λ a. Gives (F.signature name) (term_view a)) → IfOk r (λ a. Some (kind_of_term (term_view a)) ≡ result_kind F.signature c)
-answered-kind F c name r e gives = grind (arith, nat_tests, common_steps, given-kind)
+answered-kind F c name r e gives = grind (arith, nat_tests, common_steps)
 
 module _ (F : FunctionSet) (top : Data) where
   -- where no argument is left, or no parameter, nothing is left to give
   none-left : (ps : List Branch) (parts : List Part) (kinds : List FunctionArgType) (v : Data) → (length parts ≡ 0) ⊎ (length kinds ≡ 0)
       → arguments F top (arguments_in (branches_named ps parts)) (map kind_view kinds) v ≡ []
   none-left ps (part ∷ parts) (kind ∷ kinds) v h = absurd (elim h [ inl e ↦ cc | inr e ↦ cc ])
-  none-left ps parts kinds v h = first_of (assumption, grind (arith, nat_tests, common_steps))
+  none-left ps parts kinds v h = grind (arith, nat_tests, common_steps)
 
   -- then what is given are all arguments
   pub given-all : (ps : List Branch) (parts : List Part) (kinds : List FunctionArgType) (v : Data) (given all : List Term) → (length parts ≡ 0) ⊎ (length kinds ≡ 0)

@@ -30,15 +30,12 @@ in_order-members_view entries sorted = in_order-rising (members_view entries) (r
 
 -- ---- logical expressions of one operand, which is a comparison
 
-single : (parts : List Part) (d : Part) → 1 ≤ length parts → length parts < 2 → parts ≡ slice_index_or parts 0 d ∷ []
-single parts d low high = grind (arith, nat_tests, common_steps)
-
 -- an expression of one operand of `||` with one operand of `&&`, which is a comparison
 pub one-comparison : (ps : List Branch) (e : LogicalOr) (ors ands : List Part) (d : Part) (x : Operand) (op : Operator) (y : Operand)
     → 1 ≤ length ors → length ors < 2 → 1 ≤ length ands → length ands < 2
     → e ≡ ors_in (branches_named ps ors) → and_in (branch_in ps (slice_index_or ors 0 d).number) ≡ ands_in (branches_named ps ands)
     → basic_in (branch_in ps (slice_index_or ands 0 d).number) ≡ relation x op y → e ≡ or (and (relation x op y) no_and) no_or
-one-comparison ps e ors ands d x op y some_or one_or some_and one_and is_or is_and is_basic = grind (arith, nat_tests, common_steps, single)
+one-comparison ps e ors ands d x op y some_or one_or some_and one_and is_or is_and is_basic = grind (arith, nat_tests, common_steps)
 
 alone : (b : Bool) → ((b && true) || false) ≡ b
 alone b = grind (arith, nat_tests, common_steps)

@@ -62,7 +62,7 @@ candidates-of sel v = grind (arith, nat_tests, common_steps, in_child_by, in_ite
 pub opened-of : (kind : SegmentKind) (sels : List Selector) (v : Data) → AreChildrenOf v (opened kind sels v)
 unfolding AreChildrenOf
 opened-of descendant [] v = candidates-of wildcard v
-opened-of kind sels v = first_of (assumption, grind (arith, nat_tests, common_steps, candidates-of))
+opened-of kind sels v = grind (arith, nat_tests, common_steps, candidates-of)
 
 -- ---- frames
 

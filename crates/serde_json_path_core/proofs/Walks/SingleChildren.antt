@@ -27,12 +27,9 @@ value_in : (cs : List (Step × Data)) (d : Data) → d ∷ [] ≡ map (λ (c : S
 value_in [] d e = absurd cc
 value_in (c ∷ cs) d e = (c, inl refl, ap (λ ds. get_or ds 0 d) e)
 
-value_alone : (s : Step) (found : Option Data) → option_to_list found ≡ map (λ (c : Step × Data). c.1) (option_to_list (option_map (λ d. (s, d)) found))
-value_alone s found = grind (arith, nat_tests, common_steps)
-
 -- the value of a name
 pub member_value : (k : List ℕ) (v : Data) → option_to_list (get k v) ≡ candidate_values (name k) v
-member_value k v = grind (arith, nat_tests, common_steps, value_alone)
+member_value k v = grind (arith, nat_tests, common_steps)
 
 -- the value that a selector selects is a child's
 pub child-selected : (s : SingleSelector) (v d : Data) → d ∷ [] ≡ candidate_values (single_view s) v → (step : Step) × (child_at v step ≡ Some d)

@@ -11,13 +11,9 @@ located above v = record { location = above; value = v }
 -- ---- a node and all below it, level by level
 
 module _ {A : Type 0} (make : Located → List A) where
-  -- what is made of a child and all below it
-  below-placed : (n : Located) (c : Step × Data) → flat_map (λ m. make (beneath n.location m)) (below_child c) ≡ flat_map make (reached descendant (placed n.location c))
-  below-placed n c = grind (arith, nat_tests, common_steps, flat_map-map, flat_map-same)
-
   -- a node, and then its children with all below them
   pub unrolled : (kind : SegmentKind) (n : Located) → flat_map make (reached kind n) ≡ make n ++ flat_map (λ c. flat_map make (reached kind (placed n.location c))) (lower kind n.value)
-  unrolled kind n = grind (arith, nat_tests, common_steps, flat_map-map, flat_map-same, flat_map-flat_map, below_child, descents_are, below-placed)
+  unrolled kind n = grind (arith, nat_tests, common_steps, flat_map-map, flat_map-same, flat_map-flat_map, below_child, descents_are)
 
 -- ---- stacks
 
@@ -153,12 +149,9 @@ work-moved all ps p m stage more front number c d t ms mk =
 -- ---- what a walk that begins has left is the result of the segments
 
 module _ (F : FunctionSet) (top : Data) where
-  selected-admitted : (sel : Selector) (v : Data) → admitted F top sel (candidates sel v) ≡ selected F top sel v
-  selected-admitted sel v = grind (arith, nat_tests, common_steps)
-
   chosen_by-list : (sels : Selectors) (v : Data) → flat_map (λ s. admitted F top s (candidates s v)) (selectors_list sels) ≡ chosen_by F top sels v
   chosen_by-list no_selectors v = refl
-  chosen_by-list (selector sel more) v = grind (arith, nat_tests, common_steps, selected-admitted, chosen_by-list more v)
+  chosen_by-list (selector sel more) v = grind (arith, nat_tests, common_steps, chosen_by-list more v)
 
   pub chosen-list : (seg : Segment) (v : Data) → flat_map (λ s. admitted F top s (candidates s v)) (selectors_of seg) ≡ chosen F top seg v
   chosen-list seg v = grind (arith, nat_tests, common_steps, chosen_by-list)

@@ -20,7 +20,7 @@ sees_replaced items n old new long is =
 
 pub passes-last : (ps : List Frame) (p : Frame) → last_passed (ps ++ p ∷ []) ≡ ps ++ passed p ∷ []
 passes-last (q ∷ r ∷ rs) p = ap (λ more. q ∷ more) (passes-last (r ∷ rs) p)
-passes-last ps p = first_of (assumption, grind (arith, nat_tests, common_steps))
+passes-last ps p = grind (arith, nat_tests, common_steps)
 
 -- where the last one is replaced by one that is seen as it, past a arrival
 pub sees_passed : (items : List declared.Frame) (n : ℕ) (old new : declared.Frame) → length items ≡ n + 1 → old ≡ get_or items n old → frame_view new ≡ passed (frame_view old)
@@ -46,7 +46,7 @@ stages-get : (ps : List Branch) (parts : List Part) (i : ℕ)
     → slice_get (stages (segments_in (branches_named ps parts))) i
     ≡ option_map (λ (part : Part). stage_of (segment_kind_in (branch_in ps part.number)) (segment_in (branch_in ps part.number))) (slice_get parts i)
 stages-get ps (part ∷ parts) (suc i) = stages-get ps parts i
-stages-get ps parts i = first_of (assumption, grind (arith, nat_tests, common_steps))
+stages-get ps parts i = grind (arith, nat_tests, common_steps)
 
 pub stages-from : (nodes : List Node) (parts : List Part) (i : ℕ) (part : Part) → i < length parts → part ≡ slice_index_or parts i part
     → drop i (stages_at nodes parts) ≡ stage_at nodes part ∷ drop (i + 1) (stages_at nodes parts)
@@ -73,9 +73,6 @@ at_child F top e left first found is holds none = grind (arith, nat_tests, commo
 pub ruleset of_found = (nat_tests, common_steps, at_child, found-none, found-some, rest-started, first-of-values)
 
 -- ---- one turn of a walk: what it gives, and what stays
-
-without_last : (ps : List Frame) (p : Frame) → take (length (ps ++ p ∷ []) - 1) (ps ++ p ∷ []) ≡ ps
-without_last ps p = grind (arith, nat_tests, common_steps, take-append_seam)
 
 module _ (F : FunctionSet) (top : Data) (all : List Stage) where
   -- a turn leaves what remains as it is, leaves less work, and keeps the stack
@@ -138,7 +135,7 @@ module _ (F : FunctionSet) (top : Data) (all : List Stage) where
 
   -- the last frame is at a node itself
   pub at-start : (ps : List Frame) (p : Frame) → drop p.segment all ≡ [] → IsAtNode F top all (ps ++ p ∷ []) None p.value
-  at-start ps p ends = grind (arith, nat_tests, common_steps, chain-split, gives, located, work-fewer, without_last)
+  at-start ps p ends = grind (arith, nat_tests, common_steps, chain-split, gives, located, work-fewer, take-append_seam)
 
 -- ---- what comes of the last of a walk's frames once its next arrival was looked for
 

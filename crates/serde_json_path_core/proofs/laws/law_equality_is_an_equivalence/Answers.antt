@@ -45,11 +45,11 @@ mutual
 
   items_themselves : (xs : Items) → AreOfValues xs → EqualItems all_numbers xs xs
   items_themselves (item d xs) (v ∷ vs, e) = (itself d (v, cc), items_themselves xs (vs, cc))
-  items_themselves xs h = first_of (assumption, grind (arith, nat_tests, common_steps))
+  items_themselves xs h = grind (arith, nat_tests, common_steps)
 
   members_themselves : (ms : Members) → AreOfEntries ms → EqualMembers all_numbers ms ms
   members_themselves (member k d ms) (e ∷ es, h) = (refl, itself d (e.1, cc), members_themselves ms (es, cc))
-  members_themselves ms h = first_of (assumption, grind (arith, nat_tests, common_steps))
+  members_themselves ms h = grind (arith, nat_tests, common_steps)
 
 -- ---- equal values are equal either way round, and the first equals what the second does
 
@@ -72,14 +72,14 @@ mutual
   items_equal (item a xs) (item b ys) (item c zs) h =
       let first = data_equal a b c h.0 in
       let more = items_equal xs ys zs h.1 in ((first.0, more.0), λ g. (first.1 g.0, more.1 g.1))
-  items_equal xs ys zs h = first_of (assumption, grind (arith, nat_tests, common_steps))
+  items_equal xs ys zs h = grind (arith, nat_tests, common_steps)
 
   members_equal : (xs ys zs : Members) → EqualMembers all_numbers xs ys → EqualMembers all_numbers ys xs × (EqualMembers all_numbers ys zs → EqualMembers all_numbers xs zs)
   members_equal (member k a xs) (member l b ys) no_members h = ((sym h.0, (data_equal a b null h.1).0, (members_equal xs ys no_members h.2).0), λ g. absurd g)
   members_equal (member k a xs) (member l b ys) (member m c zs) h =
       let first = data_equal a b c h.1 in
       let more = members_equal xs ys zs h.2 in ((sym h.0, first.0, more.0), λ g. (h.0 ∙ g.0, first.1 g.1, more.1 g.2))
-  members_equal xs ys zs h = first_of (assumption, grind (arith, nat_tests, common_steps))
+  members_equal xs ys zs h = grind (arith, nat_tests, common_steps)
 
 -- ---- sides: a number literal is as the value of its exact number
 
