@@ -1,5 +1,5 @@
 -- A function that moves what one pointer owns from a struct into another is proved once, for all structs. Assumes `Logic`.
-use Rattle.nullable_box.proofs.Words.{◌≡◌, List, [], ◌∷◌, ◌++◌, refl, sym, subst, lit<, Option, T, true, ◌&&◌, Ura, Sym, Fn, Callee, Ty, copy, place, field, local, value_local, assign, rv_opd, aggregate, seq, return, ty_ptr, ty_struct, tcons, tnil, Val, has_ty, WT, SProp, emp, ent, id⊢, Fml, ftrue, fsep, Model, WpFn, Closed, Logic, ‵, raw, ◌⊛◌, ◌$◌, ◌∵◌, !, qed, by, keep, drop, split, fsplit, fjoin, rewrite, suffices, use0, stop, fld, of_opd, no_more, and_then, returns, enter, alloc_all, pass_all, free_all, look_at, get, get_in, sets, agg, sub, whole, fact, fact_i, Running, MachineTables, tables, yes, Last, left, rest, RattleType, owns, Ptr, block_ptr, null_ptr, ptr_val, Signature, types_at, plain, nothing, Ended, Clauses, closing, Meets, Stays, stay_dropped, walk_of, Goes-dropped, proved_at, leaves, held}
+use Rattle.nullable_box.proofs.Words.{◌≡◌, List, [], ◌∷◌, ◌++◌, refl, sym, ap, lit<, Option, T, true, ◌&&◌, Ura, Sym, Fn, Callee, copy, place, field, local, value_local, assign, rv_opd, aggregate, seq, return, ty_ptr, ty_struct, tcons, tnil, Val, has_ty, WT, SProp, emp, Fml, ftrue, fsep, Model, WpFn, Closed, Logic, ‵, raw, ◌⊛◌, ◌$◌, ◌∵◌, !, qed, by, regoal, prop, keep, drop, split, fsplit, fjoin, rewrite, use0, stop, fld, of_opd, no_more, and_then, returns, enter, alloc_all, pass_all, free_all, look_at, get, get_in, sets, agg, sub, whole, fact, fact_i, Running, MachineTables, tables, yes, Last, left, rest, RattleType, owns, Ptr, block_ptr, null_ptr, ptr_val, types_at, plain, nothing, Ended, Clauses, closing, Meets, Stays, stay_dropped, walk_of, Goes-dropped, proved_at, leaves, and_tt, held}
 use Rattle.nullable_box.specs.contracts.nullable_box.NullableBox as nullable
 use Rattle.nullable_box.proofs.Owners.{single, OnePtr, owner_in, owner_out}
 
@@ -29,9 +29,6 @@ nullable_box R = record {
 }
 
 module _ (name name' : Sym) where
-  abbrev struct_of : Sym → Ty
-  struct_of n = ty_struct n (tcons ty_ptr tnil)
-
   -- the pointer is taken out of the one struct, and put into the other
   abbrev pub moving : Fn
   moving = record {
@@ -40,7 +37,8 @@ module _ (name name' : Sym) where
     ty_params = [];
     givens = 0;
     params = 1;
-    locals = local (struct_of name') value_local ∷ local (struct_of name) value_local ∷ local ty_ptr value_local ∷ local ty_ptr value_local ∷ [];
+    locals = local (ty_struct name' (tcons ty_ptr tnil)) value_local ∷ local (ty_struct name (tcons ty_ptr tnil)) value_local
+        ∷ local ty_ptr value_local ∷ local ty_ptr value_local ∷ [];
     body = seq (assign (place 2 []) (rv_opd (copy (place 1 (field 0 ∷ []))))) (seq (assign (place 3 []) (rv_opd (copy (place 2 []))))
         (seq (assign (place 0 []) (aggregate (copy (place 3 []) ∷ []))) return));
   }
@@ -50,17 +48,13 @@ pointer_good (block_ptr b o) = (tt, tt)
 pointer_good null_ptr = (tt, record { fits = lit< tt })
 
 single_good : (p : Ptr) → T (has_ty ty_ptr (ptr_val p) && true) × WT (single (ptr_val p))
-single_good (block_ptr b o) = (tt, (tt, tt))
-single_good null_ptr = (tt, (record { fits = lit< tt }, tt))
+single_good p = (and_tt _ (pointer_good p).0, ((pointer_good p).1, tt))
 
 module _ {R : RattleType} (P Q : Owner R) where
-  abbrev signature : Signature
-  signature = record { lifetimes = 0; outlives = []; params = plain (λ _. P.row) ∷ []; result = plain (λ _. Q.row) }
-
   abbrev ended : Ended
-  ended = record { signature = signature; kept = (yes, tt) }
+  ended = record { signature = record { lifetimes = 0; outlives = []; params = plain (λ _. P.row) ∷ []; result = plain (λ _. Q.row) }; kept = (yes, tt) }
 
-  abbrev stays : Stays signature.params ended.kept
+  abbrev stays : Stays ended.signature.params ended.kept
   stays = (stay_dropped (plain (λ _. P.row)) yes, tt)
 
   module _ {M : Type 1} (𝓤 : Ura M) where
@@ -72,9 +66,8 @@ module _ {R : RattleType} (P Q : Owner R) where
       abbrev 𝓣 : MachineTables 𝓤 𝓛.H 𝓜
       𝓣 = tables 𝓤 𝓛.H 𝓜 𝓡 𝓡.env
 
-      pub moved : (key : Callee) → Closed 𝓤 𝓛.H 𝓣.C 𝓣.Λ key (moving P.name Q.name) → Meets 𝓛 signature (𝓣.C key) (closing 𝓛 ended clauses)
+      pub moved : (key : Callee) → Closed 𝓤 𝓛.H 𝓣.C 𝓣.Λ key (moving P.name Q.name) → Meets 𝓛 ended.signature (𝓣.C key) (closing 𝓛 ended clauses)
       moved key closed =
-          let H = 𝓛.H in
           let fn = moving P.name Q.name in
           proved_at 𝓛 ended stays clauses 𝓜 𝓡 (Goes-dropped 𝓛 0 (plain (λ _. P.row)) yes (λ κs d f. P.silent d f), tt) key fn closed (λ z are.
           let d = z.0.3.0 in
@@ -82,10 +75,9 @@ module _ {R : RattleType} (P Q : Owner R) where
           let v = P.value d in
           let w : Val = single (ptr_val p) in
           let Post : Val → SProp 𝓤 = (walk_of 𝓛 ended stays clauses).post z in
-          let Run : List Val → SProp 𝓤 = λ ws. WpFn 𝓤 H 𝓣.C 𝓣.Λ fn ws Post in
-          qed 𝓛 ((‵ ftrue ⊛ ‵ (owns (types_at signature.params tt) z.0.3 z.0.4)) ∷ raw (emp 𝓤) ∷ []) ∵ split ! $ drop ! $ fsplit ! $
+          qed 𝓛 ((‵ ftrue ⊛ ‵ (owns (types_at ended.signature.params tt) z.0.3 z.0.4)) ∷ raw (emp 𝓤) ∷ []) ∵ split ! $ drop ! $ fsplit ! $
           rewrite ! 0 (λ (F : Fml). ‵ F) (P.owned d z.0.4.0) refl $ owner_out ! p (held R p v) z.0.4.0 (λ word.
-          suffices ! (Run (w ∷ [])) (subst (λ (us : List Val). ent 𝓤 (Run (w ∷ [])) (Run us)) (sym (λ i. word i ++ [])) (id⊢ 𝓤 (Run (w ∷ [])))) $
+          regoal ! (λ us. prop (WpFn 𝓤 𝓛.H 𝓣.C 𝓣.Λ fn us Post)) (ap (λ us. us ++ []) word) refl $
           enter ! 𝓣.C 𝓣.Λ fn (w ∷ []) Post $ alloc_all ! (λ l. pass_all ! refl (single_good p, tt) $
           sets ! (of_opd ! (get_in ! (fld ! refl (stop !)) (sub ! 0 refl (whole !)))) refl (pointer_good p) $
           sets ! (of_opd ! (get ! refl)) refl (pointer_good p) $

@@ -26,7 +26,7 @@ pub use denote.Param.{bounded, layout, layouts, param}
 pub use denote.Param.Laws.{Laws, param_laws}
 pub use denote.RattleType.{RattleType, Valss, owns}
 pub use denote.RawPtr.{Ptr, RawPtr, Testable, block_ptr, in_a_block, null_ptr, ptr_val, tests_null}
-pub use denote.Signature.{Signature, plain, type_at, types_at}
+pub use denote.Signature.{plain, type_at, types_at}
 pub use denote.Steps.{heard, nothing, only}
 pub use denote.Struct.Owning.{shape}
 pub use denote.Struct.Struct.{Struct, within}
@@ -39,13 +39,13 @@ pub use lib.Dec.{T}
 pub use mathlib.Core.Bool.{true, ◌&&◌}
 pub use mir.MapTy.{inst_fn}
 pub use mir.Raw.{raw as bare}
-pub use mir.Syntax.{Callee, Fn, Sym, Ty, a_type, aggregate, assign, copy, dcons, dnil, field, impl, local, place, return, rv_opd, seq, tcons, tnil, ty_ptr, ty_struct, value_local}
+pub use mir.Syntax.{Callee, Fn, Sym, a_type, aggregate, assign, copy, dcons, dnil, field, impl, local, place, return, rv_opd, seq, tcons, tnil, ty_ptr, ty_struct, value_local}
 pub use mir.Val.{Val, WT, has_ty, of_list, vcons, vnil, vptr, vstruct}
 pub use prog.Model.{Model}
 pub use prog.Wp.{Closed, WpFn}
 pub use seplogic.Ra.Ura.{Ura}
 pub use types.ByLocal.{alloc_all, env, free_all, get, get_in, lands_as, lands_last, look_at, pass_all, sets, sets_last}
-pub use types.Kit.{ !, Goal, Item, Seq, Step, at_ret, await, by, drop, feq_i, feq_l, fjoin, fpack, fpick, fsplit, given, join, keep, later, learn, move, pick, qed, raw, rewrite, some, split, split3, step, suffices, use0, use1, ‵, ◌$◌, ◌∵◌, ◌⊛◌}
+pub use types.Kit.{ !, Goal, Item, Seq, Step, at_ret, await, by, drop, feq_i, feq_l, fjoin, fpack, fpick, fsplit, given, join, keep, later, learn, move, pick, qed, prop, raw, regoal, rewrite, some, split, split3, step, use0, use1, ‵, ◌$◌, ◌∵◌, ◌⊛◌}
 pub use types.Logic.{Logic, sem}
 pub use types.Match.{live}
 pub use types.Part.{agg, sub, whole}
