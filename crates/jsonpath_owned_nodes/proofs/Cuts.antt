@@ -1,5 +1,5 @@
 -- Lists that stand one after the other, each up to its end.
-use Rattle.jsonpath_owned_nodes.proofs.Words.{◌≡◌, ℕ, zero, suc, ◌-◌, ◌≤◌, ◌<◌, List, [], ◌∷◌, ◌++◌, length, take, drop, get_or, Some, refl, sym, ap, ◌∙◌, arith, length-drop, slice_range, slice_get, take-append-le, drop-append-le, drop_all, length_push, slice_get_past, take_all, length-take-le, take-append-drop, cut, last_end, AreEnds}
+use Rattle.jsonpath_owned_nodes.proofs.Words.{common_steps, ◌≡◌, ℕ, zero, suc, ◌-◌, ◌≤◌, ◌<◌, List, [], ◌∷◌, ◌++◌, length, take, drop, get_or, Some, refl, sym, ap, ◌∙◌, arith, length-drop, slice_range, slice_get, take-append-le, drop-append-le, drop_all, length_push, slice_get_past, take_all, length-take-le, take-append-drop, cut, last_end, AreEnds}
 
 -- there are as many lists as ends
 pub length_cut : {T : Type 0} (start : ℕ) (ends : List ℕ) (items : List T) → length (cut start ends items) ≡ length ends
@@ -28,9 +28,7 @@ cut_at start (end ∷ ends) items (suc i) d within = cut_at end ends items i d (
 -- what is appended changes no part that stands before it
 pub slice_range-more : {T : Type 0} (items more : List T) (start end : ℕ) → start ≤ end → end ≤ length items
     → slice_range (items ++ more) start end ≡ slice_range items start end
-slice_range-more items more start end rises within =
-    ap (take (end - start)) (drop-append-le start items more (omega arith))
-    ∙ take-append-le (end - start) (drop start items) more (omega (arith, length-drop start items))
+slice_range-more items more start end rises within = grind (arith, common_steps, drop-append-le, take-append-le, length-drop)
 
 -- items that are appended change no list that was ended
 pub cut_more : {T : Type 0} (start : ℕ) (ends : List ℕ) (items more : List T) → AreEnds start ends (length items)

@@ -1,5 +1,5 @@
 -- What a list keeps of its nodes, read from its parts.
-use Rattle.jsonpath_owned_nodes.proofs.Words.{◌≡◌, ℕ, suc, ◌+◌, ◌<◌, String, string_bytes, List, [], ◌∷◌, ◌++◌, length, map, drop, get_or, Option, Bor, Some, None, ◌⊎◌, inl, inr, zero, refl, sym, ap, ◌∙◌, arith, slice_get, option_and_then, take_all, option_copied, IsGetResult, slice_get_past, slice_get_read, map-append, append_assoc, drop_all, drop_more, length_push, All-head, All-tail, All-push, All-weaker, All, Data, Step, child_at, at, step_in, IsStored, IsLocation, nodes_in, AreParts, NodeInfo, StoredStep, BeginsWith}
+use Rattle.jsonpath_owned_nodes.proofs.Words.{common_steps, ◌≡◌, ℕ, suc, ◌+◌, ◌<◌, String, string_bytes, List, [], ◌∷◌, ◌++◌, length, map, drop, get_or, Option, Bor, Some, None, ◌⊎◌, inl, inr, zero, refl, sym, ap, ◌∙◌, arith, slice_get, option_and_then, take_all, option_copied, IsGetResult, slice_get_past, slice_get_read, map-append, append_assoc, drop_all, drop_more, length_push, All-head, All-tail, All-push, All-weaker, All, Data, Step, child_at, at, step_in, IsStored, IsLocation, nodes_in, AreParts, NodeInfo, StoredStep, BeginsWith}
 use Rattle.jsonpath_owned_nodes.proofs.Names.{text_grew, Grew, steps_kept, all_kept}
 
 -- there are as many nodes as parts
@@ -23,15 +23,12 @@ node_at names (steps ∷ others) (info ∷ infos) (suc i) e = node_at names othe
 
 -- what is copied out of a list at an index
 pub copied_at : (infos : List NodeInfo) (i : ℕ) (r : Option (Bor NodeInfo)) → IsGetResult infos i i r → option_copied r ≡ slice_get infos i
-copied_at infos i None h = sym (slice_get_past infos i h.3)
-copied_at infos i (Some info) h = sym (slice_get_read infos (length infos) i info.now refl h.3.0 h.1)
+copied_at infos i r h = grind (arith, common_steps, slice_get_past, slice_get_read)
 
 -- nothing is found below a value that lacks the next child
 pub none_below : (value : Data) (names : List ℕ) (steps : List StoredStep) (i : ℕ) (default : StoredStep) → i < length steps
     → None ≡ child_at value (step_in names (get_or steps i default)) → at value (map (step_in names) (drop i steps)) ≡ None
-none_below value names steps i default within none =
-    ap (λ left. at value (map (step_in names) left)) (drop_more steps i default within)
-    ∙ ap (option_and_then (λ child. at child (map (step_in names) (drop (i + 1) steps)))) (sym none)
+none_below value names steps i default within none = grind (arith, common_steps, drop_more)
 
 -- the nodes stay when the text of names goes on
 nodes_kept : (old new : List ℕ) → Grew old new → (locations : List (List StoredStep)) (infos : List NodeInfo)

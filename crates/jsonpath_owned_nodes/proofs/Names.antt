@@ -1,5 +1,5 @@
 -- Names in a text that all of them share, and that grows.
-use Rattle.jsonpath_owned_nodes.proofs.Words.{◌≡◌, ℕ, String, string_bytes, ◌≤◌, List, [], ◌∷◌, ◌++◌, length, take, map, refl, ap, ◌∙◌, arith, length-append, append_assoc, All-head, All-tail, All-weaker, IsCharBoundary-end, IsCharBoundary-from_take, IsUtf8-take, take-append-le, IsUtf8-string_bytes, All, IsUtf8, IsCharBoundary, by_name, step_in, IsStored, BeginsWith, StoredStep, Name, Index}
+use Rattle.jsonpath_owned_nodes.proofs.Words.{common_steps, rules, ◌≡◌, ℕ, String, string_bytes, ◌≤◌, List, [], ◌∷◌, ◌++◌, length, take, map, refl, ap, ◌∙◌, arith, length-append, append_assoc, All-head, All-tail, All-weaker, IsCharBoundary-end, IsCharBoundary-from_take, IsUtf8-take, take-append-le, IsUtf8-string_bytes, All, IsUtf8, IsCharBoundary, step_in, IsStored, BeginsWith, StoredStep, Name}
 use Rattle.jsonpath_owned_nodes.proofs.Cuts.{slice_range-more}
 
 -- a text that went on after another
@@ -35,13 +35,10 @@ name_stored old new grew = let at = seam old new grew in (at.0, at, IsCharBounda
 
 -- a step that is stored stays so, and stays the same step
 stored_kept : (old new : List ℕ) → Grew old new → (step : StoredStep) → IsStored old step → IsStored new step
-stored_kept old new grew (Name start end) is = (is.0, boundary_kept old new start grew is.1, boundary_kept old new end grew is.2)
-stored_kept old new grew (Index index) is = tt
+stored_kept old new grew step is = search (rules, boundary_kept)
 
 step_kept : (old new : List ℕ) → Grew old new → (step : StoredStep) → IsStored old step → step_in new step ≡ step_in old step
-step_kept old new grew (Name start end) is =
-    ap by_name (rw grew.begins.1 (slice_range-more old grew.begins.0 start end is.0 is.2.0))
-step_kept old new grew (Index index) is = refl
+step_kept old new grew step is = grind (arith, common_steps, slice_range-more)
 
 pub steps_kept : (old new : List ℕ) → Grew old new → (run : List StoredStep) → All (IsStored old) run → map (step_in new) run ≡ map (step_in old) run
 steps_kept old new grew [] are = refl
