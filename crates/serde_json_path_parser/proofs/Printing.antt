@@ -3,31 +3,23 @@
 pub mod QuotedTexts
 -- numbers, slices and literals
 pub mod Literals
-use Rattle.serde_json_path_parser.proofs.Words.{Numbers, true, false, flat_map, IsUtf8, chars, all_scalars, nat_tests, chars-encodes, scalars-chars, Query, query, QueryKind, root, current, Segments, no_segments, segment, SegmentKind, child, descendant, Segment, dot_name, dot_wildcard, long_hand, Selectors, no_selectors, selector, Selector, name, wildcard, index, slice, filter, LogicalOr, no_or, or, LogicalAnd, no_and, and, Basic, paren, relation, test, Operand, literal, queried, called, Call, call, Arguments, no_arguments, argument, Argument, operand, logical_argument, Operator, equal, not_equal, less, less_or_equal, greater, greater_or_equal, operator_text, query_kind_text, dots_of, bracket_dots_of, joined, query_text, segments_text, segment_text, selector_texts, selector_text, or_text, and_texts, and_text, basic_texts, basic_text, operand_text, call_text, argument_texts, argument_text, IsFunctionName, is_function_char, Reads, ReadSegments, ReadsSegment, ReadSelectors, ReadMoreSelectors, ReadsSelector, ReadsOr, ReadMoreOrs, ReadsAnd, ReadMoreAnds, ReadsBasic, ReadsOperand, ReadsCall, ReadArguments, ReadMoreArguments, ReadsArgument, InParentheses, Negated, IsSign, IsName, query_sign, operator_sign, dots_before_bracket, dots_before_name, ◌≡◌, ◌<◌, ℕ, List, [], ◌++◌, codes, refl, sym, ap, subst, ◌∙◌, append_assoc, arith, Bool, negation_text}
+use Rattle.serde_json_path_parser.proofs.Words.{common_steps, rules, Numbers, true, false, flat_map, IsUtf8, chars, all_scalars, nat_tests, chars-encodes, scalars-chars, Query, query, QueryKind, root, current, Segments, no_segments, segment, SegmentKind, child, descendant, Segment, dot_name, dot_wildcard, long_hand, Selectors, no_selectors, selector, Selector, name, wildcard, index, slice, filter, LogicalOr, no_or, or, LogicalAnd, no_and, and, Basic, paren, relation, test, Operand, literal, queried, called, Call, call, Arguments, no_arguments, argument, Argument, operand, logical_argument, Operator, equal, not_equal, less, less_or_equal, greater, greater_or_equal, operator_text, query_kind_text, dots_of, bracket_dots_of, joined, query_text, segments_text, segment_text, selector_texts, selector_text, or_text, and_texts, and_text, basic_texts, basic_text, operand_text, call_text, argument_texts, argument_text, IsFunctionName, is_function_char, Reads, ReadSegments, ReadsSegment, ReadSelectors, ReadMoreSelectors, ReadsSelector, ReadsOr, ReadMoreOrs, ReadsAnd, ReadMoreAnds, ReadsBasic, ReadsOperand, ReadsCall, ReadArguments, ReadMoreArguments, ReadsArgument, InParentheses, Negated, IsSign, IsName, query_sign, operator_sign, dots_before_bracket, dots_before_name, ◌≡◌, ◌<◌, ℕ, List, [], ◌++◌, codes, refl, sym, ap, subst, ◌∙◌, append_assoc, arith, Bool, negation_text}
 use QuotedTexts.{Spells, Spelt, spell_nothing, scalars_parts, scalars_of, spell_both, spell_ascii, spell_passing, spell_sign, spelt_nothing, spelt_as, spelt_after, spelt_between, spelt_both, string_spelt}
 use Literals.{int_spelt, slice_spelt, literal_spelt}
 
 -- ---- signs: those that are printed spell those of the grammar
 
 kind_spells : (kind : QueryKind) → Spells (query_kind_text kind) (query_sign kind)
-kind_spells root = spell_sign 36 (omega arith)
-kind_spells current = spell_sign 64 (omega arith)
+kind_spells kind = grind (arith, common_steps)
 
 dots_spell : (kind : SegmentKind) → Spells (dots_of kind) (dots_before_name kind)
-dots_spell child = spell_sign 46 (omega arith)
-dots_spell descendant = spell_ascii (codes "..") (omega arith, (omega arith, tt))
+dots_spell kind = grind (arith, common_steps)
 
 bracket_dots_spell : (kind : SegmentKind) → Spells (bracket_dots_of kind) (dots_before_bracket kind)
-bracket_dots_spell child = spell_nothing
-bracket_dots_spell descendant = spell_ascii (codes "..") (omega arith, (omega arith, tt))
+bracket_dots_spell kind = grind (arith, common_steps)
 
 operator_spells : (op : Operator) → Spells (operator_text op) (operator_sign op)
-operator_spells equal = spell_ascii (codes "==") (omega arith, (omega arith, tt))
-operator_spells not_equal = spell_ascii (codes "!=") (omega arith, (omega arith, tt))
-operator_spells less = spell_sign 60 (omega arith)
-operator_spells less_or_equal = spell_ascii (codes "<=") (omega arith, (omega arith, tt))
-operator_spells greater = spell_sign 62 (omega arith)
-operator_spells greater_or_equal = spell_ascii (codes ">=") (omega arith, (omega arith, tt))
+operator_spells op = grind (arith, common_steps)
 
 -- ---- names
 
@@ -55,11 +47,7 @@ between_blanks : (sign : List ℕ) → IsSign sign (codes " " ++ (sign ++ codes 
 between_blanks sign = (codes " ", codes " ", (refl, tt), (refl, tt), refl)
 
 operator_spelt : (sign : List ℕ) → Spells sign sign → Spelt (IsSign sign) (codes " " ++ (sign ++ codes " "))
-operator_spelt sign h = record {
-  characters = codes " " ++ (sign ++ codes " ");
-  spells = spell_both blank_spells (spell_both h blank_spells);
-  is_so = between_blanks sign;
-}
+operator_spelt sign h = search (rules, (codes " " ++ (sign ++ codes " ")), (spell_both blank_spells (spell_both h blank_spells)), (between_blanks sign))
 
 module _ {Is More : List ℕ → Type 0} {first more : List ℕ} where
   -- a first part and more
@@ -69,11 +57,7 @@ module _ {Is More : List ℕ → Type 0} {first more : List ℕ} where
   -- one more part after a sign
   one_more : (sign : List ℕ) {bytes : List ℕ} → Spelt (IsSign sign) bytes → Spelt Is first → Spelt More more
       → Spelt (λ t. (s a b : List ℕ) × IsSign sign s × Is a × More b × (t ≡ s ++ (a ++ b))) ((bytes ++ first) ++ more)
-  one_more sign s x y = record {
-    characters = (s.characters ++ x.characters) ++ y.characters;
-    spells = spell_both (spell_both s.spells x.spells) y.spells;
-    is_so = (s.characters, x.characters, y.characters, s.is_so, x.is_so, y.is_so, append_assoc s.characters x.characters y.characters);
-  }
+  one_more sign s x y = search (rules, (spell_both (spell_both s.spells x.spells) y.spells), append_assoc)
 
 in_parentheses : {Is : List ℕ → Type 0} {bytes : List ℕ} → Spelt Is bytes → Spelt (InParentheses Is) ((codes "(" ++ bytes) ++ codes ")")
 in_parentheses x = spelt_between (spell_sign 40 (omega arith)) x (spell_sign 41 (omega arith)) (λ a is. ([], a, [], tt, is, tt, refl))
@@ -199,7 +183,4 @@ module _ (rule : Numbers) where
 -- ---- whole queries
 
 pub printed_reads_back : (rule : Numbers) (text : List ℕ) (q : Query) → IsUtf8 text → Reads rule q (chars text) → Reads rule q (chars (query_text q))
-printed_reads_back rule text q utf8 reads =
-    let x = query_spelt rule q (chars text) (scalars-chars text utf8) reads in
-    let same : x.characters ≡ chars (query_text q) = sym (chars-encodes x.characters x.spells.scalars) ∙ ap chars x.spells.encoded in
-    subst (Reads rule q) same x.is_so
+printed_reads_back rule text q utf8 reads = grind (arith, common_steps, query_spelt, scalars-chars, chars-encodes)

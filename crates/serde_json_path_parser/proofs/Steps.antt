@@ -1,5 +1,5 @@
 -- Steps of the code: rows of items that a loop reads, how the builder grows by them, arguments, and what stands in filters.
-use Rattle.serde_json_path_parser.proofs.Words.{◌||◌, begins_test, read_number, read_operand, with_front, Numbers, ◌↔◌, append-nil, map-append, name_of, names_of, calls_in_segments, calls_from, calls_in_arguments, KeepsParts, KeepsTrees, calls_in, AreDeclared, MayFinish, deepest, names_in, IsTyped, depth, Part, query, root, Segments, Call, call, Arguments, SyntaxBuilder, Signature, Grows, Parsed, Failure, Reader, Ghosts, SegmentKind, Segment, ArePartsOf, segment_list, length-append, Branch, IsPart, ArePartsFor, parts_for_kept, Fails, GrowsFrom, ◌>>=◌, many, Selector, LogicalOr, LogicalAnd, Basic, Deeper, a_selector, an_and, a_basic, segment_branch, segment_branches, selector_branches, or_branches, and_branches, calls_in_selectors, calls_in_or, calls_in_and, selector_list, or_list, and_list, past_blanks, is_at, are_at, begins, opens, opens_next, level, read_segment, read_selector, read_and, read_basic, argument, Argument, Kind, ExpectedClosingParenthesis, calls_in_argument, MakesArguments, refusal, ends_argument, read_argument, read_some_arguments, Literal, Operand, literal, of_value, kind_view, is_result, ◌==◌, filter, byte_count, read_or, read_call, IsTrue, is_singular, Query, IsSingular, result_kind, called, ◌≡◌, ◌≤◌, ℕ, List, [], ◌∷◌, ◌++◌, inl, inr, Some, Option, Result, Ok, Err, refl, sym, ap, subst, ◌∙◌, append_assoc, ◌<◌, Bool, true, false, length, arith, drop, ◌-◌, Context, read_filter, LongHand, MakesSo, calls_in_branch, same_from_decides, IsComparable, argument_branch, read_comparable, read_negated_test, read_test, IsArgumentOf, IsSeenAs, result_of_operand, IsTested, null, operand, logical_argument, test}
+use Rattle.serde_json_path_parser.proofs.Words.{rules, ◌||◌, begins_test, read_number, read_operand, with_front, Numbers, ◌↔◌, append-nil, map-append, name_of, names_of, calls_in_segments, calls_from, calls_in_arguments, KeepsParts, KeepsTrees, calls_in, AreDeclared, MayFinish, deepest, names_in, IsTyped, depth, Part, query, root, Segments, Call, call, Arguments, SyntaxBuilder, Signature, Grows, Parsed, Failure, Reader, Ghosts, SegmentKind, Segment, ArePartsOf, segment_list, length-append, Branch, IsPart, ArePartsFor, parts_for_kept, Fails, GrowsFrom, ◌>>=◌, many, Selector, LogicalOr, LogicalAnd, Basic, Deeper, a_selector, an_and, a_basic, segment_branch, segment_branches, selector_branches, or_branches, and_branches, calls_in_selectors, calls_in_or, calls_in_and, selector_list, or_list, and_list, past_blanks, is_at, are_at, begins, opens, opens_next, level, read_segment, read_selector, read_and, read_basic, argument, Argument, Kind, ExpectedClosingParenthesis, calls_in_argument, MakesArguments, refusal, ends_argument, read_argument, read_some_arguments, Literal, Operand, literal, of_value, kind_view, is_result, ◌==◌, filter, byte_count, read_or, read_call, IsTrue, is_singular, Query, IsSingular, result_kind, called, ◌≡◌, ◌≤◌, ℕ, List, [], ◌∷◌, ◌++◌, inl, inr, Some, Option, Result, Ok, Err, refl, sym, ap, subst, ◌∙◌, append_assoc, ◌<◌, Bool, true, false, length, arith, drop, ◌-◌, Context, read_filter, LongHand, MakesSo, calls_in_branch, same_from_decides, IsComparable, argument_branch, read_comparable, read_negated_test, read_test, IsArgumentOf, IsSeenAs, result_of_operand, IsTested, null, operand, logical_argument, test}
 use Rattle.serde_json_path_syntax.proofs.Names.Finishing.{may_finish}
 use Rattle.serde_json_path_syntax.proofs.Lists.{in_append}
 use Rattle.serde_json_path_parser.proofs.Grammar.Calls.{level_laws}
@@ -243,35 +243,19 @@ module _ (rule : Numbers) (signature : List ℕ → Option Signature) (n : ℕ) 
   here = level rule signature n
 
   pub segments_stand : (at : Context) → IsRow (segment_row rule signature here at)
-  segments_stand at = record {
-    consumes = segments.next_segment_consumes rule signature n here (level_laws rule signature n) at;
-    branches = record { none = refl; some = λ s ss. refl };
-    calls = record { none = refl; some = λ s ss. refl };
-  }
+  segments_stand at = search (rules, segments.next_segment_consumes rule signature n here (level_laws rule signature n) at)
 
   pub segment_shorter : (at : Context) (cs rest : List ℕ) (x : SegmentKind × Segment) → begins opens cs ≡ true → read_segment (read_filter rule signature here) at cs ≡ Ok (x, rest) → length rest < length cs
   segment_shorter at = segments.segment_shorter rule signature n here (level_laws rule signature n) at
 
   pub selectors_stand : IsRow (selector_row rule signature here)
-  selectors_stand = record {
-    consumes = segments.next_selector_consumes rule signature n here (level_laws rule signature n);
-    branches = record { none = refl; some = λ s ss. refl };
-    calls = record { none = refl; some = λ s ss. refl };
-  }
+  selectors_stand = search (rules, segments.next_selector_consumes rule signature n here (level_laws rule signature n))
 
   pub ors_stand : IsRow (or_row rule signature here)
-  ors_stand = record {
-    consumes = next_and_consumes rule signature n here (level_laws rule signature n);
-    branches = record { none = refl; some = λ x xs. refl };
-    calls = record { none = refl; some = λ x xs. refl };
-  }
+  ors_stand = search (rules, next_and_consumes rule signature n here (level_laws rule signature n))
 
   pub ands_stand : IsRow (and_row rule signature here)
-  ands_stand = record {
-    consumes = next_basic_consumes rule signature n here (level_laws rule signature n);
-    branches = record { none = refl; some = λ b bs. refl };
-    calls = record { none = refl; some = λ b bs. refl };
-  }
+  ands_stand = search (rules, next_basic_consumes rule signature n here (level_laws rule signature n))
 
 -- where there is one part at least
 pub some_parts : (builder : SyntaxBuilder) (Are : List Part → Type 0) (parts : List Part) (branches : List Branch) → 1 ≤ length parts

@@ -1,5 +1,5 @@
 -- Bytes and the characters that they encode: the character at a place, by its first byte, and ASCII characters that are taken many at a time.
-use Rattle.serde_json_path_parser.proofs.Words.{slice_get_past, IsUtf8-from_ascii, encodes-chars, slice_get, IsUtf8, encode_utf8_all, StartsWithChar, get_or-drop, slice_get_within, slice_get-get_or, same_Some, none-some, length-drop, cases_lt, ◌==◌, is_utf8, chars, eqb-true, drop-drop, drop_all, IsUtf8-from_is_utf8, is_utf8-from_IsUtf8, chars-nil, chars_past_char, byte_from_char, char_from_byte, is_ascii, IsAhead, begins, nat_le, nat_lt, ◌^◌, IsAscii, and_parts, cases_Bool, take_more_set, encodes-append, encodes-IsAscii, AllPass, is_name_char, front, past, Observed, one_more, looked, LooksOn, is_ascii_name_char, Gathered, Stretched, IsSome, ◌≡◌, ℕ, ◌+◌, ◌*◌, ◌%◌, ◌<◌, ◌≤◌, inl, inr, true, List, [], ◌∷◌, length, get_or, drop, Some, refl, sym, ap, subst, ◌∙◌, arith, Option, None, zero, suc, ◌-◌, Bool, ◌++◌, take, set, append_assoc, ◌&&◌, IsScalar, false_from_ne_true}
+use Rattle.serde_json_path_parser.proofs.Words.{common_steps, slice_get_past, IsUtf8-from_ascii, encodes-chars, slice_get, IsUtf8, encode_utf8_all, StartsWithChar, get_or-drop, slice_get_within, slice_get-get_or, same_Some, none-some, length-drop, cases_lt, ◌==◌, is_utf8, chars, eqb-true, drop-drop, drop_all, IsUtf8-from_is_utf8, is_utf8-from_IsUtf8, chars-nil, chars_past_char, byte_from_char, char_from_byte, is_ascii, IsAhead, begins, nat_le, nat_lt, ◌^◌, IsAscii, and_parts, cases_Bool, take_more_set, encodes-append, encodes-IsAscii, AllPass, is_name_char, front, past, Observed, one_more, looked, LooksOn, is_ascii_name_char, Gathered, Stretched, IsSome, ◌≡◌, ℕ, ◌+◌, ◌*◌, ◌%◌, ◌<◌, ◌≤◌, inl, inr, true, List, [], ◌∷◌, length, get_or, drop, Some, refl, sym, ap, subst, ◌∙◌, arith, Option, None, zero, suc, ◌-◌, Bool, ◌++◌, take, set, append_assoc, ◌&&◌, IsScalar, false_from_ne_true}
 use Rattle.std.proofs.iter.FirstChar.{wide, in_one, in_two, in_three, in_four}
 use Rattle.serde_json_path_parser.proofs.Reading.{past_through, front_through}
 
@@ -132,16 +132,7 @@ looked_on old mid now count number at h e le = grind (arith, one_more, at_most)
 -- one character more
 pub more_gathered : (p : ℕ → Bool) (text : List ℕ) (index at c : ℕ) (part : List ℕ) → c < 128 → index ≤ at → at - index < length part → slice_get text at ≡ Some c
     → p c ≡ true → Gathered p text index at part → Gathered p text index (at + 1) (set part (at - index) c)
-more_gathered p text index at c part low le l is fits h =
-    let s = step_one text at c h.within h.utf8 is low in
-    let count : (at + 1) - index ≡ (at - index) + 1 = omega (arith, le) in
-    let e : take ((at - index) + 1) (set part (at - index) c) ≡ take (at - index) part ++ c ∷ [] = take_more_set part (at - index) c l in
-    record {
-      within = s.within;
-      utf8 = s.utf8;
-      taken = rw count (h.taken ∙ ap (λ (r : List ℕ). take (at - index) part ++ r) s.left ∙ sym (append_assoc (take (at - index) part) (c ∷ []) _) ∙ ap (λ (r : List ℕ). r ++ chars (drop (at + 1) text)) (sym e));
-      passes = rw (count, e) (all_more p (take (at - index) part) c h.passes fits);
-    }
+more_gathered p text index at c part low le l is fits h = grind (arith, common_steps, step_one, take_more_set, append_assoc, all_more)
 
 -- a text with a part after it, and then the rest of the name
 pub front_part : (cs part rest text : List ℕ) → AllPass is_ascii_name_char part → cs ≡ part ++ rest

@@ -1,5 +1,5 @@
 -- Arguments and calls, by what holds one level deeper; and the laws of these pieces at every level.
-use Rattle.serde_json_path_parser.proofs.Words.{text, is_number_argument, IsNumberArgument, MayBeArgument, Numbers, Call, ◌==◌, ◌||◌, ℤ, eqb-true, eq-eqb, or_parts, cases_Bool, LogicalOr, LogicalAnd, Basic, test, Argument, operand, logical_argument, Operator, no_or, or, no_and, and, result_kind, TakesResult, IsTypedArgument, argument_depth, Kind, of_value, of_logical, Signature, WrongReturnType, is_at, begins, begins_both, IsBlank, StandsAlone, ReadsArgument, ◌>>=◌, refusal, past_blanks, byte_count, Operand, literal, called, is_result, takes_result, suits, ends_argument, Deeper, read_operand, read_test, read_relation, read_basic_from, read_basic, read_and_from, read_and, read_or_from, read_or, read_argument, is_blank, ReadsCall, append-nil, Parsed, codes, call, Arguments, no_arguments, argument, AreTypedArguments, IsTypedCall, arguments_depth, call_depth, ExpectedClosingParenthesis, WrongArgumentType, UndefinedFunction, WrongNumberOfArguments, IsFunctionName, ReadMoreArguments, ReadArguments, read_end, read_some_arguments, read_arguments, read_call, NestedTooDeep, level, cond, ◌≡◌, ℕ, ◌≤◌, inl, inr, Bool, true, false, List, [], ◌∷◌, ◌++◌, Option, Some, Ok, Err, refl, sym, ap, subst, ◌∙◌, append_assoc, arith, ◌+◌, zero, suc, drop, None, LongHand, queried, begins_operator, IsTypedOr, or_depth, ReadsOperand}
+use Rattle.serde_json_path_parser.proofs.Words.{common_steps, is_number_argument, IsNumberArgument, MayBeArgument, Numbers, ◌==◌, ◌||◌, ℤ, eqb-true, eq-eqb, or_parts, cases_Bool, LogicalOr, LogicalAnd, Basic, Argument, operand, logical_argument, no_or, or, no_and, and, TakesResult, IsTypedArgument, argument_depth, Kind, Signature, is_at, begins, begins_both, IsBlank, StandsAlone, ReadsArgument, ◌>>=◌, past_blanks, byte_count, Operand, takes_result, suits, ends_argument, Deeper, read_operand, read_basic_from, read_basic, read_and_from, read_and, read_or_from, read_or, read_argument, is_blank, ReadsCall, append-nil, Parsed, codes, call, Arguments, no_arguments, argument, AreTypedArguments, IsTypedCall, arguments_depth, call_depth, ExpectedClosingParenthesis, WrongArgumentType, UndefinedFunction, WrongNumberOfArguments, IsFunctionName, ReadMoreArguments, ReadArguments, read_end, read_some_arguments, read_arguments, read_call, level, ◌≡◌, ℕ, ◌≤◌, inl, inr, true, false, List, [], ◌∷◌, ◌++◌, Option, Some, Ok, refl, sym, ap, ◌∙◌, append_assoc, arith, ◌+◌, zero, suc, drop, None, LongHand, IsTypedOr, or_depth}
 use Rattle.serde_json_path_parser.proofs.Reading.{split_again, blanks_of, spread, begins_where, differs, no_blank, begins_differs, Read, Spaced, bind_ok, ok_is, after_one, many_end, Inner, onward, choose, remade, read_as, Outcome, weaker_spaced, refused, past_text, Past, read_spaced, after_sign, past_spaced, past_through, past_run, front_each, whole, moved, begins_other}
 use Rattle.serde_json_path_parser.proofs.Grammar.LogicalForms.{query_singular, DeeperLaws, singular_query, ends_operand, ends_or, IsOperandText, IsOrText, begins_operand, begins_expression, operand_begins, as_expression, or_begins, no_blank_begins, IsGoodOperand, typed_good}
 use Rattle.serde_json_path_parser.proofs.Grammar.LogicalExpressions.{or_again, or_outcome, and_from_outcome, or_from_outcome}
@@ -103,9 +103,7 @@ module _ (rule : Numbers) (signature : List ℕ → Option Signature) (n : ℕ) 
       rw (plain, read, ends) refl
 
   alone_text : (e : LogicalOr) (t : List ℕ) → IsOrText rule signature n t e → StandsAlone e → (o : Operand) × IsOperandText rule signature n t o × (operand o ≡ logical_argument e → ⊥)
-  alone_text (or (and (test false o) no_and) no_or) t (good, (a, b, (c, d, is, last, first), none, whole)) stands =
-      (o, (typed_good signature n o of_logical good.0.0.0 (omega (arith, good.1)), subst (ReadsOperand rule o) (sym (single t a b c d whole none first last)) is), (λ same. absurd cc))
-  alone_text _ t h stands = absurd stands
+  alone_text e t h stands = grind (arith, common_steps, typed_good, single, whole)
 
   -- so no expression that is read before an argument's end is one
   not_alone : (e : LogicalOr) (t k rest : List ℕ) → IsOrText rule signature n t e → IsBlank k → begins ends_argument rest ≡ true → read_argument rule signature deeper (t ++ (k ++ rest)) ≡ Ok (logical_argument e, rest) → StandsAlone e → ⊥
@@ -124,17 +122,7 @@ module _ (rule : Numbers) (signature : List ℕ → Option Signature) (n : ℕ) 
   none_joined b cs x ends e = grind (arith, many_end, no_sign, ok_is, whole)
 
   operand_alone : (start : List ℕ) (o : Operand) (cs : List ℕ) (x : LogicalOr × List ℕ) → begins ends_argument cs ≡ true → (read_basic_from rule signature deeper (byte_count start) o cs >>= more_of) ≡ Ok x → StandsAlone x.0
-  operand_alone start o cs x ends e =
-      by_operand o (ap (λ (op : Option (Operator × List ℕ)). read_relation rule signature deeper (byte_count start) o op cs >>= more_of) (sym (no_operator cs (begins_where ends_argument begins_operator false cs (λ c e. grind (arith, e)) ends))) ∙ e)
-    where
-      by_result : (c : Call) (value : Bool) → (cond value (Err (refusal WrongReturnType LongHand start)) (Ok (test false (called c), cs)) >>= more_of) ≡ Ok x → StandsAlone x.0
-      by_result c true e = absurd cc
-      by_result c false e = subst StandsAlone (none_joined (test false (called c)) cs x ends e) tt
-
-      by_operand : (o : Operand) → (read_test rule signature deeper false (byte_count start) o cs >>= more_of) ≡ Ok x → StandsAlone x.0
-      by_operand (literal l) e = absurd cc
-      by_operand (queried q) e = subst StandsAlone (none_joined (test false (queried q)) cs x ends e) tt
-      by_operand (called c) e = by_result c (is_result of_value (result_kind signature c)) e
+  operand_alone start o cs x ends e = grind (arith, common_steps, no_operator, begins_where, none_joined)
 
   -- an operand and what is joined to it
   joined_again : (cs : List ℕ) (x : LogicalOr × List ℕ) (o : Operand × List ℕ) (b : Basic × List ℕ) (a : LogicalAnd × List ℕ) → begins (λ c. c == 40 || c == 33) cs ≡ false → (StandsAlone x.0 → ⊥)
@@ -293,9 +281,7 @@ module _ (rule : Numbers) (signature : List ℕ → Option Signature) (n : ℕ) 
     -- after `(` and blanks
     parameters_again : (start : List ℕ) (kinds : List Kind) (args : Arguments) (t : List ℕ) → AreTypedArguments signature args kinds → arguments_depth args ≤ n → ReadArguments rule args t
         → read_arguments rule signature deeper (byte_count start) kinds (past_blanks (t ++ closing)) ≡ Ok (args, past_blanks rest)
-    parameters_again start kinds no_arguments t typed within_depth is =
-        let here : past_blanks (t ++ closing) ≡ 41 ∷ rest = ap (λ (l : List ℕ). past_blanks (l ++ closing)) is ∙ at_closing in
-        rw (here, typed) refl
+    parameters_again start kinds no_arguments t typed within_depth is = grind (arith, common_steps, at_closing)
     parameters_again start kinds (argument a more) t typed within_depth (b, others, is, are, e) =
         let whole : t ++ closing ≡ b ++ (others ++ closing) = ap (λ (l : List ℕ). l ++ closing) e ∙ append_assoc b others closing in
         let begun : begins begins_expression (b ++ (others ++ closing)) ≡ true = argument_begins rule signature n deeper laws b a (others ++ closing) is in
@@ -315,12 +301,7 @@ module _ (rule : Numbers) (signature : List ℕ → Option Signature) (n : ℕ) 
 module _ (rule : Numbers) (signature : List ℕ → Option Signature) where
   pub level_laws : (n : ℕ) → DeeperLaws rule signature n (level rule signature n)
   unfolding level
-  level_laws zero = record {
-    inside_outcome = λ before start cs split. refused NestedTooDeep LongHand (inl refl);
-    inside_again = λ start t e rest good is ends. absurd (omega (arith, good.1));
-    call_outcome = λ start f cs named split. refused NestedTooDeep LongHand (inl refl);
-    call_again = λ start f args j a k rest good before is after. absurd (omega (arith, good.1));
-  }
+  level_laws zero = grind (arith, common_steps, refused, call_outcome, call_again)
   level_laws (suc n) =
       let laws = level_laws n in
       record {

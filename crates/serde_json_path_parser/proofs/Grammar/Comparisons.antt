@@ -1,5 +1,5 @@
 -- Operands, comparisons and tests, by what holds one level deeper.
-use Rattle.serde_json_path_parser.proofs.Words.{Amount, billionths, literal_of, Numbers, ◌==◌, codes, bytes_eq, and_parts, ReadSegments, is_digit, is_exponent, nat_le, ◌&&◌, bytes_eq-Decides, QueryKind, root, current, query, Call, Literal, text, number, truth, null, Segments, call, Signature, ExpectedExpression, is_at, begins, is_small_letter, is_function_char, IsFunctionName, IsQuote, AllPass, is_blank, is_name_char, IsNumberLiteral, opens, IsLiteral, Reads, ReadsCall, query_sign, Parsed, past_blanks, byte_count, read_string, segment_list, begins_int, Operand, literal, called, Deeper, word, past_word, begins_call, read_literal_word, read_query, read_named_call, read_text, read_operand, ◌>>=◌, Basic, relation, test, queried, Operator, result_kind, IsTestKind, Kind, of_value, of_logical, WrongReturnType, ExpectedComparisonOperator, IsBlank, operator_sign, is_result, read_operator, read_comparable, read_test, read_right_side, read_relation, read_basic_from, ℕ, ◌<◌, ◌≡◌, inl, inr, true, false, List, [], ◌∷◌, ◌++◌, drop, Option, Ok, refl, sym, ap, ◌∙◌, append_assoc, Bool, arith, cond, Some, None, LongHand, read_named, or_parts, begins_operator, IsTypedOperand, operand_depth, ReadsOperand, ◌≤◌, held_decimal, decimal_literal}
+use Rattle.serde_json_path_parser.proofs.Words.{common_steps, Amount, billionths, literal_of, Numbers, ◌==◌, codes, bytes_eq, and_parts, ReadSegments, is_digit, is_exponent, nat_le, ◌&&◌, bytes_eq-Decides, QueryKind, root, current, query, Call, Literal, text, number, truth, null, Segments, call, Signature, ExpectedExpression, is_at, begins, is_small_letter, is_function_char, IsFunctionName, IsQuote, AllPass, is_blank, is_name_char, IsNumberLiteral, opens, IsLiteral, Reads, ReadsCall, query_sign, Parsed, past_blanks, byte_count, read_string, segment_list, begins_int, Operand, literal, called, Deeper, word, past_word, begins_call, read_literal_word, read_query, read_named_call, read_text, read_operand, ◌>>=◌, Basic, relation, test, queried, Operator, result_kind, IsTestKind, Kind, of_value, of_logical, WrongReturnType, ExpectedComparisonOperator, IsBlank, operator_sign, is_result, read_operator, read_comparable, read_test, read_right_side, read_relation, read_basic_from, ℕ, ◌<◌, ◌≡◌, inl, inr, true, false, List, [], ◌∷◌, ◌++◌, drop, Option, Ok, refl, sym, ap, ◌∙◌, append_assoc, Bool, arith, cond, Some, None, LongHand, read_named, or_parts, begins_operator, IsTypedOperand, operand_depth, ReadsOperand, ◌≤◌, held_decimal, decimal_literal}
 use Rattle.serde_json_path_parser.proofs.Grammar.LogicalForms.{query_singular, IsGoodQuery, IsGoodCall, DeeperLaws, ends_operand, IsCallText, IsOperandText, singular_query, ends_basic, IsBasicText, IsComparableText, begins_operand, operand_begins, as_expression, no_blank_begins}
 use Rattle.serde_json_path_parser.proofs.Grammar.Numbers.{goes_on}
 use Rattle.serde_json_path_parser.proofs.Grammar.Numerals.{number_outcome, number_first, number_again}
@@ -75,10 +75,7 @@ ends_no_name c e = let capital : (nat_le 65 c && nat_le c 90) ≡ false = grind 
 
 -- a word is not a call where no `(` follows
 word_alone : (w rest : List ℕ) → AllPass is_function_char w → Follows ends_operand rest → (word (w ++ rest) ≡ w) × (past_word (w ++ rest) ≡ rest) × (is_at "(" (past_word (w ++ rest)) ≡ false)
-word_alone w rest passes follows =
-    let none = none_after is_function_char rest (λ c e. grind (arith, e)) (λ c e. rw (ends_no_letter c e, ends_no_digit c e) (grind (arith, e))) follows in
-    let passed : past_word (w ++ rest) ≡ rest = past_run is_function_char w rest passes none in
-    (front_all is_function_char w rest passes none, passed, ap (is_at "(") passed ∙ none_after (λ c. c == 40) rest (λ c e. grind (arith, e)) (λ c e. grind (arith, e)) follows)
+word_alone w rest passes follows = grind (arith, common_steps, none_after, ends_no_letter, ends_no_digit, past_run, front_all)
 
 module _ (rule : Numbers) (signature : List ℕ → Option Signature) (n : ℕ) (deeper : Deeper) (laws : DeeperLaws rule signature n deeper) where
   -- ---- queries and calls
@@ -93,12 +90,7 @@ module _ (rule : Numbers) (signature : List ℕ → Option Signature) (n : ℕ) 
   pub named_call_again : (t : List ℕ) (c : Call) (rest : List ℕ) → IsGoodCall signature n c → ReadsCall rule c t → (begins_call (t ++ rest) ≡ true) × (read_named_call rule signature deeper (t ++ rest) ≡ Ok (c, past_blanks rest))
   unfolding read_named_call
   named_call_again t (call f args) rest good (m, j, a, k, name, before, are, closing, e) =
-      let inside = 40 ∷ ((j ++ (a ++ (k ++ 41 ∷ []))) ++ rest) in
-      let first : begins is_small_letter (m ++ inside) ≡ true = begins_front is_small_letter true m inside (some_begun is_small_letter m name.first) name.first in
-      let after_it : past_word (m ++ inside) ≡ inside = past_run is_function_char m inside name.passes refl in
-      let its_word : word (m ++ inside) ≡ f = front_all is_function_char m inside name.passes refl ∙ sym name.bytes_of in
-      let read = laws.call_again (m ++ inside) f args j a k rest good before are closing in
-      rw (e, append_assoc m (40 ∷ (j ++ (a ++ (k ++ 41 ∷ [])))) rest) (rw (first, after_it) refl, rw (read_named_call, its_word, after_it) read)
+      grind (arith, common_steps, begins_front, some_begun, past_run, front_all, append_assoc)
 
   -- ---- literals
 
@@ -136,10 +128,7 @@ module _ (rule : Numbers) (signature : List ℕ → Option Signature) (n : ℕ) 
   operand_again t (literal null) rest h follows = ap (λ (l : List ℕ). read (l ++ rest)) h.1 ∙ word_again (codes "null") rest null (refl, (refl, (refl, (refl, tt)))) refl (λ cs is. rw is refl) follows
   operand_again t (queried (query root segs)) rest (good, (a, reads, e)) follows = rw (e, query_again root 36 a segs rest good reads follows) refl
   operand_again t (queried (query current segs)) rest (good, (a, reads, e)) follows = rw (e, query_again current 64 a segs rest good reads follows) refl
-  operand_again t (called c) rest h follows =
-      let named = named_call_again t c rest h.0 h.1 in
-      let letter : begins is_small_letter (t ++ rest) ≡ true = (and_parts (begins is_small_letter (t ++ rest)) (begins (λ d. d == 40) (past_word (t ++ rest))) named.0).0 in
-      at_letter (t ++ rest) letter ∙ rw (named.0, named.1) refl
+  operand_again t (called c) rest h follows = grind (arith, common_steps, named_call_again, and_parts, at_letter)
 
 -- ---- operators
 

@@ -1,5 +1,5 @@
 -- What is good at a level, and its texts: what may follow an operand or an expression, how each begins, and filters by what holds one level deeper.
-use Rattle.serde_json_path_parser.proofs.Words.{Numbers, comparable_is, ◌==◌, ◌||◌, Segments, no_segments, segment, Segment, Selector, filter, LogicalOr, Signature, is_at, begins, ReadsSelector, past_blanks, Query, query, child, descendant, Call, call, Arguments, IsSingularSegment, AreSingular, IsSingular, and_parts, IsTyped, AreTypedSegments, IsTypedSegment, IsTypedSelector, IsTypedOr, IsTypedCall, depth, segments_depth, segment_depth, selector_depth, or_depth, call_depth, IsBlank, IsFunctionName, IsLiteral, Reads, ReadsOr, ReadsCall, ReadArguments, byte_count, Operand, literal, called, is_singular_segment, are_singular, is_singular, Deeper, IsTypedComparable, IsTypedAnd, ReadsAnd, IsTypedBasic, ReadsOperand, operand_depth, basic_depth, LogicalAnd, ReadsBasic, Basic, and_depth, root, current, no_or, or, no_and, and, paren, relation, test, queried, Literal, is_blank, is_digit, is_small_letter, SegmentKind, ReadSegments, ReadsSegment, ◌≡◌, ℕ, true, List, [], ◌++◌, Option, Ok, ◌+◌, ◌≤◌, Bool, ◌∷◌, refl, arith, false, ap, ◌∙◌, append_assoc, drop, read_filter, begins_test, IsTypedOperand, Kind, of_logical}
+use Rattle.serde_json_path_parser.proofs.Words.{common_steps, Numbers, comparable_is, ◌==◌, ◌||◌, Segments, no_segments, segment, Segment, Selector, filter, LogicalOr, Signature, is_at, begins, ReadsSelector, past_blanks, Query, query, child, descendant, Call, call, Arguments, IsSingularSegment, AreSingular, IsSingular, and_parts, IsTyped, AreTypedSegments, IsTypedSegment, IsTypedSelector, IsTypedOr, IsTypedCall, depth, segments_depth, segment_depth, selector_depth, or_depth, call_depth, IsBlank, IsFunctionName, IsLiteral, Reads, ReadsOr, ReadsCall, ReadArguments, byte_count, Operand, literal, called, is_singular_segment, are_singular, is_singular, Deeper, IsTypedComparable, IsTypedAnd, ReadsAnd, IsTypedBasic, ReadsOperand, operand_depth, basic_depth, LogicalAnd, ReadsBasic, Basic, and_depth, root, current, no_or, or, no_and, and, paren, relation, test, queried, Literal, is_blank, is_digit, is_small_letter, SegmentKind, ReadSegments, ReadsSegment, ◌≡◌, ℕ, true, List, [], ◌++◌, Option, Ok, ◌+◌, ◌≤◌, Bool, ◌∷◌, refl, arith, false, ap, ◌∙◌, append_assoc, drop, read_filter, begins_test, IsTypedOperand, Kind, of_logical}
 use Rattle.serde_json_path_parser.proofs.Reading.{Inner, Outcome, Past, remade, after_sign, Spaced, some_begun, begins_front, begins_where, no_blank, blanks_of, past_run, front_each}
 use Rattle.serde_json_path_parser.proofs.Rows.{Follows}
 use Rattle.serde_json_path_parser.proofs.Grammar.Numerals.{number_first}
@@ -131,8 +131,7 @@ query_begins rule (query current segs) t rest h = ap (λ (x : List ℕ). begins 
 
 call_begins : (rule : Numbers) (c : Call) (t rest : List ℕ) → ReadsCall rule c t → begins begins_test (t ++ rest) ≡ true
 call_begins rule (call f args) t rest (n, j, a, k, is_name, before, is, after, e) =
-    begins_where is_small_letter begins_test true (t ++ rest) (λ c e. grind (arith, e))
-    (ap (λ (x : List ℕ). begins is_small_letter (x ++ rest)) e ∙ ap (begins is_small_letter) (append_assoc n _ rest) ∙ begins_front is_small_letter true n _ (some_begun is_small_letter n is_name.first) is_name.first)
+    grind (arith, common_steps, begins_where, append_assoc, begins_front, some_begun)
 
 -- what may be tested
 pub test_begins : (rule : Numbers) (signature : List ℕ → Option Signature) (o : Operand) (t rest : List ℕ) → IsTypedOperand signature o of_logical → ReadsOperand rule o t → begins begins_test (t ++ rest) ≡ true

@@ -1,5 +1,5 @@
 -- Whole paths, and the promises of a parse.
-use Rattle.serde_json_path_parser.proofs.Words.{Numbers, ◌==◌, encode_utf8_all, all_scalars, chars, IsUtf8, IsCharBoundary, append-nil, length-append, nil_from_length, eqb-true, SegmentKind, Segments, Segment, deepest, Signature, ParseErrorKind, ExpectedRoot, UndefinedFunction, TextAfterPath, NoMemory, IsUndeclared, is_at, begins, Parsed, refusal, read_segments, segment_list, opens_after_root, level, read_path, encodes-chars, encodes-append, scalars-chars, IsCharBoundary-at_seam, take-append_seam, drop-append_seam, IsCharBoundary-start, chars-encodes, Query, query, root, greatest_usize, Refusal, Failure, tree_of, rule_of, signatures_of, AreCalled, Reports, reported, Fails, IsRefused, IsWithin, error_of, is_dollar, NeedsNoMemory, ParsedQuery, IsParse, checked_view, eq-eqb, length-le-encodes, ◌≡◌, ◌≢◌, ℕ, ◌≤◌, ◌↔◌, true, false, true≢false, List, [], ◌∷◌, ◌++◌, length, drop, Option, Ok, refl, sym, ap, subst, ◌∙◌, arith, ◌+◌, ◌-◌, ◌<◌, take, Some, Err, read_filter, Memory, Refused, Path, OneTreeAtMost}
+use Rattle.serde_json_path_parser.proofs.Words.{common_steps, Numbers, ◌==◌, encode_utf8_all, all_scalars, chars, IsUtf8, IsCharBoundary, append-nil, length-append, nil_from_length, eqb-true, SegmentKind, Segments, Segment, deepest, Signature, ParseErrorKind, ExpectedRoot, UndefinedFunction, TextAfterPath, NoMemory, IsUndeclared, is_at, begins, Parsed, refusal, read_segments, segment_list, opens_after_root, level, read_path, encodes-chars, encodes-append, scalars-chars, IsCharBoundary-at_seam, take-append_seam, drop-append_seam, IsCharBoundary-start, chars-encodes, Query, query, root, greatest_usize, Refusal, Failure, tree_of, rule_of, signatures_of, AreCalled, Reports, reported, Fails, IsRefused, IsWithin, error_of, is_dollar, NeedsNoMemory, ParsedQuery, IsParse, checked_view, eq-eqb, length-le-encodes, ◌≡◌, ◌≢◌, ℕ, ◌≤◌, ◌↔◌, true, false, List, [], ◌∷◌, ◌++◌, length, drop, Option, Ok, refl, sym, ap, subst, ◌∙◌, arith, ◌+◌, ◌-◌, ◌<◌, take, Some, Err, read_filter, Memory, Refused, Path, OneTreeAtMost}
 use Rattle.serde_json_path_parser.proofs.Grammar.LogicalForms.{AreSegmentsText}
 use Rattle.serde_json_path_parser.proofs.Grammar.Calls.{level_laws}
 use Rattle.serde_json_path_parser.proofs.Grammar.Segments.{segments_outcome, segments_again, same_segments}
@@ -62,20 +62,9 @@ module _ (rule : Numbers) (signature : List ℕ → Option Signature) where
         rest = ss.1;
         split = split;
         left = refl;
-        tells = record {
-          no_memory = λ e. cc;
-          root_missing = ((λ e. absurd cc), (λ e. absurd (true≢false (sym sign ∙ e))));
-          after = λ e. (r.text, segment_list ss.0, r.is_so, split);
-          undefined = λ e. absurd cc;
-        };
+        tells = grind (arith, common_steps);
       })))) (λ none.
-      refuses (refusal ExpectedRoot Path cs) (record {
-        before = [];
-        rest = cs;
-        split = refl;
-        left = refl;
-        tells = record { no_memory = λ e. cc; root_missing = ((λ e. none), (λ e. refl)); after = λ e. absurd cc; undefined = λ e. absurd cc };
-      }))
+      refuses (refusal ExpectedRoot Path cs) (grind (arith, common_steps)))
 
 -- ---- the place in bytes
 
@@ -164,16 +153,7 @@ module _ (rule : Numbers) (signature : List ℕ → Option Signature) (text : Li
 
   -- want of memory, where something has to be stored
   unstored : (length text < greatest_usize → NeedsNoMemory (chars text) → ⊥) → IsParse rule signature text (Err (error_of Memory 0))
-  unstored stores = record {
-    accepted = tt;
-    kept = tt;
-    ruled = tt;
-    only = tt;
-    refused = λ other. absurd (other refl);
-    memory = λ e. refl;
-    spares_memory = λ less none. absurd (stores less none);
-    too_long = λ e. refl;
-  }
+  unstored stores = grind (arith, common_steps, accepted)
 
   pub too_long : length text ≡ greatest_usize → IsParse rule signature text (Err (error_of Memory 0))
   too_long long = unstored (λ less none. omega (arith, long))
@@ -217,13 +197,7 @@ module _ (rule : Numbers) (signature : List ℕ → Option Signature) (text : Li
   pub parsed_reported : (read : ParsedQuery) (segs : Segments) → read_path rule signature (chars text) ≡ Ok segs → Reports rule signature text (Ok read)
   parsed_reported read segs e =
       let s = (path_outcome rule signature (chars text)).reads segs e in
-      record {
-        first = tt;
-        missing_root = ((λ h. absurd h), (λ h. true≢false (sym (ap (begins is_dollar) s.2) ∙ h.1)));
-        text_after = tt;
-        undefined = tt;
-        position = tt;
-      }
+      (grind (arith, common_steps))
 
   pub refused_reported : (short : length text < greatest_usize) (s : Failure) (total : ℕ) → total ≡ length text → Fails s (read_path rule signature (chars text)) → (opens_after_root (chars text) ≡ false → IsRefused s)
       → Reports rule signature text (Err (error_of s total))

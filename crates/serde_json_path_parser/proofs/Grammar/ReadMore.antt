@@ -1,5 +1,5 @@
 -- What reads by whole numbers reads by all numbers, part by part.
-use Rattle.serde_json_path_parser.proofs.Words.{billionths, Query, query, Segments, no_segments, segment, SegmentKind, Segment, long_hand, Selectors, no_selectors, selector, Selector, filter, LogicalOr, no_or, or, LogicalAnd, no_and, and, Basic, paren, relation, test, Operand, literal, queried, called, call, Arguments, no_arguments, argument, Argument, operand, logical_argument, Literal, number, whole_numbers, all_numbers, MayBeArgument, Reads, ReadSegments, ReadsSegment, ReadMoreSelectors, ReadsSelector, ReadsOr, ReadMoreOrs, ReadsAnd, ReadMoreAnds, ReadsBasic, ReadsOperand, ReadMoreArguments, ReadsArgument, Negated, IsLiteral, ℕ, List, Bool, true, false, AllNumbersReadMore, decimal_literal}
+use Rattle.serde_json_path_parser.proofs.Words.{arith, common_steps, billionths, Query, query, Segments, no_segments, segment, SegmentKind, Segment, long_hand, Selectors, no_selectors, selector, Selector, filter, LogicalOr, no_or, or, LogicalAnd, no_and, and, Basic, paren, relation, test, Operand, literal, queried, called, call, Arguments, no_arguments, argument, Argument, operand, logical_argument, Literal, number, whole_numbers, all_numbers, MayBeArgument, Reads, ReadSegments, ReadsSegment, ReadMoreSelectors, ReadsSelector, ReadsOr, ReadMoreOrs, ReadsAnd, ReadMoreAnds, ReadsBasic, ReadsOperand, ReadMoreArguments, ReadsArgument, Negated, IsLiteral, ℕ, List, Bool, AllNumbersReadMore, decimal_literal}
 use Rattle.serde_json_path_parser.proofs.Grammar.Numerals.{as_numeral}
 
 literal_more : (l : Literal) (t : List ℕ) → IsLiteral whole_numbers l t → IsLiteral all_numbers l t
@@ -9,12 +9,10 @@ literal_more _ t h = h
 
 -- by all numbers each operand may be an argument
 any_argument : (o : Operand) → MayBeArgument all_numbers o
-any_argument (literal (number b)) = tt
-any_argument _ = tt
+any_argument o = grind (arith, common_steps)
 
 negated_more : {Is More : List ℕ → Type 0} (negated : Bool) (t : List ℕ) → ((a : List ℕ) → Is a → More a) → Negated negated Is t → Negated negated More t
-negated_more false t more h = more t h
-negated_more true t more (k, a, blank, is, e) = (k, a, blank, more a is, e)
+negated_more negated t more h = grind (arith, common_steps)
 
 mutual
   query_more : (q : Query) (t : List ℕ) → Reads whole_numbers q t → Reads all_numbers q t

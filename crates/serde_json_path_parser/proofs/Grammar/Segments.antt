@@ -1,5 +1,5 @@
 -- Selectors, brackets with them, and segments: what is read is in the grammar, what is in the grammar is read, where a refusal stands.
-use Rattle.serde_json_path_parser.proofs.Words.{Numbers, ℤ, ◌==◌, append-nil, Slice, Selector, slice, index, IsBound, IsSliceStep, IsSlice, false_from_ne_true, begins, is_blank, is_digit, IsBlank, IsInt, Parsed, past_blanks, begins_int, read_bound, read_step, read_slice, read_index_or_slice, read_selector, None, name, wildcard, filter, IsQuote, read_quoted, read_string, Signature, codes, SegmentKind, long_hand, Selectors, no_selectors, selector, ExpectedClosingBracket, ReadSelectors, ReadMoreSelectors, dots_before_bracket, read_next_selector, read_selectors, selector_list, read_bracket, Deeper, AreTypedSelectors, selectors_depth, is_at, length-append, child, descendant, Segments, no_segments, segment, Segment, dot_name, dot_wildcard, is_name_first, is_name_char, IsName, Joined, opens, dots_before_name, many, after_dot, read_name, read_dotted, read_descendant, read_after_dot, read_segment, opens_next, read_next_segment, read_segments, segment_list, ◌≡◌, ◌≤◌, ℕ, inl, inr, true, false, List, [], ◌∷◌, ◌++◌, drop, Option, Some, Ok, refl, sym, ap, subst, ◌∙◌, append_assoc, arith, ◌<◌, length, LongHand, read_filter, Context}
+use Rattle.serde_json_path_parser.proofs.Words.{common_steps, Numbers, ℤ, ◌==◌, append-nil, Slice, Selector, slice, index, IsBound, IsSliceStep, IsSlice, false_from_ne_true, begins, is_blank, is_digit, IsBlank, IsInt, Parsed, past_blanks, begins_int, read_bound, read_step, read_slice, read_index_or_slice, read_selector, None, name, wildcard, filter, IsQuote, read_quoted, read_string, Signature, codes, SegmentKind, long_hand, Selectors, no_selectors, selector, ExpectedClosingBracket, ReadSelectors, ReadMoreSelectors, dots_before_bracket, read_next_selector, read_selectors, selector_list, read_bracket, Deeper, AreTypedSelectors, selectors_depth, is_at, length-append, child, descendant, Segments, no_segments, segment, Segment, dot_name, dot_wildcard, is_name_first, is_name_char, IsName, Joined, opens, dots_before_name, many, after_dot, read_name, read_dotted, read_descendant, read_after_dot, read_segment, opens_next, read_next_segment, read_segments, segment_list, ◌≡◌, ◌≤◌, ℕ, inl, inr, true, false, List, [], ◌∷◌, ◌++◌, drop, Option, Some, Ok, refl, sym, ap, subst, ◌∙◌, append_assoc, arith, ◌<◌, length, LongHand, read_filter, Context}
 use Rattle.serde_json_path_parser.proofs.Reading.{begins_where, blanks_of, spread, differs, no_blank, past_end, no_longer, begins_not, some_begun, begins_front, begins_differs, whole, front_each, front_begins, front_all, past_run, Spaced, after_one, many_again, Plain, Inner, Outcome, gives, choose, weaker, past_text, past_spaced, along, onward, after_spaced, remade, with_blanks, after_sign, made_spaced, inner, guarded, after, read_spaced, made, many_outcome, Consumes, past_through, begins_other}
 use Rattle.serde_json_path_parser.proofs.Grammar.LogicalForms.{DeeperLaws, IsSelectorText, IsSegmentText, ends_selectors, ends_selector, filter_outcome, filter_again, AreSegmentsText}
 use Rattle.serde_json_path_parser.proofs.Grammar.Numbers.{int_outcome, int_again, int_not, int_no_blank, int_first}
@@ -55,11 +55,7 @@ ends_digits : (rest : List ℕ) → Ends rest → begins is_digit rest ≡ false
 ends_digits rest h1 = grind (arith, differs, false_from_ne_true, no_blank)
 
 bound_again : (e : Option ℤ) (t rest : List ℕ) → IsBound e t → Ends rest → read_bound (past_blanks (t ++ rest)) ≡ Ok (e, past_blanks rest)
-bound_again None t rest b ends = ap (λ (l : List ℕ). read_bound (past_blanks (l ++ rest))) b ∙ rw ends refl
-bound_again (Some i) t rest (a, k, is, blank, e) ends =
-    let here : past_blanks (t ++ rest) ≡ a ++ (k ++ rest) = rw (e, append_assoc a k rest) (past_end is_blank (a ++ (k ++ rest)) (int_no_blank a i (k ++ rest) is)) in
-    let further : begins is_digit (k ++ rest) ≡ false = ends_digits (k ++ rest) (rw (past_through is_blank k rest blank) ends) in
-    rw (here, int_first begins_int true a i (k ++ rest) (λ c e. e) is, int_again a i (k ++ rest) is further, past_through is_blank k rest blank) refl
+bound_again e t rest b ends = grind (arith, common_steps, append_assoc, past_end, int_no_blank, ends_digits, past_through, int_first, int_again)
 
 step_again : (e : Option ℤ) (t rest : List ℕ) → IsSliceStep e t → Follows ends_selector rest → read_step (past_blanks (t ++ rest)) ≡ Ok (e, past_blanks rest)
 step_again None t rest (inl e) closes = rw (e, no_colon rest closes) refl
@@ -169,9 +165,7 @@ module _ (rule : Numbers) (signature : List ℕ → Option Signature) (n : ℕ) 
       ap (λ (l : List ℕ). read_selector filters (l ++ rest)) same ∙ ap (λ (l : List ℕ). filters (l ++ rest)) (sym same) ∙ filter_again rule signature n deeper laws t f rest (good, (k, a, blank, is, same)) e
 
   begins_no_blank : (t : List ℕ) (sel : Selector) (rest : List ℕ) → IsSelectorText rule signature n t sel → begins is_blank (t ++ rest) ≡ false
-  begins_no_blank t (name bytes) rest h =
-      let s = string_again t bytes rest h.1 in
-      ap (λ (l : List ℕ). begins is_blank (l ++ rest)) s.3 ∙ of_quote (λ quote. is_blank quote ≡ false) refl refl s.0 s.2
+  begins_no_blank t (name bytes) rest h = grind (arith, common_steps, string_again, of_quote)
   begins_no_blank t wildcard rest h = ap (λ (l : List ℕ). begins is_blank (l ++ rest)) h.1
   begins_no_blank t (index i) rest h = int_no_blank t i rest h.1
   begins_no_blank t (slice s) rest h = slice_no_blank t s rest h.1
@@ -336,10 +330,7 @@ module _ (rule : Numbers) (signature : List ℕ → Option Signature) (n : ℕ) 
     listed t [] h = ((tt, omega arith), h)
     listed t (x ∷ ss) h =
         let rest = listed h.1 ss h.3 in
-        let first = h.2 in (
-          ((first.3.0.0, rest.0.0), omega (arith, first.3.0.1, rest.0.1)),
-          (first.0, first.1, h.1, first.2, first.3.1, rest.1, h.4 ∙ ap (λ (l : List ℕ). l ++ h.1) first.4 ∙ append_assoc first.0 first.1 h.1),
-        )
+        let first = h.2 in grind (arith, common_steps, append_assoc)
 
     pub segments_outcome : (cs : List ℕ) → Outcome (λ t (ss : List (SegmentKind × Segment)). AreSegmentsText rule signature n t (segment_list ss)) (Inner signature) cs (read_segments filters here cs)
     unfolding many

@@ -1,5 +1,5 @@
 -- String literals: what is read is one, each is read, and where a refusal of one stands.
-use Rattle.serde_json_path_parser.proofs.Words.{with_front, cases_lt, nat_le, ◌==◌, not, encode_utf8, encode_utf8_all, eq-eqb, and_parts, eqb_tells, length-append, append-nil, ExpectedEndingQuote, BadEscape, ControlCharacter, ◌∈◌, AllPass, is_at, begins, hexadecimal_of, IsHex4, IsPiece, plain, quote_escape, letter_escape, hex_escape, pair_escape, IsQuote, IsString, Parsed, ◌>>=◌, refusal, many, byte_count, is_hexadecimal, head, read_hexadecimal, read_hex4, is_high, is_low, read_low, read_unicode, is_letter_escape, letter_value, read_escape, is_control, read_piece, is_inside, read_string, is_ascii_plain, Stretched, encode_ascii, Failure, Fails, ◌≡◌, ℕ, ◌≤◌, ◌+◌, ◌*◌, ◌<◌, ◌⊎◌, inl, inr, Bool, true, false, cond, ◌&&◌, List, [], ◌∷◌, ◌++◌, length, drop, Some, Ok, Err, refl, sym, ap, subst, ◌∙◌, append_assoc, arith, LongHand, Memory, Refused, is_plain}
+use Rattle.serde_json_path_parser.proofs.Words.{common_steps, with_front, cases_lt, nat_le, ◌==◌, not, encode_utf8, encode_utf8_all, eq-eqb, and_parts, eqb_tells, length-append, append-nil, ExpectedEndingQuote, BadEscape, ControlCharacter, ◌∈◌, AllPass, is_at, begins, hexadecimal_of, IsHex4, IsPiece, plain, quote_escape, letter_escape, hex_escape, pair_escape, IsQuote, IsString, Parsed, ◌>>=◌, refusal, many, byte_count, is_hexadecimal, head, read_hexadecimal, read_hex4, is_high, is_low, read_low, read_unicode, is_letter_escape, letter_value, read_escape, read_piece, is_inside, read_string, is_ascii_plain, Stretched, encode_ascii, Failure, Fails, ◌≡◌, ℕ, ◌≤◌, ◌+◌, ◌*◌, ◌<◌, ◌⊎◌, inl, inr, Bool, true, false, cond, ◌&&◌, List, [], ◌∷◌, ◌++◌, length, drop, Some, Ok, Err, refl, sym, ap, subst, ◌∙◌, append_assoc, arith, LongHand, Memory, Refused, is_plain}
 use Rattle.serde_json_path_parser.proofs.Texts.{ascii_that}
 use Rattle.serde_json_path_parser.proofs.Reading.{some_begun, after_one, Again, many_again, Plain, OutcomeIn, Outcome, gives, refused, choose, guarded, past_text, past_in, onward, after, after_in, made, many_outcome, Consumes, many_end, many_err, many_more}
 
@@ -125,10 +125,7 @@ no_surrogate : (n : ℕ) → (n < 0xd800) ⊎ (0xdfff < n) → (is_high n ≡ fa
 no_surrogate n side = (grind (arith, side), grind (arith, side))
 
 piece_again : (quote : ℕ) → IsQuote quote → (t : List ℕ) (c : ℕ) (rest : List ℕ) → IsPiece quote t c → read_piece quote (t ++ rest) ≡ Ok (c, rest)
-piece_again quote is t c rest (plain d e) =
-    let slash : (d == 92) ≡ false = grind (arith, e) in
-    let control : is_control d ≡ false = grind (arith, e) in
-    rw (slash, control) refl
+piece_again quote is t c rest (plain d e) = grind (arith, common_steps)
 piece_again quote is t c rest quote_escape = of_quote (λ q. read_piece q (92 ∷ q ∷ rest) ≡ Ok (q, rest)) refl refl quote is
 piece_again quote is t c rest (letter_escape letter d e) = grind (arith, e)
 piece_again quote is t c rest (hex_escape digits d h side) =

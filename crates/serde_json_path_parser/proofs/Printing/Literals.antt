@@ -1,5 +1,5 @@
 -- Numbers, slices and literals, as they are printed, read as themselves.
-use Rattle.serde_json_path_parser.proofs.Words.{AreDigits, AreSignedDigits, IsNumeral, IsNumberLiteral, held_as, Numbers, whole_numbers, all_numbers, billionths, scan, sign_text, unsigned_abs, cases_Bool, one-le-pow, ℤ, pos, negsuc, ◌-ℤ◌, decimal, signed_decimal, pow-succ', nat_tests, eqb_tells, ints, in_decimal, largest, fraction_digits, fraction_text, amount_text, number_text, begins, is_digit, AllPass, value_from, IsDecimal, IsInt, fraction_of, IsFraction, IsAmount, IsNumber, all_scalars, Slice, Literal, text, number, truth, null, integer_text, slice_step_text, slice_text, literal_text, IsBound, IsSliceStep, IsSlice, IsLiteral, ◌≡◌, ◌≤◌, ◌<◌, ◌+◌, ◌-◌, ◌*◌, ◌/◌, ◌%◌, ◌^◌, ◌==◌, ℕ, zero, suc, inl, inr, Bool, true, false, if◌then◌else◌, List, [], ◌∷◌, length, map, get_or, refl, sym, ap, subst, ◌∙◌, arith, ◌++◌, Option, Some, None, codes, append_assoc, append-nil, held_in_range, read_back, Decimal, decimal_text, has_point, place_digits, size_text, held_decimal, decimal_literal, IsLiteralAmount, div-le_self, div-lt_iff_lt-mul, mod-lt}
+use Rattle.serde_json_path_parser.proofs.Words.{common_steps, AreDigits, AreSignedDigits, IsNumeral, IsNumberLiteral, held_as, Numbers, whole_numbers, all_numbers, billionths, scan, sign_text, unsigned_abs, cases_Bool, one-le-pow, ℤ, pos, negsuc, ◌-ℤ◌, decimal, signed_decimal, pow-succ', nat_tests, eqb_tells, ints, in_decimal, largest, fraction_digits, fraction_text, amount_text, number_text, begins, is_digit, AllPass, value_from, IsDecimal, IsInt, fraction_of, IsFraction, IsAmount, IsNumber, all_scalars, Slice, Literal, text, number, truth, null, integer_text, slice_step_text, slice_text, literal_text, IsBound, IsSliceStep, IsSlice, IsLiteral, ◌≡◌, ◌≤◌, ◌<◌, ◌+◌, ◌-◌, ◌*◌, ◌/◌, ◌%◌, ◌^◌, ◌==◌, ℕ, zero, suc, inl, inr, Bool, true, false, if◌then◌else◌, List, [], ◌∷◌, length, map, get_or, refl, sym, ap, subst, ◌∙◌, arith, ◌++◌, Option, Some, None, codes, append_assoc, append-nil, held_in_range, read_back, Decimal, decimal_text, has_point, place_digits, size_text, held_decimal, decimal_literal, IsLiteralAmount, div-le_self, div-lt_iff_lt-mul, mod-lt}
 use Rattle.std.specs.Int.Digits.{digits_of, number_from_digits_after, AllBelowBase}
 use Rattle.std.proofs.lemmas.Fmt.{decimal_digit, decimal-digits_of}
 use Rattle.std.proofs.lemmas.Int.Digits.{all_below_base_digits_of, first_digits_of, number_digits_of}
@@ -15,8 +15,7 @@ digit_is d small = grind (arith, small)
 
 begins_digit : (digits : List ℕ) → AllBelowBase 10 digits → 0 < get_or digits 0 0
     → (begins is_digit (map (λ digit. 48 + digit) digits) ≡ true) × (begins (λ c. c == 48) (map (λ digit. 48 + digit) digits) ≡ false)
-begins_digit [] h some = absurd (omega (arith, some))
-begins_digit (d ∷ ds) h some = (digit_is d h.0, grind (arith, nat_tests, some))
+begins_digit digits h some = grind (arith, common_steps, digit_is, nat_tests)
 
 each_digit : (digits : List ℕ) → AllBelowBase 10 digits → AllPass is_digit (map (λ digit. 48 + digit) digits)
 each_digit [] h = tt
@@ -35,11 +34,7 @@ digits_value n (d ∷ ds) =
 -- ---- natural numbers and integers
 
 digits_decimal : (n : ℕ) → 0 < n → IsDecimal (map (λ digit. 48 + digit) (digits_of 10 n)) n
-digits_decimal n some =
-    let digits = digits_of 10 n in
-    let below = all_below_base_digits_of 10 n (omega arith) in
-    let first = begins_digit digits below (first_digits_of 10 n (omega arith) some) in
-    record { first = first.0; passes = each_digit digits below; plain = inr first.1; value_of = sym (digits_value 0 digits ∙ number_digits_of 10 n (omega arith)) }
+digits_decimal n some = grind (arith, common_steps, all_below_base_digits_of, begins_digit, first_digits_of, each_digit, digits_value, number_digits_of)
 
 -- a position as it is printed in a location
 in_decimal_is : (n : ℕ) → IsDecimal (in_decimal n) n
@@ -159,8 +154,7 @@ digits_are : (n : ℕ) → n < 2 ^ 64 → AreDigits (decimal n) × Spells (decim
 digits_are n fits = let d = decimal_is n fits in ((d.passes, some_begun is_digit (decimal n) d.first), digits_spell (decimal n) d.passes)
 
 exponent_is : (e : ℤ) → unsigned_abs e ≤ 1000 → AreSignedDigits (signed_decimal e) × Spells (signed_decimal e) (signed_decimal e)
-exponent_is (pos n) low = let d = digits_are n (omega (arith, low)) in (inl d.0, d.1)
-exponent_is (negsuc n) low = let d = digits_are (suc n) (omega (arith, low)) in (inr (45, decimal (suc n), refl, d.0, refl), spell_both (spell_sign 45 (omega arith)) d.1)
+exponent_is e low = grind (arith, common_steps, digits_are, spell_both, spell_sign)
 
 with_exponent : (n : ℕ) (e : ℤ) → n < 2 ^ 64 → unsigned_abs e ≤ 1000 → IsSize (decimal n ++ (101 ∷ signed_decimal e))
 with_exponent n e fits low =
@@ -188,8 +182,7 @@ size_is n (pos k) fits low = with_exponent n (pos k) fits low
 size_is n (negsuc k) fits low = elim (cases_Bool (has_point n (negsuc k))) [ inl point ↦ rw point (with_point n k fits) | inr none ↦ rw none (with_exponent n (negsuc k) fits low) ]
 
 sign_spells : (negative : Bool) → Spells (sign_text negative) (sign_text negative)
-sign_spells true = spell_sign 45 (omega arith)
-sign_spells false = spell_nothing
+sign_spells negative = grind (arith, common_steps, spell_sign, spell_nothing)
 
 decimal_spelt : (rule : Numbers) (t : List ℕ) (d : Decimal) → IsNumberLiteral rule t (held_decimal d) → Spelt (λ t. IsNumberLiteral rule t (held_decimal d)) (decimal_text d)
 decimal_spelt whole_numbers t d is = absurd is

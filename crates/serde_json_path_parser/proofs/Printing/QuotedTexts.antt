@@ -1,5 +1,5 @@
 -- A text between single quotes, as it is printed, reads as a string of it.
-use Rattle.serde_json_path_parser.proofs.Words.{AllByRecursion, AllPass, IsScalar, encode_utf8_all, all_scalars, and_parts, encodes-append, encode_ascii, flat_map, digit_char, chars, IsUtf8, cases_lt, le-ltb, nat_tests, encodes-chars, scalars-chars, hexadecimal_escape, escape_of, in_quotes, quoted, hexadecimal_of, IsHex4, pair_of, escaped_by, is_plain, IsPiece, plain, quote_escape, letter_escape, hex_escape, pair_escape, ArePieces, IsQuote, IsString, ◌≡◌, ◌<◌, ℕ, true, List, [], ◌∷◌, ◌++◌, refl, ap, sym, ◌∙◌, arith, lt-ltb, ◌/◌, ◌%◌, ◌==◌, inl, inr, nat_lt, nat_le, Bool, false, if◌then◌else◌, Option, Some, None, unwrap_or, encode_utf8, subst, append-nil, eqb-true, ltb-true, ltb-false}
+use Rattle.serde_json_path_parser.proofs.Words.{common_steps, rules, AllByRecursion, AllPass, IsScalar, encode_utf8_all, all_scalars, and_parts, encodes-append, encode_ascii, flat_map, digit_char, chars, IsUtf8, cases_lt, le-ltb, nat_tests, encodes-chars, scalars-chars, hexadecimal_escape, escape_of, in_quotes, quoted, hexadecimal_of, IsHex4, escaped_by, is_plain, IsPiece, plain, quote_escape, letter_escape, hex_escape, pair_escape, ArePieces, IsQuote, IsString, ◌≡◌, ◌<◌, ℕ, true, List, [], ◌∷◌, ◌++◌, refl, ap, sym, ◌∙◌, arith, lt-ltb, ◌/◌, ◌%◌, ◌==◌, inl, inr, nat_lt, nat_le, Bool, false, if◌then◌else◌, Option, Some, None, unwrap_or, encode_utf8, subst, append-nil, eqb-true, ltb-true, ltb-false}
 use Rattle.std.proofs.str.Laws.{scalars-append}
 use Rattle.serde_json_path_parser.proofs.Grammar.Strings.{of_quote}
 
@@ -31,10 +31,7 @@ pub scalars_of : (t a b : List ℕ) → all_scalars t ≡ true → t ≡ a ++ b 
 scalars_of t a b e split = scalars_parts a b (ap all_scalars (sym split) ∙ e)
 
 pub spell_both : {a b s t : List ℕ} → Spells a s → Spells b t → Spells (a ++ b) (s ++ t)
-spell_both {s = s} {t = t} h g = record {
-  scalars = scalars-append s t h.scalars g.scalars;
-  encoded = encodes-append s t ∙ rw (h.encoded, g.encoded) refl;
-}
+spell_both {s = s} {t = t} h g = grind (arith, common_steps, scalars-append, encodes-append)
 
 low_scalar : (c : ℕ) → c < 0xd800 → IsScalar c
 low_scalar c low = rw (lt-ltb c 0xd800 low) refl
@@ -69,20 +66,13 @@ module _ {Is Whole : List ℕ → Type 0} {bytes : List ℕ} where
 
   pub spelt_between : {opened open_sign closed close_sign : List ℕ} → Spells opened open_sign → Spelt Is bytes → Spells closed close_sign
       → ((a : List ℕ) → Is a → Whole ((open_sign ++ a) ++ close_sign)) → Spelt Whole ((opened ++ bytes) ++ closed)
-  spelt_between {open_sign = open_sign} {close_sign = close_sign} o x c good = record {
-    characters = (open_sign ++ x.characters) ++ close_sign;
-    spells = spell_both (spell_both o x.spells) c;
-    is_so = good x.characters x.is_so;
-  }
+  spelt_between {open_sign = open_sign} {close_sign = close_sign} o x c good =
+      search (rules, (spell_both (spell_both o x.spells) c), (good x.characters x.is_so))
 
 -- one part after another
 pub spelt_both : {First More Whole : List ℕ → Type 0} {first more : List ℕ} → Spelt First first → Spelt More more
     → ((a b : List ℕ) → First a → More b → Whole (a ++ b)) → Spelt Whole (first ++ more)
-spelt_both x y good = record {
-  characters = x.characters ++ y.characters;
-  spells = spell_both x.spells y.spells;
-  is_so = good x.characters y.characters x.is_so y.is_so;
-}
+spelt_both x y good = search (rules, (spell_both x.spells y.spells), (good x.characters y.characters x.is_so y.is_so))
 
 -- ---- a character as it is printed
 
@@ -171,8 +161,7 @@ hexadecimal_small : (c p : ℕ) → hexadecimal_of c ≡ Some p → p < 16
 hexadecimal_small c p e = grind (arith, e)
 
 hex4_small : (text : List ℕ) (n : ℕ) → IsHex4 text n → n < 65536
-hex4_small text n (a, b, c, d, p, q, r, s, split, e, f, g, h, value) =
-    omega (arith, value, hexadecimal_small a p e, hexadecimal_small b q f, hexadecimal_small c r g, hexadecimal_small d s h)
+hex4_small text n (a, b, c, d, p, q, r, s, split, e, f, g, h, value) = search (rules, hexadecimal_small)
 
 high_scalar : (c : ℕ) → 0xdfff < c → c < 0x110000 → IsScalar c
 high_scalar c low high = grind (arith, le-ltb)
@@ -187,8 +176,7 @@ piece_scalar quote _ _ is e quote_escape = of_quote IsScalar refl refl quote is
 piece_scalar quote _ _ is e (letter_escape letter c h) = letter_scalar letter c h
 piece_scalar quote _ _ is e (hex_escape digits c four (inl low)) = low_scalar c low
 piece_scalar quote _ _ is e (hex_escape digits c four (inr high)) = high_scalar c high (let small = hex4_small digits c four in omega (arith, small))
-piece_scalar quote _ _ is e (pair_escape a b high low h l is_high is_low) =
-    high_scalar (pair_of high low) (omega (arith, is_high.0)) (omega (arith, is_high.0, is_high.1, is_low.0, is_low.1))
+piece_scalar quote _ _ is e (pair_escape a b high low h l is_high is_low) = grind (arith, common_steps, high_scalar)
 
 pieces_scalar : (quote : ℕ) (text characters : List ℕ) → IsQuote quote → all_scalars text ≡ true → ArePieces quote text characters → all_scalars characters ≡ true
 pieces_scalar quote text [] is e pieces = refl
