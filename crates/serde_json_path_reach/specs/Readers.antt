@@ -4,6 +4,7 @@ use Rattle.serde_json_path_syntax.specs.Tree.{Query}
 use Rattle.serde_json_path_reach.specs.Inside.Rows.{AreRight, AsksAll}
 use Rattle.serde_json_path_reach.specs.declared.document.DocumentReader.{DocumentReader}
 
+-- what these queries can reach is kept: the nodes, or their places alone
 pub record Keeps (reader : DocumentReader) (places : Bool) (queries : List Query) : Type 0 where
   pub right : AreRight reader.plan.rows.items
   pub asks : AsksAll reader.plan places queries

@@ -68,7 +68,8 @@ impl<'q> Row<'q> {
 
     /// The same, as each selector says.
     fn any_may_admit(&self, step: PathElement<'_>) -> bool
-        ensures { result ≡ steps.any_may_admit (rows.selectors_of_row self.now) (step_view step.entry) }
+        ensures { result
+            ≡ steps.any_may_admit (rows.selectors_of_row self.now) (step_view step.entry) }
     {
         let mut number = 0usize;
         'selectors: while let Some(selector) = self.query.selector_ref(self.segment, number) {
