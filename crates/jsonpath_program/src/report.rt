@@ -13,6 +13,7 @@ use serde_json_path_core::walk;
 use serde_json_path_parser::{TextSource, parse};
 use serde_json_path_syntax::Checked;
 use std::alloc::Global;
+use std::mem::forget;
 use thiserror::Error;
 
 /// Why a document is refused.
@@ -111,6 +112,23 @@ fn selected<F: Functions + Drop>(
     Ok(write_nodes(alloc, &Output::compact_lines(form), "", text, walk)?.text)
 }
 
+/// What becomes of a document of which all is shown.
+#[derive(Clone, Copy)]
+pub(crate) enum Afterwards {
+    /// Its memory is given back.
+    Freed,
+    /// The program ends, so it need not be freed piece by piece.
+    Left,
+}
+
+/// Frees the document, or leaves it to the end of the program.
+fn leave(document: Value, afterwards: Afterwards) {
+    match afterwards {
+        Afterwards::Freed => drop(document),
+        Afterwards::Left => forget(document),
+    }
+}
+
 /// What a path selects from the document that the bytes are, of which what the path can reach is read.
 fn answer<F: Functions>(
     alloc: Global,
@@ -118,6 +136,7 @@ fn answer<F: Functions>(
     path: &Checked,
     bytes: &[u8],
     functions: &F,
+    afterwards: Afterwards,
 ) -> Result<String, ReportError>
     requires { Fits (F.set functions.now) (signatures_of path.now) }
     ensures { IsAnswer form (with_rule (rule_of path.now) (F.set functions.now)) (tree_of path.now)
@@ -128,7 +147,9 @@ fn answer<F: Functions>(
         Ok(value) => value,
         Err(e) => return Err(ReportError::Document(e)),
     };
-    match selected(alloc, form, text, path, &value, functions) {
+    let selected = selected(alloc, form, text, path, &value, functions);
+    leave(value, afterwards);
+    match selected {
         Ok(text) => Ok(text),
         Err(QueryError::Memory) => Err(ReportError::Query(QueryError::Memory)),
         Err(QueryError::Pattern) => answer_whole(alloc, form, path, bytes, functions),
@@ -196,7 +217,7 @@ pub fn report_in<F: Functions>(
 {
     let store = PatternStore::new();
     let functions = Both(functions, CachedPatterns::new(alloc, &store));
-    report_under(alloc, form, path, document, functions)
+    report_by(alloc, form, path, document, functions, Afterwards::Freed)
 }
 
 /// The same under a function set alone: the built-in functions are there only if the set has them. So a set that keeps patterns
@@ -233,9 +254,23 @@ pub fn report_under<F: Functions + Drop>(
     ensures query_last { (e : QueryError) → result ≡ Err (ReportError.Query e)
         → (d : Data) × ReadsAs document.now d }
 {
+    report_by(alloc, form, path, document, functions, Afterwards::Freed)
+}
+
+/// The same, and what becomes of the document.
+pub(crate) fn report_by<F: Functions + Drop>(
+    alloc: Global,
+    form: Form,
+    path: &str,
+    document: &[u8],
+    functions: F,
+    afterwards: Afterwards,
+) -> Result<String, ReportError>
+    ensures { IsReport form (F.set functions) path.now document.now result }
+{
     let mut source = TextSource::new(path);
     match parse(alloc, &mut source, &functions, Numbers::Whole) {
-        Ok(path) => answer(alloc, form, &path, document, &functions),
+        Ok(path) => answer(alloc, form, &path, document, &functions, afterwards),
         Err(e) => Err(ReportError::Path(e)),
     }
 }

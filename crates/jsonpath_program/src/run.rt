@@ -4,7 +4,7 @@ ghost use Rattle.std.specs.Prelude.{◌≡◌, ◌≢◌, ◌↔◌, ◌⊎◌, 
 ghost use Rattle.jsonpath_program.specs.Words.{Appends, IsAtEnd, whole_numbers, builtin_functions, path_view, kind_of, position_of, IsParseOf, ReportsFirst, IsNoPath, status_of, line_of, IsStatus, IsDocumentLine, IsQueryLine, IsOneWord, IsReportOfRun, MayBeDocument, AppendsBeginning};
 ghost use Rattle.serde_json_path_parser.specs.declared.error.ParseError as path_error;
 
-use crate::report::{DocumentError, ReportError, report_under};
+use crate::report::{Afterwards, DocumentError, ReportError, report_by};
 use jsonpath_lines::Form;
 use serde_json_path::functions::{CachedPatterns, PatternStore};
 use serde_json_path::{ParseError, ParseErrorKind, QueryError};
@@ -207,7 +207,14 @@ pub fn run<R: Read, W: Write, E: Write>(
     let store = PatternStore::new();
     let functions = CachedPatterns::new(alloc, &store);
     let (form, document) = (Form::LocationAndValue, document.as_slice());
-    match report_under(alloc, form, path.as_str(), document, functions) {
+    match report_by(
+        alloc,
+        form,
+        path.as_str(),
+        document,
+        functions,
+        Afterwards::Left,
+    ) {
         Ok(lines) => print(lines.as_str(), out, err),
         Err(e) => refuse(alloc, &e, err),
     }

@@ -26,7 +26,7 @@ returns-in-Ok-clause-query_last g c =
     λ three. of_known (λ bytes. (d : Data) × ReadsAs bytes d) _ _ whole (_, c.in-Ok.ensures.lines.reads)
 
 pub refuse-requires : goal.refuse-requires
-refuse-requires g c = λ path is kind. ap position_of ((c.report_under.ensures.path_refused path (c.in-Err.is ∙ ap Err is)).memory kind)
+refuse-requires g c = λ path is kind. ap position_of ((c.report_by.ensures.path_refused path (c.in-Err.is ∙ ap Err is)).memory kind)
 
 pub returns-clause-path_reported : goal.returns-clause-path_reported
 returns-clause-path_reported g c = λ one.
@@ -35,8 +35,8 @@ returns-clause-path_reported g c = λ one.
       one_word _ _ _ c.in-len1.len_at_least c.in-len1.len_below c.path-item.is c.as_str.ensures.value,
       (
         path,
-        c.report_under.ensures.path_refused path (c.in-Err.is ∙ ap Err is),
-        c.report_under.ensures.path_reported path (c.in-Err.is ∙ ap Err is),
+        c.report_by.ensures.path_refused path (c.in-Err.is ∙ ap Err is),
+        c.report_by.ensures.path_reported path (c.in-Err.is ∙ ap Err is),
         rw is at c.refuse.ensures.reported,
       ),
     )
@@ -49,7 +49,7 @@ returns-clause-document_reported g c = λ two.
       inl (
         document,
         refl,
-        λ not_json. of_known (λ bytes. (d : Data) → ReadsAs bytes d → ⊥) _ _ read (c.report_under.ensures.not_json (c.in-Err.is ∙ ap Err (is ∙ ap Document not_json))),
+        λ not_json. of_known (λ bytes. (d : Data) → ReadsAs bytes d → ⊥) _ _ read (c.report_by.ensures.not_json (c.in-Err.is ∙ ap Err (is ∙ ap Document not_json))),
       ),
       rw is at c.refuse.ensures.reported,
     )
@@ -67,7 +67,7 @@ returns-clause-query_reported g c = λ three.
           c.as_str.result.now,
           one_word _ _ _ c.in-len1.len_at_least c.in-len1.len_below c.path-item.is c.as_str.ensures.value,
           whole,
-          c.report_under.ensures.pattern_refused (c.in-Err.is ∙ ap Err (is ∙ ap Query pattern)),
+          c.report_by.ensures.pattern_refused (c.in-Err.is ∙ ap Err (is ∙ ap Query pattern)),
         ),
       ),
       inr refl,
@@ -78,7 +78,7 @@ pub returns-clause-query_last : goal.returns-clause-query_last
 returns-clause-query_last g c = λ three.
     let (query, is) = query_of c.in-Err.e (sym c.refuse.ensures.status ∙ three) in
     let whole = whole_read _ _ _ _ _ (sym c.is_err.ensures.value ∙ c.if-is_err.false) c.read_to_end.ensures.bytes c.new-document.ensures.items c.as_slice-document.ensures.value in
-    of_known (λ bytes. (d : Data) × ReadsAs bytes d) _ _ whole (c.report_under.ensures.query_last query (c.in-Err.is ∙ ap Err is))
+    of_known (λ bytes. (d : Data) × ReadsAs bytes d) _ _ whole (c.report_by.ensures.query_last query (c.in-Err.is ∙ ap Err is))
 
 pub returns-then-is_err-clause-path_first : goal.returns-then-is_err-clause-path_first
 returns-then-is_err-clause-path_first g c = λ path one no_path. inr (refl, c.write_text-then-is_err.ensures.beginning)
@@ -87,13 +87,13 @@ pub returns-in-Ok-clause-path_first : goal.returns-in-Ok-clause-path_first
 returns-in-Ok-clause-path_first g c = λ path is_word no_path.
     let one = one_word _ _ _ c.in-len1.len_at_least c.in-len1.len_below c.path-item.is c.as_str.ensures.value in
     let same = same_word c.args.words.now path c.as_str.result.now is_word one in
-    let (e, refused) = c.report_under.ensures.path_first (rw (← same) no_path) in
+    let (e, refused) = c.report_by.ensures.path_first (rw (← same) no_path) in
     let told = sym c.in-Ok.is ∙ refused in absurd cc
 
 pub returns-clause-path_first : goal.returns-clause-path_first
 returns-clause-path_first g c = λ path is_word no_path.
     let one = one_word _ _ _ c.in-len1.len_at_least c.in-len1.len_below c.path-item.is c.as_str.ensures.value in
     let same = same_word c.args.words.now path c.as_str.result.now is_word one in
-    let (e, refused) = c.report_under.ensures.path_first (rw (← same) no_path) in
+    let (e, refused) = c.report_by.ensures.path_first (rw (← same) no_path) in
     let same_error : c.in-Err.e ≡ Path e = cc in
     inl (c.refuse.ensures.status ∙ ap status_of same_error)
