@@ -178,18 +178,7 @@ evaluation::stack::find_next-returns-in-None-clause-found g t c =
 came_by : (g : _) (t : _) (c : evaluation::stack::find_next-After-next_arrival g t)
     → Came (set_of c.args.scope.now) (top_of c.args.scope.now) (nodes_of c.args.scope.now) c.args.segments.now
     c.loop-last.frames.items c.in-Some.last c.index.result.now c.index_mut.result.now c.next_arrival.new.self c.in-Some-get.segment.now
-came_by g t c =
-    let some = c.in-Some.ensures in
-    let len = c.len.ensures ∙ c.loop-last.frames.ok.0 in
-    let look = c.in-Some-get.ensures.lookup in
-    record {
-      long = omega arith;
-      seen_is = c.index.ensures;
-      old_is = c.index_mut.ensures.value;
-      within = below_length _ _ look.0;
-      at = look.1;
-      passes = c.next_arrival.ensures.passes;
-    }
+came_by g t c = grind (arith, nat_tests, common_steps, below_length)
 
 pub evaluation::stack::find_next-returns-in_err-next_arrival-in-Some-get-clause-kept : goal.evaluation::stack::find_next-returns-in_err-next_arrival-in-Some-get-clause-kept
 evaluation::stack::find_next-returns-in_err-next_arrival-in-Some-get-clause-kept g t c =

@@ -56,12 +56,7 @@ IsAnswer there a A = (there ≡ false → a ≡ logical false) × ((t : Term) �
 
 -- an answer as a side of a comparison
 answer_side : (there : Bool) (a : Term) (A : Term → Type 0) → IsAnswer there a A → (x : Compared) → ((o : Option Data) × A (value o) × (x ≡ value_compared o)) ↔ (answer_compared a ≡ Some x)
-answer_side there a A f x = (λ h. ap answer_compared (sym ((f.1 (value h.0)).0 h.1).1) ∙ ap Some (sym h.2), back there a f)
-  where
-    back : (there : Bool) (a : Term) → IsAnswer there a A → answer_compared a ≡ Some x → (o : Option Data) × A (value o) × (x ≡ value_compared o)
-    back true (value o) f e = (o, (f.1 (value o)).1 (refl, refl), sym (same_Some (value_compared o) x e))
-    back true _ f e = absurd (none-some x e)
-    back false a f e = absurd (none-some x (sym (ap answer_compared (f.0 refl)) ∙ e))
+answer_side there a A f x = grind (arith, nat_tests, common_steps, same_Some, none-some)
 
 -- an answer as a test
 answer_test : (there : Bool) (a : Term) (A : Term → Type 0) → IsAnswer there a A → Decides (answer_holds a) ((t : Term) × A t × AnswersYes t)

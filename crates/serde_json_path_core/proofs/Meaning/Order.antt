@@ -23,10 +23,7 @@ selected_once_in : (seg : Segment) (n : ℕ) (s t : Step) → SelectedBeforeIn s
 selected_once_in seg n s t h g = grind (arith, nat_tests, common_steps, selected_once_by, step_once)
 
 triple_once : (seg : Segment) (x y : Triple) → TripleBefore seg x y → TripleBefore seg y x → ⊥
-triple_once seg x y h g =
-    first_once DescentBefore descent_once x.descent y.descent
-    (λ same. first_once ◌<◌ (λ m n h g. absurd (omega arith)) x.number y.number
-    (λ e h g. selected_once_in seg x.number x.step y.step h (subst (λ n. SelectedBeforeIn seg n y.step x.step) (sym e) g))) h g
+triple_once seg x y h g = grind (arith, nat_tests, common_steps, first_once, descent_once, selected_once_in)
 
 -- of two lists of triples never both stand before the other
 pub before_once : (segs : Segments) (xs ys : List Triple) → Before segs xs ys → Before segs ys xs → ⊥

@@ -100,15 +100,7 @@ module _ (s : Slice) (len k : ℕ) where
   rising_at : (p n : ℕ) → step_of s ≡ pos (suc k)
       → ((low ≤ℤ pos p) × (pos p <ℤ high) × (pos p ≡ (low +ℤ (pos n *ℤ step_of s))))
       ↔ ((n < (rising s len (suc k)).count) × (p ≡ frame true (nat_abs low) (suc k) n))
-  rising_at p n e =
-      let at = place_up (nat_abs low) (suc k) n in
-      let count = counted_within n (nat_abs high - nat_abs low) k in
-      let is = numbers low high (nat_abs low) (nat_abs high) (n * suc k) rising_bounds.0 rising_bounds.1 in
-      rw (ap (λ z. pos n *ℤ z) e ∙ pos-*ℤ-pos n (suc k)) (λ h. let x = is.0 h in (count.1 x.0, x.1 ∙ sym at), λ h. is.1 (count.0 h.0, h.1 ∙ at))
-    where
-      numbers : (z b : ℤ) (i l m : ℕ) → pos i ≡ z → pos l ≡ b → ((z ≤ℤ pos p) × (pos p <ℤ b) × (pos p ≡ (z +ℤ pos m))) ↔ ((m < l - i) × (p ≡ i + m))
-      numbers z b i l m f g =
-          (λ (from, before, is). (omega (arith, ints), omega (arith, ints)), λ (less, is). (omega (arith, ints), omega (arith, ints), omega (arith, ints)))
+  rising_at p n e = grind (arith, nat_tests, common_steps, place_up, counted_within, rising_bounds, ints)
 
   -- the last position
   abbrev last : ℤ

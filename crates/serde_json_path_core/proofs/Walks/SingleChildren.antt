@@ -63,14 +63,7 @@ module _ (F : FunctionSet) (top : Data) where
 
   from_node : (kind : SegmentKind) (seg : Segment) (more : Segments) → ((n : Located) → map value_of (results_from F top more n) ≡ values_from F top more n.value) → (n : Located)
       → map value_of (results_from F top (segment kind seg more) n) ≡ flat_map (of_children seg more) (map value_of (reached kind n))
-  from_node kind seg more anywhere n =
-      map-flat_map value_of (λ m. flat_map (results_from F top more) (map (placed m.location) (chosen F top seg m.value))) (reached kind n)
-      ∙ flat_map-same (λ m. map value_of (flat_map (results_from F top more) (map (placed m.location) (chosen F top seg m.value)))) (λ m. of_children seg more m.value)
-      (λ m. map-flat_map value_of (results_from F top more) (map (placed m.location) (chosen F top seg m.value))
-      ∙ flat_map-map (λ x. map value_of (results_from F top more x)) (placed m.location) (chosen F top seg m.value)
-      ∙ flat_map-same (λ c. map value_of (results_from F top more (placed m.location c))) (λ c. values_from F top more c.1) (λ c. anywhere (placed m.location c)) (chosen F top seg m.value))
-      (reached kind n)
-      ∙ sym (flat_map-map (of_children seg more) value_of (reached kind n))
+  from_node kind seg more anywhere n = grind (arith, nat_tests, common_steps, map-flat_map, reached, flat_map-same, flat_map-map)
 
   -- where a node is has no bearing on the values that segments select from it
   pub values-anywhere : (segs : Segments) (n : Located) → map value_of (results_from F top segs n) ≡ values_from F top segs n.value

@@ -1,4 +1,4 @@
-use Rattle.serde_json_path_core.proofs.Words.{ap, ◌∙◌, arith, SFits, w64, to_z-of_z, position_in}
+use Rattle.serde_json_path_core.proofs.Words.{ap, ◌∙◌, arith, SFits, w64, to_z-of_z, position_in, nat_tests, common_steps}
 use Rattle.serde_json_path_core.proofs.Steps.Lookups.{item_past}
 use Rattle.serde_json_path_core.proofs.child.item_of.Goals as goal
 

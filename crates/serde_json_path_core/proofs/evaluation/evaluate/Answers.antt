@@ -1,4 +1,4 @@
-use Rattle.serde_json_path_core.proofs.Words.{sym, ap, ◌∙◌, view, start_of, signatures_of, tree_of, rule_of, with_rule, results}
+use Rattle.serde_json_path_core.proofs.Words.{sym, ap, ◌∙◌, view, start_of, signatures_of, tree_of, rule_of, with_rule, results, arith, nat_tests, common_steps}
 use Rattle.serde_json_path_core.proofs.Meaning.Derived.{computed_result}
 use Rattle.serde_json_path_core.proofs.Sound.{sound-segments, whole-sound}
 use Rattle.serde_json_path_core.proofs.Walks.Chains.{root_stands}

@@ -1,4 +1,4 @@
-use Rattle.serde_json_path_core.proofs.Words.{sym, subst, ap, ◌∙◌, view, start_of, nodes_in, tree_of, rule_of, with_rule, frames_view, rest_of, stages, stages_at, IsResult}
+use Rattle.serde_json_path_core.proofs.Words.{sym, subst, ap, ◌∙◌, view, start_of, nodes_in, tree_of, rule_of, with_rule, frames_view, rest_of, stages, stages_at, IsResult, arith, nat_tests, common_steps}
 use Rattle.serde_json_path_core.proofs.Walks.Chains.{stack-started}
 use Rattle.serde_json_path_core.proofs.Meaning.Derived.{computed_result}
 use Rattle.serde_json_path_core.proofs.Walks.Stacks.{begun-results}

@@ -1,5 +1,5 @@
 -- A longer query's result is what its last segment selects at each node of the shorter one's: so are their computed lists.
-use Rattle.serde_json_path_core.proofs.Words.{◌≡◌, List, [], ◌∷◌, ◌++◌, map, flat_map, refl, sym, ap, ◌∙◌, append-nil, Data, Located, query, current, Segments, no_segments, segment, SegmentKind, Segment, FunctionSet, start_of, itself, placed, reached, chosen, results, results_from, AreResultsAt, with_segment, flat_map-same, flat_map-flat_map}
+use Rattle.serde_json_path_core.proofs.Words.{◌≡◌, List, [], ◌∷◌, ◌++◌, map, flat_map, refl, sym, ap, ◌∙◌, append-nil, Data, Located, query, current, Segments, no_segments, segment, SegmentKind, Segment, FunctionSet, start_of, itself, placed, reached, chosen, results, results_from, AreResultsAt, with_segment, flat_map-same, flat_map-flat_map, arith, nat_tests, common_steps}
 use Rattle.serde_json_path_core.proofs.Meaning.DerivationEnds.{results_beneath}
 use Rattle.serde_json_path_core.proofs.Meaning.Derived.{computed_result, computed_only}
 use Rattle.serde_json_path_core.proofs.laws.law_append.Goals as goal

@@ -1,5 +1,5 @@
 -- A descendant segment's nodes are the child segment's at the node, then those of each child's subtree.
-use Rattle.serde_json_path_core.proofs.Words.{◌≡◌, List, [], ◌∷◌, ◌++◌, map, flat_map, refl, sym, ap, ◌∙◌, append-nil, Data, Step, StepBefore, Located, Query, query, current, Segments, segment, child, descendant, Segment, FunctionSet, beneath, children, itself, placed, reached, results, results_from, chosen, AreChildren, AreSubtreeResults, flat_map-same}
+use Rattle.serde_json_path_core.proofs.Words.{◌≡◌, List, [], ◌∷◌, ◌++◌, map, flat_map, refl, sym, ap, ◌∙◌, append-nil, Data, Step, StepBefore, Located, Query, query, current, Segments, segment, child, descendant, Segment, FunctionSet, beneath, children, itself, placed, reached, results, results_from, chosen, AreChildren, AreSubtreeResults, flat_map-same, arith, nat_tests, common_steps}
 use Rattle.serde_json_path_core.proofs.Meaning.ChildSteps.{in_children, children_ordered}
 use Rattle.serde_json_path_core.proofs.Meaning.DerivationEnds.{results_beneath}
 use Rattle.serde_json_path_core.proofs.Meaning.Derived.{computed_only}

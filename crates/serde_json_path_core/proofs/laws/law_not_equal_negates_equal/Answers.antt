@@ -1,4 +1,4 @@
-use Rattle.serde_json_path_core.proofs.Words.{◌≡◌, sym, subst, ◌∙◌, same_Some, Data, Operand, FunctionSet, Compared, AreEqual, IsComparedAs}
+use Rattle.serde_json_path_core.proofs.Words.{◌≡◌, sym, subst, ◌∙◌, same_Some, Data, Operand, FunctionSet, Compared, AreEqual, IsComparedAs, arith, nat_tests, common_steps}
 use Rattle.serde_json_path_core.proofs.Meaning.AnswerKinds.{compared_there}
 use Rattle.serde_json_path_core.proofs.Meaning.Derived.{compared_right}
 use Rattle.serde_json_path_core.proofs.laws.law_not_equal_negates_equal.Goals as goal

@@ -1,4 +1,4 @@
-use Rattle.serde_json_path_core.proofs.Words.{inl, inr, query, Before}
+use Rattle.serde_json_path_core.proofs.Words.{inl, inr, query, Before, arith, nat_tests, common_steps}
 use Rattle.serde_json_path_core.proofs.Meaning.Derived.{computed_result}
 use Rattle.serde_json_path_core.proofs.Meaning.Order.{before_once, in_order_total}
 use Rattle.serde_json_path_core.proofs.laws.law_order_is_total.Goals as goal

@@ -1,4 +1,4 @@
-use Rattle.serde_json_path_core.proofs.Words.{option_map, sym, ap, ◌∙◌, nodes_in, selector_view, stage_at}
+use Rattle.serde_json_path_core.proofs.Words.{option_map, sym, ap, ◌∙◌, nodes_in, selector_view, stage_at, arith, nat_tests, common_steps}
 use Rattle.serde_json_path_core.proofs.Walks.Turns.{drop-some}
 use Rattle.serde_json_path_core.proofs.evaluation.frame.open.Goals as goal
 

@@ -1,4 +1,4 @@
-use Rattle.serde_json_path_core.proofs.Words.{get_or, None, Some, ◌∙◌, sym, true≢false, get_or_default, view, nodes_in, Part}
+use Rattle.serde_json_path_core.proofs.Words.{get_or, None, Some, ◌∙◌, sym, true≢false, get_or_default, view, nodes_in, Part, arith, nat_tests, common_steps}
 use Rattle.serde_json_path_core.proofs.Walks.Chains.{child_stands}
 use Rattle.serde_json_path_core.proofs.Walks.SingleChildren.{child-selected, goes_down, next-singular}
 use Rattle.serde_json_path_core.proofs.evaluation.single_children.go_down.Goals as goal

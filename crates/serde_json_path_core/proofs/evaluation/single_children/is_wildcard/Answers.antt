@@ -1,4 +1,4 @@
-use Rattle.serde_json_path_core.proofs.Words.{◌≡◌, ◌∷◌, [], slice_index_or, subst, refl, nodes_in, selector_view, stage_at, child, wildcard, Part, SelectorRef}
+use Rattle.serde_json_path_core.proofs.Words.{◌≡◌, ◌∷◌, [], slice_index_or, subst, refl, nodes_in, selector_view, stage_at, child, wildcard, Part, SelectorRef, arith, nat_tests, common_steps}
 use Rattle.serde_json_path_core.proofs.Walks.SingleChildren.{select-only}
 use Rattle.serde_json_path_core.proofs.evaluation.single_children.is_wildcard.Goals as goal
 

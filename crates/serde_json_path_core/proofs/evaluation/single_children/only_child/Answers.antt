@@ -1,4 +1,4 @@
-use Rattle.serde_json_path_core.proofs.Words.{nodes_in}
+use Rattle.serde_json_path_core.proofs.Words.{nodes_in, arith, nat_tests, common_steps}
 use Rattle.serde_json_path_core.proofs.Walks.SingleChildren.{select-single}
 use Rattle.serde_json_path_core.proofs.evaluation.single_children.only_child.Goals as goal
 

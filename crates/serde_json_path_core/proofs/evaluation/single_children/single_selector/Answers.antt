@@ -1,4 +1,4 @@
-use Rattle.serde_json_path_core.proofs.Words.{nodes_in, selector_view, stage_at}
+use Rattle.serde_json_path_core.proofs.Words.{nodes_in, selector_view, stage_at, arith, nat_tests, common_steps}
 use Rattle.serde_json_path_core.proofs.Walks.SingleChildren.{single_stage}
 use Rattle.serde_json_path_core.proofs.evaluation.single_children.single_selector.Goals as goal
 

@@ -1,4 +1,4 @@
-use Rattle.serde_json_path_core.proofs.Words.{◌≡◌, ◌∙◌, ap, nat_cmp, refl, is_lt, chars_rest, YieldsList-from_chars, cmp_from_yields_List}
+use Rattle.serde_json_path_core.proofs.Words.{◌≡◌, ◌∙◌, ap, nat_cmp, refl, is_lt, chars_rest, YieldsList-from_chars, cmp_from_yields_List, arith, nat_tests, common_steps}
 use Rattle.serde_json_path_core.proofs.filter.compare.comes_before.Goals as goal
 
 pub returns : goal.returns

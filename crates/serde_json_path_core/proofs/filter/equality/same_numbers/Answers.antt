@@ -1,4 +1,4 @@
-use Rattle.serde_json_path_core.proofs.Words.{◌∙◌, rules, number_view, numbers_view}
+use Rattle.serde_json_path_core.proofs.Words.{◌∙◌, rules, number_view, numbers_view, arith, nat_tests, common_steps}
 use Rattle.serde_json_path_core.proofs.Whole.{same}
 use Rattle.serde_json_path_core.proofs.filter.equality.same_numbers.Goals as goal
 

@@ -1,4 +1,4 @@
-use Rattle.serde_json_path_core.proofs.Words.{ap, sym, ◌∙◌, drop, Null, cursor_left, drop_more, items_from, items_view}
+use Rattle.serde_json_path_core.proofs.Words.{ap, sym, ◌∙◌, drop, Null, cursor_left, drop_more, items_from, items_view, arith, nat_tests, common_steps}
 use Rattle.serde_json_path_core.proofs.evaluation.cursor.Cursor.pass.Goals as goal
 
 pub returns-then-next-items : goal.returns-then-next-items

@@ -1,4 +1,4 @@
-use Rattle.serde_json_path_core.proofs.Words.{◌≡◌, ◌-◌, ◌^◌, ◌<◌, length, drop, ap, ◌∙◌, sym, arith, rules, items_view, Null, strided, next_position}
+use Rattle.serde_json_path_core.proofs.Words.{◌≡◌, ◌-◌, ◌^◌, ◌<◌, length, drop, ap, ◌∙◌, sym, arith, rules, items_view, Null, strided, next_position, nat_tests, common_steps}
 use Rattle.serde_json_path_core.proofs.Steps.Positions.{strided-first, strided-up, strided-down}
 use Rattle.serde_json_path_core.proofs.evaluation.slice_positions.SlicePositions.pass.Goals as goal
 use Rattle.serde_json_path_core.proofs.evaluation.slice_positions.SlicePositions.pass.Goals.{then-self, else-self}

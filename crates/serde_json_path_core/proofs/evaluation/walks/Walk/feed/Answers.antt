@@ -1,4 +1,4 @@
-use Rattle.serde_json_path_core.proofs.Words.{[], ◌∷◌, ◌++◌, sym, ap, ◌∙◌, append_assoc, located, rest}
+use Rattle.serde_json_path_core.proofs.Words.{[], ◌∷◌, ◌++◌, sym, ap, ◌∙◌, append_assoc, located, rest, arith, nat_tests, common_steps}
 use Rattle.serde_json_path_core.proofs.evaluation.walks.Walk.feed.Goals as goal
 
 pub nodes-preserved : goal.nodes-preserved

@@ -1,4 +1,4 @@
-use Rattle.serde_json_path_core.proofs.Words.{refl, rules, sym, ap, subst, ◌∙◌, ∥∥₁_map, view, segments_at, nodes_in, signatures_of, document_of, rest_of, IsStack, IsStackIn, stages, stages_at, frames_view, segments_of}
+use Rattle.serde_json_path_core.proofs.Words.{refl, rules, sym, ap, subst, ◌∙◌, ∥∥₁_map, view, segments_at, nodes_in, signatures_of, document_of, rest_of, IsStack, IsStackIn, stages, stages_at, frames_view, segments_of, arith, nat_tests, common_steps}
 use Rattle.serde_json_path_core.specs.Walks.{set_of, query_of}
 use Rattle.serde_json_path_core.proofs.Sound.{sound-segments, whole-sound}
 use Rattle.serde_json_path_core.proofs.Walks.Chains.{root_stands}

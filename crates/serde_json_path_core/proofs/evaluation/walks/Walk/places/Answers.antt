@@ -1,4 +1,4 @@
-use Rattle.serde_json_path_core.proofs.Words.{◌≡◌, ◌≤◌, ◌+◌, sym, subst, ◌∙◌, arith, ∥∥₁_elim, length-map, view, frame_view, frames_view, le_prop}
+use Rattle.serde_json_path_core.proofs.Words.{◌≡◌, ◌≤◌, ◌+◌, sym, subst, ◌∙◌, arith, ∥∥₁_elim, length-map, view, frame_view, frames_view, le_prop, nat_tests, common_steps}
 use Rattle.serde_json_path_core.proofs.Walks.Chains.{stack-height}
 use Rattle.serde_json_path_core.proofs.Walks.Heights.{height, computed_height, same_height}
 use Rattle.serde_json_path_core.proofs.evaluation.walks.Walk.places.Goals as goal
