@@ -1,25 +1,23 @@
 -- The first slip of all that are there is the first of the kind's own, or else the first of those that it shares.
-use Rattle.std.proofs.Common.{◌≡◌, ℕ, List, ◌++◌, map, Option, Some, None, option_map, find, refl, sym, ap, ◌∙◌}
+use Rattle.std.proofs.lemmas.Grind.{common_steps}
+use Rattle.std.proofs.Common.{◌≡◌, arith, ℕ, List, ◌++◌, map, Option, Some, None, option_map, sym, ap, ◌∙◌}
 use Rattle.std.specs.Option.{option_or}
 use Rattle.std.proofs.lemmas.List.Folds.{find-append}
 use Rattle.serde_json_path_functions.specs.Functions.{Numbers}
 use Rattle.serde_json_path_parser.specs.declared.error.ParseErrorKind.{ParseErrorKind}
-use Rattle.serde_json_path_hints.specs.Hints.{Slip, is_there, first_hint, slips_of, hint_of, before_place, ahead_of_place}
+use Rattle.serde_json_path_hints.specs.Hints.{Slip, first_hint, slips_of, hint_of, before_place, ahead_of_place}
 use Rattle.serde_json_path_hints.specs.Inside.Lent.{slip_of}
 use Rattle.serde_json_path_hints.proofs.hints.hint.Goals as goal
 
 mapped : (one other : Option Slip)
     → option_map (λ s. s.2.now) (option_or one other)
     ≡ option_or (option_map (λ s. s.2.now) one) (option_map (λ s. s.2.now) other)
-mapped None other = refl
-mapped (Some slip) other = refl
+mapped one other = grind (arith, common_steps)
 
 first_of_both : (before ahead : List ℕ) (own shared : List Slip)
     → first_hint before ahead (own ++ shared)
     ≡ option_or (first_hint before ahead own) (first_hint before ahead shared)
-first_of_both before ahead own shared =
-    ap (option_map (λ s. s.2.now)) (find-append (is_there before ahead) own shared)
-    ∙ mapped (find (is_there before ahead) own) (find (is_there before ahead) shared)
+first_of_both before ahead own shared = grind (arith, common_steps, option_map, find-append, mapped)
 
 -- what is read of the error and of the text is the error's and the text
 hint_is : (rule : Numbers) (kind read_kind : ParseErrorKind) (position read_position : ℕ) (text bytes : List ℕ) (own shared : List Slip)
@@ -28,13 +26,7 @@ hint_is : (rule : Numbers) (kind read_kind : ParseErrorKind) (position read_posi
     → own ++ shared ≡ slips_of rule read_kind
     → option_or (first_hint before ahead own) (first_hint before ahead shared) ≡ hint_of rule kind position text
 hint_is rule kind read_kind position read_position text bytes own shared before ahead k p t is_before is_ahead are_slips =
-    sym (first_of_both before ahead own shared)
-    ∙ ap (first_hint before ahead) are_slips
-    ∙ ap (λ s. first_hint s ahead (slips_of rule read_kind)) is_before
-    ∙ ap (λ s. first_hint (before_place read_position bytes) s (slips_of rule read_kind)) is_ahead
-    ∙ ap (λ kind. hint_of rule kind read_position bytes) k
-    ∙ ap (λ position. hint_of rule kind position bytes) p
-    ∙ ap (hint_of rule kind position) t
+    grind (arith, common_steps, first_of_both)
 
 pub returns-in-Some : goal.returns-in-Some
 returns-in-Some c =
