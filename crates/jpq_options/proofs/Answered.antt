@@ -1,16 +1,11 @@
 -- What is answered, by what was found or by what `clap` says.
-use Rattle.jpq_options.proofs.Words.{◌≡◌, ◌∙◌, ◌⊎◌, ◌&&◌, inl, inr, Bool, true, false, not, cond, List, [], ◌∷◌, map, Option, Some, None, is_some, option_map, refl, sym, ap, ap₂, subst, Result, Ok, Err, IfOk, IsErr, filter, Bor, length-map, is_empty, App, IsAmong, Kinds, Row, Text, fault_of, is_simple, is_simple_and_free, matches_of, ValueParser, ArgumentConflict, OutOfMemory, jpq, IsRequestOf, AreOptions, IsRefusal, IsTold, checks_file, form_of_row, forms, given_forms, has_two, is_given, is_request, lacks_lines, lacks_path, misuse_by, misuse_in, texts, Form, AllocError, ErrorKind, clap_on_literals, Options, Request, Run, Print, WrongUse}
+use Rattle.jpq_options.proofs.Words.{arith, common_steps, ◌≡◌, ◌∙◌, ◌⊎◌, ◌&&◌, Bool, true, false, not, cond, List, [], ◌∷◌, map, Option, Some, is_some, option_map, refl, sym, ap, subst, Result, IfOk, IsErr, filter, Bor, length-map, is_empty, App, IsAmong, Kinds, Row, Text, fault_of, is_simple, is_simple_and_free, matches_of, ValueParser, ArgumentConflict, OutOfMemory, jpq, IsRequestOf, AreOptions, IsRefusal, IsTold, checks_file, form_of_row, forms, given_forms, has_two, is_given, lacks_lines, lacks_path, misuse_by, misuse_in, texts, Form, AllocError, ErrorKind, clap_on_literals, Options, Request}
 
 -- ---- forms
 
 map-filter : {X Y : Type 0} (h : X → Y) (q : Y → Bool) (xs : List X) → map h (filter (λ x. q (h x)) xs) ≡ filter q (map h xs)
 map-filter h q [] = refl
-map-filter h q (x ∷ xs) = go (q (h x)) (map-filter h q xs)
-  where
-    go : (b : Bool) → map h (filter (λ y. q (h y)) xs) ≡ filter q (map h xs)
-        → map h (cond b (x ∷ filter (λ y. q (h y)) xs) (filter (λ y. q (h y)) xs)) ≡ cond b (h x ∷ filter q (map h xs)) (filter q (map h xs))
-    go true e = ap (λ ys. h x ∷ ys) e
-    go false e = e
+map-filter h q (x ∷ xs) = grind (arith, common_steps, (map-filter h q xs))
 
 pub given_are : (rows : List Row) (all given : List (Bor Text × Form)) → given ≡ filter (λ f. is_given f.0.now rows) all → map form_of_row all ≡ forms
     → map form_of_row given ≡ given_forms forms rows
@@ -23,41 +18,26 @@ empty_texts : (xs : List (Bor Text)) → is_empty xs ≡ is_empty (texts xs)
 empty_texts xs = simp length-map
 
 some_text : (o : Option (Bor Text)) → is_some o ≡ is_some (option_map (λ s. s.now) o)
-some_text None = refl
-some_text (Some s) = refl
+some_text o = grind (arith, common_steps)
 
 pub misuse_is : (rows : List Row) (shown : Form) (o : Options) → AreOptions rows shown o → has_two (given_forms forms rows) ≡ false
     → misuse_by (is_empty o.paths.items && not (is_some o.paths_file)) (o.check && not (is_empty o.files.items)) (o.strict && not o.lines) ≡ misuse_in rows
-misuse_is rows shown o are one =
-    let path : (is_empty o.paths.items && not (is_some o.paths_file)) ≡ lacks_path rows =
-    ap₂ (λ a b. a && not b) (empty_texts o.paths.items ∙ ap is_empty are.paths) (some_text o.paths_file ∙ ap is_some are.paths_file) in
-    let file : (o.check && not (is_empty o.files.items)) ≡ checks_file rows =
-    ap₂ (λ a b. a && not b) are.check (empty_texts o.files.items ∙ ap is_empty are.files) in
-    let lines : (o.strict && not o.lines) ≡ lacks_lines rows = ap₂ (λ a b. a && not b) are.strict are.lines in
-    ap₂ (λ a b. misuse_by a b (o.strict && not o.lines)) path file ∙ ap (misuse_by (lacks_path rows) (checks_file rows)) lines
-    ∙ sym (ap (λ b. cond b (Some ArgumentConflict) (misuse_by (lacks_path rows) (checks_file rows) (lacks_lines rows))) one)
+misuse_is rows shown o are one = grind (arith, common_steps, is_some, empty_texts, some_text)
 
 pub two_forms : (rows : List Row) → has_two (given_forms forms rows) ≡ true → Some ArgumentConflict ≡ misuse_in rows
 two_forms rows two = sym (ap (λ b. cond b (Some ArgumentConflict) (misuse_by (lacks_path rows) (checks_file rows) (lacks_lines rows))) two)
 
 pub refusal : (rows : List Row) (kind : ErrorKind) (a : Request) → Some kind ≡ misuse_in rows → IsRefusal kind a → IsRequestOf [] rows a
-refusal rows kind (Run o) is r = absurd r
-refusal rows kind (Print text) is r = absurd r
-refusal rows kind (WrongUse told text) is r = inr (refl, sym is ∙ ap Some (sym r))
+refusal rows kind a is r = grind (arith, common_steps)
 
 -- ---- what `clap` says
 
 told_one : (kind : ErrorKind) (faults : Kinds) (rows : List Row) (a : Request) → IsAmong kind faults → IsTold kind a → IsRequestOf faults rows a
-told_one kind faults rows (Run o) among told = absurd told
-told_one kind faults rows (Print text) among told = (kind, among, told)
-told_one kind faults rows (WrongUse k text) among told =
-    inl (subst (λ (x : ErrorKind). IsAmong x faults) (sym told.0) among, subst (λ (x : ErrorKind). is_request x ≡ false) (sym told.0) told.1)
+told_one kind faults rows a among told = grind (arith, common_steps)
 
 pub told_answers : (kind : ErrorKind) (faults : Kinds) (rows : List Row) (r : Result Request AllocError) → (kind ≡ OutOfMemory) ⊎ IsAmong kind faults
     → (kind ≡ OutOfMemory → IsErr r) → IfOk r (IsTold kind) → IfOk r (IsRequestOf faults rows)
-told_answers kind faults rows (Err e) by memory told = tt
-told_answers kind faults rows (Ok a) (inl out) memory told = let no = memory out in absurd cc
-told_answers kind faults rows (Ok a) (inr among) memory told = told_one kind faults rows a among told
+told_answers kind faults rows r by memory told = grind (arith, common_steps, told_one)
 
 -- ---- the command
 

@@ -1,5 +1,5 @@
 -- What `clap` reads of a command as it is built.
-use Rattle.jpq_options.proofs.Words.{◌≡◌, ◌∙◌, ◌<◌, true, codes, refl, ◌+◌, ℕ, List, [], ◌∷◌, map, fold, take, length, get_or, ap, sym, ap₂, map_more, App, Rule, new_app, with_rule, on_top, ValueParser, file_rule, jpq, path_rule, rule_of_setting, setting_of, settings, fold-append, OptionRow}
+use Rattle.jpq_options.proofs.Words.{arith, common_steps, ◌≡◌, ◌<◌, true, codes, refl, ◌+◌, ℕ, List, [], ◌∷◌, map, fold, take, length, get_or, ap, map_more, App, Rule, new_app, with_rule, on_top, ValueParser, file_rule, jpq, path_rule, rule_of_setting, setting_of, settings, fold-append, OptionRow}
 
 abbrev pub rule_of_row : ValueParser → OptionRow → Rule
 rule_of_row colors row = rule_of_setting colors (setting_of row)
@@ -8,10 +8,7 @@ rule_of_row colors row = rule_of_setting colors (setting_of row)
 pub options_more : (colors : ValueParser) (app now new : App) (rows : List OptionRow) (i : ℕ) (d : OptionRow) (r : Rule) → i < length rows
     → now ≡ fold with_rule app (map (rule_of_row colors) (take i rows)) → r ≡ rule_of_row colors (get_or rows i d) → new ≡ with_rule now r
     → new ≡ fold with_rule app (map (rule_of_row colors) (take (i + 1) rows))
-options_more colors app now new rows i d r lt before rule shape =
-    shape ∙ ap₂ with_rule before rule
-    ∙ sym (ap (fold with_rule app) (map_more (rule_of_row colors) rows i d lt)
-    ∙ fold-append with_rule app (map (rule_of_row colors) (take i rows)) (rule_of_row colors (get_or rows i d) ∷ []))
+options_more colors app now new rows i d r lt before rule shape = grind (arith, common_steps, map_more, fold-append)
 
 -- the command before its arguments
 abbrev pub base : App
@@ -23,5 +20,4 @@ map-rows colors (r ∷ rs) = ap (λ rules. rule_of_row colors r ∷ rules) (map-
 
 pub whole_table : (colors : ValueParser) (app : App) (rows : List OptionRow) → app ≡ with_rule (with_rule base path_rule) file_rule → map setting_of rows ≡ settings
     → fold with_rule app (map (rule_of_row colors) rows) ≡ jpq colors
-whole_table colors app rows app_is rows_are =
-    ap₂ (fold with_rule) app_is (map-rows colors rows ∙ ap (map (rule_of_setting colors)) rows_are)
+whole_table colors app rows app_is rows_are = grind (arith, common_steps, map-rows)

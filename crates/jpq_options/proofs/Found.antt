@@ -1,13 +1,9 @@
 -- What the getters of `clap` give, by rows.
-use Rattle.jpq_options.proofs.Words.{◌≡◌, ◌∙◌, List, [], Option, Some, None, ℕ, option_map, refl, sym, ap, subst, find, option_and_then, unwrap_or, Bor, Row, Text, matched_of, one_of, one_text, raw_values, rows_of, row_of, find_row, one_text-rows, raw_values-rows, IsNumberIn, is_given, is_of_words, texts, values_of, bytes_eq, Entry, Found, MatchedArg, ValueSource}
+use Rattle.jpq_options.proofs.Words.{arith, common_steps, ◌≡◌, ◌∙◌, List, [], Option, Some, None, ℕ, option_map, ap, find, option_and_then, unwrap_or, Bor, Text, matched_of, one_of, one_text, raw_values, rows_of, find_row, one_text-rows, raw_values-rows, IsNumberIn, is_given, is_of_words, texts, values_of, bytes_eq, Found, ValueSource}
 
 pub source-rows : (f : Found) (id : Text)
     → option_and_then (λ a. a.source) (matched_of f id) ≡ option_and_then (λ r. r.source) (find (λ r. bytes_eq r.id id) (rows_of f))
-source-rows f id = go (find (λ e. bytes_eq e.0.now id) f.entries.items) ∙ ap (option_and_then (λ (r : Row). r.source)) (sym (find_row f.entries.items id))
-  where
-    go : (o : Option Entry) → option_and_then (λ (a : MatchedArg). a.source) (option_map (λ e. e.1) o) ≡ option_and_then (λ (r : Row). r.source) (option_map row_of o)
-    go None = refl
-    go (Some e) = refl
+source-rows f id = grind (arith, common_steps, find_row, option_map)
 
 pub given : (f : Found) (id : Text) (s : Option ValueSource) → s ≡ option_and_then (λ a. a.source) (matched_of f id) → is_of_words s ≡ is_given id (rows_of f)
 given f id s is = ap is_of_words (is ∙ source-rows f id)
@@ -20,8 +16,4 @@ no_values f id is = ap (λ (o : Option (List Text)). unwrap_or o []) (is ∙ raw
 
 pub number_in : (f : Found) (id : Text) (most : Option ℕ) → (one_text f id ≡ None → most ≡ None) → ((t : Text) → one_text f id ≡ Some t → IsNumberIn (Some t) most)
     → IsNumberIn (one_of id (rows_of f)) most
-number_in f id most none value = subst (λ (o : Option Text). IsNumberIn o most) (one_text-rows f id) (go (one_text f id) none value)
-  where
-    go : (o : Option Text) → (o ≡ None → most ≡ None) → ((t : Text) → o ≡ Some t → IsNumberIn (Some t) most) → IsNumberIn o most
-    go None n v = n refl
-    go (Some t) n v = v t refl
+number_in f id most none value = grind (arith, common_steps, one_text-rows)

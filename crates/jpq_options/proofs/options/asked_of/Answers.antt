@@ -1,4 +1,4 @@
-use Rattle.jpq_options.proofs.Words.{◌≡◌, ◌∙◌, true, false, map, Some, ap, refl, sym, subst, IfOk-weaker, found_of, rows_of, AreOptions, first_form, form_of_row, forms, given_forms, has_two, Form}
+use Rattle.jpq_options.proofs.Words.{arith, common_steps, ◌≡◌, ◌∙◌, true, false, map, Some, ap, sym, IfOk-weaker, found_of, rows_of, first_form, form_of_row, forms, given_forms, has_two}
 use Rattle.jpq_options.proofs.Answered.{given_are, misuse_is, refusal, two_forms}
 use Rattle.jpq_options.proofs.options.asked_of.Goals as goal
 
@@ -16,11 +16,7 @@ returns-in-None c =
     let given : map form_of_row c.as_slice.result.now ≡ given_forms forms rows =
     ap (map form_of_row) c.as_slice.ensures.value ∙ given_are rows _ _ c.in_ok-given.ensures c.form_rows.ensures in
     let one : has_two (given_forms forms rows) ≡ false = sym (ap has_two given) ∙ c.in-Ok.ensures.ok.0 in
-    let form_is = c.in-Ok.ensures.ok.1 ∙ ap first_form given in (
-      refl,
-      sym (c.in-None.ensures ∙ misuse_is rows _ c.in_ok-options.options c.in_ok-options.ensures one),
-      subst (λ (f : Form). AreOptions rows f c.in_ok-options.options) form_is c.in_ok-options.ensures,
-    )
+    let form_is = c.in-Ok.ensures.ok.1 ∙ ap first_form given in grind (arith, common_steps, misuse_is)
 
 pub returns : goal.returns
 returns c =
