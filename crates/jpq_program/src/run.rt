@@ -73,11 +73,7 @@ const FEW_PATHS: usize = 8;
 
 /// A reader of documents for the paths, unless they are many, or memory for it is refused. Where nodes are shown without their
 /// values, their places are enough.
-fn reader_for<'q>(
-    alloc: Global,
-    trees: &[&'q Checked],
-    form: Form,
-) -> Option<DocumentReader<'q>> {
+fn reader_for<'q>(alloc: Global, trees: &[&'q Checked], form: Form) -> Option<DocumentReader<'q>> {
     if trees.len() > FEW_PATHS {
         return None;
     }
