@@ -1,28 +1,24 @@
 -- the words of definitions, from one place
 pub mod Words
--- the names of each object stand in order
-pub mod Ordered
--- what is pending at a child, and at the end of a location
+-- values that show what is asked of others
+pub mod Shows
+-- what is asked at the end of a derivation
 pub mod Pending
--- the children of what is kept
-pub mod Children
--- queries select the same from what is kept
+-- queries select the same from a value that shows what they ask
 pub mod Same
--- an object's members are read one after another
-pub mod Puts
--- what the loops over items and members have kept so far
+-- what the loops over items and members have shown so far
 pub mod Reading
 -- values, items and members are read one token after another
 pub mod Tokens
 -- lists of values and entries as data
 pub mod Values
--- what is pending by the rows of a plan
+-- what is asked at a value is pending there
 pub mod Rows
 -- a plan grows by rows
 pub mod Plans
 -- selectors that may admit a step
 pub mod Selectors
--- what is read of a document
+-- what queries select from what is read of a document
 pub mod Documents
 -- a number of few bytes is not beyond doubles
 pub mod Small

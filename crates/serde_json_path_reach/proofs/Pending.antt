@@ -1,24 +1,6 @@
--- What is pending at a child, and at the end of a location.
-use Rattle.serde_json_path_reach.proofs.Words.{Admits, AdmitsBy, AdmitsIn, Bool, Data, Derives, FunctionSet, IsIn, List, MayDescend, Segment, SegmentKind, Segments, Selector, Selectors, SelectsIndex, Some, Step, Triple, [], any_may_admit, ap, arith, at, by_position, bytes_eq-Decides, child, child_at, current, descendant, dot_name, dot_wildcard, eq-eqb, false, filter, index, inl, inr, ints, is_end, is_whole, items_len, location_of, long_hand, may_admit, name, negsuc, no_segments, no_selectors, option_and_then_some, pos, queries_in_segment, query, refl, same_Some, segment, selector, selectors_list, selectors_of, slice, suc, true, wildcard, zero, ℕ, ℤ, ◌++◌, ◌||◌, ◌∙◌, ◌∷◌, ◌≡◌}
-
--- where segments are pending, all that their derivations come by is pending after each step
-pub record Leads (after : Step → ℕ → ℕ) (Includes : Bool → ℕ → Segments → Type 0) : Type 0 where
-  pub ends : (places : Bool) (pending : ℕ) → Includes places pending no_segments → is_end places pending ≡ true
-  pub stays : (s : Step) (pending : ℕ) → is_whole pending ≡ true → is_whole (after s pending) ≡ true
-  pub again : (places : Bool) (s : Step) (pending : ℕ) (seg : Segment) (more : Segments) → Includes places pending (segment descendant seg more) → Includes places (after s pending) (segment descendant seg more)
-  pub goes_on : (places : Bool) (s : Step) (pending : ℕ) (kind : SegmentKind) (seg : Segment) (more : Segments) → Includes places pending (segment kind seg more)
-      → any_may_admit (selectors_of seg) s ≡ true → Includes places (after s pending) more
-  pub asks : (places : Bool) (s : Step) (pending : ℕ) (kind : SegmentKind) (seg : Segment) (more segs : Segments) → Includes places pending (segment kind seg more)
-      → IsIn (query current segs) (queries_in_segment seg) → Includes false (after s pending) segs
-
--- ---- what stands at a location
-
-pub at_joined : (a b : List Step) (v d : Data) → at v a ≡ Some d → at v (a ++ b) ≡ at d b
-at_joined [] b v d e = ap (λ w. at w b) (same_Some v d e)
-at_joined (s ∷ a) b v d e = option_and_then_some (λ c. at c a) (child_at v s) d e (λ c is there. rw is (at_joined a b c d there))
-
-pub at_step : (s : Step) (v c : Data) → child_at v s ≡ Some c → at v (s ∷ []) ≡ Some c
-at_step s v c e = rw e
+-- What is asked at the end of a derivation.
+use Rattle.serde_json_path_reach.proofs.Words.{Admits, AdmitsBy, AdmitsIn, Bool, Data, Derives, FunctionSet, List, MayDescend, Segment, SegmentKind, Segments, Selector, Selectors, SelectsIndex, Some, Step, Then, Triple, [], along, any_may_admit, arith, at, by_position, bytes_eq-Decides, child, descendant, dot_name, dot_wildcard, eq-eqb, false, filter, index, inl, inr, ints, items_len, location_of, long_hand, may_admit, name, negsuc, no_segments, no_selectors, pos, refl, segment, selector, selectors_list, selectors_of, slice, suc, true, wildcard, zero, ℕ, ℤ, ◌++◌, ◌||◌, ◌∙◌, ◌∷◌, ◌≡◌}
+use Rattle.serde_json_path_reach.proofs.Shows.{along_joined, along_less, at_joined, at_step}
 
 -- ---- a step that is admitted may be
 
@@ -49,36 +31,27 @@ module _ (F : FunctionSet) (top : Data) where
   admits_any dot_wildcard n v s h = refl
   admits_any (long_hand sels) n v s h = admits_by sels n v s h
 
--- ---- what is pending at the end of a location
+-- ---- derivations
 
-module _ (after : Step → ℕ → ℕ) where
-  abbrev pub along : List Step → ℕ → ℕ
-  along [] pending = pending
-  along (s ∷ steps) pending = along steps (after s pending)
+-- a descendant segment is asked all the way down
+pub still : (kind : SegmentKind) (seg : Segment) (more : Segments) (descent : List Step) (A : Bool → Segments → Type 0) (places : Bool) → MayDescend kind descent
+    → A places (segment kind seg more) → along descent A places (segment kind seg more)
+still child seg more descent A places may h = rw may h
+still descendant seg more [] A places may h = h
+still descendant seg more (s ∷ descent) A places may h = still descendant seg more descent (Then s A) places tt (inr (inl (seg, more, refl, h)))
 
-  pub along_joined : (a b : List Step) (pending : ℕ) → along (a ++ b) pending ≡ along b (along a pending)
-  along_joined [] b pending = refl
-  along_joined (s ∷ a) b pending = along_joined a b (after s pending)
-
-module _ (after : Step → ℕ → ℕ) (Includes : Bool → ℕ → Segments → Type 0) (leads : Leads after Includes) (places : Bool) where
-  -- a descendant segment stays pending all the way down
-  pub still : (kind : SegmentKind) (seg : Segment) (more : Segments) (descent : List Step) (pending : ℕ) → MayDescend kind descent
-      → Includes places pending (segment kind seg more) → Includes places (along after descent pending) (segment kind seg more)
-  still child seg more descent pending may h = rw may h
-  still descendant seg more [] pending may h = h
-  still descendant seg more (s ∷ descent) pending may h = still descendant seg more descent (after s pending) tt (leads.again places s pending seg more h)
-
-  -- where a derivation ends, the value is kept whole, or its place is
-  pub end_pending : (F : FunctionSet) (top : Data) (segs : Segments) (pending : ℕ) (v : Data) (xs : List Triple) → Includes places pending segs → Derives F top segs v xs
-      → (c : Data) × (at v (location_of xs) ≡ Some c) × (is_end places (along after (location_of xs) pending) ≡ true)
-  end_pending F top no_segments pending v xs h e = rw e (v, refl, leads.ends places pending h)
-  end_pending F top (segment kind seg more) pending v [] h e = absurd e
-  end_pending F top (segment kind seg more) pending v (x ∷ xs) h (may, (d, down, admits, (c, to, rest))) =
-      let here = along after x.descent pending in
-      let below = leads.goes_on places x.step here kind seg more (still kind seg more x.descent pending may h) (admits_any F top seg x.number d x.step admits) in
-      let (e, there, ends) = end_pending F top more (after x.step here) c xs below rest in
-      let to_child = at_joined x.descent (x.step ∷ []) v d down ∙ at_step x.step d c to in (
-        e,
-        at_joined (x.descent ++ x.step ∷ []) (location_of xs) v c to_child ∙ there,
-        rw (along_joined after (x.descent ++ x.step ∷ []) (location_of xs) pending, along_joined after x.descent (x.step ∷ []) pending) ends,
-      )
+-- where a derivation ends, the end of the query is asked
+pub end_asked : (F : FunctionSet) (top : Data) (places : Bool) (segs : Segments) (A : Bool → Segments → Type 0) (v : Data) (xs : List Triple) → A places segs → Derives F top segs v xs
+    → (c : Data) × (at v (location_of xs) ≡ Some c) × along (location_of xs) A places no_segments
+end_asked F top places no_segments A v xs h e = rw e (v, refl, h)
+end_asked F top places (segment kind seg more) A v [] h e = absurd e
+end_asked F top places (segment kind seg more) A v (x ∷ xs) h (may, (d, down, admits, (c, to, rest))) =
+    let here : Bool → Segments → Type 0 = along x.descent A in
+    let now = still kind seg more x.descent A places may h in
+    let (e, there, asked) = end_asked F top places more (Then x.step here) c xs (inl (kind, seg, now, admits_any F top seg x.number d x.step admits)) rest in
+    let to_child = at_joined x.descent (x.step ∷ []) v d down ∙ at_step x.step d c to in (
+      e,
+      at_joined (x.descent ++ x.step ∷ []) (location_of xs) v c to_child ∙ there,
+      along_joined (x.descent ++ x.step ∷ []) (location_of xs) A places no_segments
+          (along_less (location_of xs) _ _ (λ p segs. along_joined x.descent (x.step ∷ []) A p segs) places no_segments asked),
+    )

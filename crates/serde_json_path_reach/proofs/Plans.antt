@@ -93,7 +93,7 @@ gains_both a b c m n qs rs g h = record {
 }
 
 -- a query by `@` is pending where it is asked
-pub gains_current : (a b : Plan) (first asked : ℕ) (segs : Segments) → Includes b.rows.items false first segs → Gains a b asked (queries_in_segments segs)
+pub gains_current : (a b : Plan) (first asked : ℕ) (segs : Segments) → Includes b.rows.items first false segs → Gains a b asked (queries_in_segments segs)
     → Gains a b (bit_or first asked) (queries_of (query current segs))
 gains_current a b first asked segs here h = record {
   right = h.right;
@@ -101,7 +101,7 @@ gains_current a b first asked segs here h = record {
   covers = record {
     dollar = λ more. elim [ inl e ↦ absurd cc | inr i ↦ h.covers.dollar more i ];
     at = λ more. elim [
-      | inl e ↦ let same : segs ≡ more = cc in includes_left b.rows.items first asked false more (subst (Includes b.rows.items false first) same here)
+      | inl e ↦ let same : segs ≡ more = cc in includes_left b.rows.items first asked false more (subst (Includes b.rows.items first false) same here)
       | inr i ↦ includes_right b.rows.items first asked false more (h.covers.at more i)
     ];
   };
@@ -110,8 +110,8 @@ gains_current a b first asked segs here h = record {
 -- what more is pending at the root
 pub gains_more : (a b c : Plan) (first asked : ℕ) (qs : List Query) → c.rows.items ≡ b.rows.items → c.at_root ≡ bit_or b.at_root first → Gains a b asked qs → Gains a c asked qs
 gains_more a b c first asked qs rows at_root h =
-    let kept = λ (p : Bool) (pending : ℕ) (more : Segments) (i : Includes b.rows.items p pending more). subst (λ (rs : List Row). Includes rs p pending more) (sym rows) i in
-    let added = λ (p : Bool) (more : Segments) (i : Includes b.rows.items p (bit_or b.at_root first) more). subst (λ (bits : ℕ). Includes c.rows.items p bits more) (sym at_root) (kept p (bit_or b.at_root first) more i) in
+    let kept = λ (p : Bool) (pending : ℕ) (more : Segments) (i : Includes b.rows.items pending p more). subst (λ (rs : List Row). Includes rs pending p more) (sym rows) i in
+    let added = λ (p : Bool) (more : Segments) (i : Includes b.rows.items (bit_or b.at_root first) p more). subst (λ (bits : ℕ). Includes c.rows.items bits p more) (sym at_root) (kept p (bit_or b.at_root first) more i) in
     record {
       right = λ r. subst AreRight (sym rows) (h.right r);
       grows = record {
@@ -126,15 +126,15 @@ gains_more a b c first asked qs rows at_root h =
 
 -- the same of a query by `$` in a filter
 pub gains_root : (a b c : Plan) (first asked : ℕ) (segs : Segments) → c.rows.items ≡ b.rows.items → c.at_root ≡ bit_or b.at_root first
-    → Includes b.rows.items false first segs → Gains a b asked (queries_in_segments segs) → Gains a c asked (queries_of (query root segs))
+    → Includes b.rows.items first false segs → Gains a b asked (queries_in_segments segs) → Gains a c asked (queries_of (query root segs))
 gains_root a b c first asked segs rows at_root here h =
     let g = gains_more a b c first asked (queries_in_segments segs) rows at_root h in
-    let there : Includes c.rows.items false c.at_root segs = rw (rows, at_root) (includes_right b.rows.items b.at_root first false segs here) in
+    let there : Includes c.rows.items c.at_root false segs = rw (rows, at_root) (includes_right b.rows.items b.at_root first false segs here) in
     record {
       right = g.right;
       grows = g.grows;
       covers = record {
-        dollar = λ more. elim [ inl e ↦ let same : segs ≡ more = cc in subst (Includes c.rows.items false c.at_root) same there | inr i ↦ g.covers.dollar more i ];
+        dollar = λ more. elim [ inl e ↦ let same : segs ≡ more = cc in subst (Includes c.rows.items c.at_root false) same there | inr i ↦ g.covers.dollar more i ];
         at = λ more. elim [ inl e ↦ absurd cc | inr i ↦ g.covers.at more i ];
       };
     }
@@ -144,7 +144,7 @@ module _ (rows : List Row) (row : Row) where
   among : (r : Row) → IsIn r rows → IsIn r (rows ++ row ∷ [])
   among r i = (in_append r rows (row ∷ [])).1 (inl i)
 
-  pub still_included : (places : Bool) (pending : ℕ) (segs : Segments) → Includes rows places pending segs → Includes (rows ++ row ∷ []) places pending segs
+  pub still_included : (places : Bool) (pending : ℕ) (segs : Segments) → Includes rows pending places segs → Includes (rows ++ row ∷ []) pending places segs
   still_included places pending = includes_more rows (rows ++ row ∷ []) pending pending among (λ m g. g) places
 
   still_right : (r : Row) → IsRight rows r → IsRight (rows ++ row ∷ []) r
@@ -158,11 +158,11 @@ module _ (rows : List Row) (row : Row) where
 
 pub gains_row : (a b : Plan) (row : Row) → b.rows.items ≡ a.rows.items ++ row ∷ [] → b.at_root ≡ a.at_root → IsRight a.rows.items row → Gains a b 0 []
 gains_row a b row rows at_root right =
-    let kept = λ (places : Bool) (pending : ℕ) (segs : Segments) (i : Includes a.rows.items places pending segs).
-    subst (λ (rs : List Row). Includes rs places pending segs) (sym rows) (still_included a.rows.items row places pending segs i) in
+    let kept = λ (places : Bool) (pending : ℕ) (segs : Segments) (i : Includes a.rows.items pending places segs).
+    subst (λ (rs : List Row). Includes rs pending places segs) (sym rows) (still_included a.rows.items row places pending segs i) in
     record {
       right = λ r. subst AreRight (sym rows) (all_right a.rows.items row right r);
-      grows = record { by_rows = kept; at_root = λ places segs i. subst (λ (bits : ℕ). Includes b.rows.items places bits segs) (sym at_root) (kept places a.at_root segs i) };
+      grows = record { by_rows = kept; at_root = λ places segs i. subst (λ (bits : ℕ). Includes b.rows.items bits places segs) (sym at_root) (kept places a.at_root segs i) };
       covers = record { dollar = λ segs h. absurd h; at = λ segs h. absurd h };
     }
 
@@ -175,9 +175,9 @@ adds_row a b before row grown same at_root some again named next = let rows = gr
 
 -- a segment, its filters' queries and its row
 pub gains_segment : (a b c d : Plan) (places : Bool) (m n first bit : ℕ) (branch : Branch) (kind : SegmentKind) (more : Segments)
-    → Gains a b m (queries_in_segments more) → Includes b.rows.items places first more → Gains b c n (queries_in_branch branch)
+    → Gains a b m (queries_in_segments more) → Includes b.rows.items first places more → Gains b c n (queries_in_branch branch)
     → AddsRow c d kind (segment_in branch) more places (bit_or first n) bit
-    → Gains a d (bit_or m n) (queries_in_segment (segment_in branch) ++ queries_in_segments more) × Includes d.rows.items places bit (segment kind (segment_in branch) more)
+    → Gains a d (bit_or m n) (queries_in_segment (segment_in branch) ++ queries_in_segments more) × Includes d.rows.items bit places (segment kind (segment_in branch) more)
 gains_segment a b c d places m n first bit branch kind more g here h adds =
     let (k, pending) = adds (record {
       rest = includes_left c.rows.items first n places more (h.grows.by_rows places first more here);
@@ -216,11 +216,11 @@ no_part nodes parts = let end : length parts ≤ length parts = omega arith in a
 -- ---- paths in order
 
 pub asks_more : (a b : Plan) (places : Bool) (asked : ℕ) (qs : List Query) (q : Query) → AsksAll a places qs → Gains a b asked (queries_in_segments (segments_of q))
-    → Includes b.rows.items places b.at_root (segments_of q) → AsksAll b places (qs ++ q ∷ [])
+    → Includes b.rows.items b.at_root places (segments_of q) → AsksAll b places (qs ++ q ∷ [])
 asks_more a b places asked qs q before g here = record {
   themselves = λ r i. elim ((in_append r qs (q ∷ [])).0 i) [
     | inl j ↦ g.grows.at_root places (segments_of r) (before.themselves r j)
-    | inr j ↦ elim j [ inl e ↦ subst (λ (x : Query). Includes b.rows.items places b.at_root (segments_of x)) (sym e) here | inr never ↦ absurd never ]
+    | inr j ↦ elim j [ inl e ↦ subst (λ (x : Query). Includes b.rows.items b.at_root places (segments_of x)) (sym e) here | inr never ↦ absurd never ]
   ];
   inside = λ r segs i k. elim ((in_append r qs (q ∷ [])).0 i) [
     | inl j ↦ g.grows.at_root false segs (before.inside r segs j k)

@@ -1,8 +1,7 @@
--- What is pending by the rows of a plan: what their segments come by is pending after each step.
-use Rattle.serde_json_path_reach.proofs.Words.{AreRight, Bool, Data, Includes, IsIn, Items, List, Members, None, Row, Segment, SegmentKind, Segments, Selector, Selectors, Step, [], after, after_rows, and_comm, and_pow, any_kept, any_may_admit, ap, arith, array, bit_and, bit_at, bit_at-suc, bit_at-zero, bit_at_and, bit_at_lowest, bit_at_or, bit_or, by_name, by_position, cases_Bool, current, descendant, false, filter, if◌then◌else◌, in_append, inl, inr, inside, is_end, is_place, is_whole, item, items_inside, kept, kept_object, kind_of_row, long_hand, max, may_admit, may_admit_by_row, member, members_inside, min, no_items, no_members, no_segments, no_selectors, object, onward, placed, queries_in_segment, queries_in_selector, queries_in_selectors, query, refl, rest_of_row, same_from_bits, segment, segment_of_row, selector, selectors_list, selectors_of, selectors_of_row, suc, sym, true, true≢false, ℕ, ◌%◌, ◌&&◌, ◌*◌, ◌/◌, ◌<◌, ◌==◌, ◌||◌, ◌∙◌, ◌∷◌, ◌≡◌, ◌⊎◌}
+-- What is asked at a value is pending there, by the rows of a plan.
+use Rattle.serde_json_path_reach.proofs.Words.{AreRight, Bool, Data, Includes, IsIn, Leads, List, None, Option, Row, Segment, SegmentKind, Segments, Selector, Selectors, Shows, Some, Step, Then, [], and_comm, and_pow, any_may_admit, ap, arith, below, bit_and, bit_at, bit_at-suc, bit_at-zero, bit_at_and, bit_at_lowest, bit_at_or, bit_or, cases_Bool, child_at, current, descendant, false, filter, in_append, in_stead, inl, inr, is_end, is_place, is_whole, kind_of_row, long_hand, max, may_admit, may_admit_by_row, min, no_segments, no_selectors, none-some, null, onward, queries_in_segment, queries_in_selector, queries_in_selectors, query, refl, rest_of_row, same_from_bits, segment, segment_of_row, selector, selectors_list, selectors_of, selectors_of_row, sym, true, true≢false, ℕ, ◌%◌, ◌&&◌, ◌*◌, ◌/◌, ◌<◌, ◌==◌, ◌||◌, ◌∙◌, ◌≡◌, ◌⊎◌}
 use Rattle.serde_json_path_reach.specs.Inside.Bits.{meets}
-use Rattle.serde_json_path_reach.proofs.Pending.{Leads}
-use Rattle.serde_json_path_reach.proofs.Reading.{kept_not}
+use Rattle.serde_json_path_reach.proofs.Shows.{AsksLess, AsksNothing, assembled, dropped, unasked}
 
 -- ---- bits
 
@@ -86,7 +85,7 @@ whole_or_place places pending h = by (is_whole pending) places (is_place pending
     by false false b h = absurd (true≢false (sym h))
 
 pub includes_more : (rows others : List Row) (a b : ℕ) → ((row : Row) → IsIn row rows → IsIn row others) → ((m : ℕ) → meets a m ≡ true → meets b m ≡ true)
-    → (places : Bool) (segs : Segments) → Includes rows places a segs → Includes others places b segs
+    → (places : Bool) (segs : Segments) → Includes rows a places segs → Includes others b places segs
 includes_more rows others a b among more places no_segments h = elim (whole_or_place places a h) [
   | inl w ↦ whole_ends places b (more 1 w)
   | inr (is, p) ↦ place_ends places b is (more 2 p)
@@ -94,36 +93,17 @@ includes_more rows others a b among more places no_segments h = elim (whole_or_p
 includes_more rows others a b among more places (segment kind seg rest) (inl h) = inl (more 1 h)
 includes_more rows others a b among more places (segment kind seg rest) (inr (row, i, enough, met, is)) = inr (row, among row i, enough, more row.bit met, is)
 
-pub includes_left : (rows : List Row) (a b : ℕ) (places : Bool) (segs : Segments) → Includes rows places a segs → Includes rows places (bit_or a b) segs
+pub includes_left : (rows : List Row) (a b : ℕ) (places : Bool) (segs : Segments) → Includes rows a places segs → Includes rows (bit_or a b) places segs
 includes_left rows a b = includes_more rows rows a (bit_or a b) (λ row i. i) (meets_left a b)
 
-pub includes_right : (rows : List Row) (a b : ℕ) (places : Bool) (segs : Segments) → Includes rows places b segs → Includes rows places (bit_or a b) segs
+pub includes_right : (rows : List Row) (a b : ℕ) (places : Bool) (segs : Segments) → Includes rows b places segs → Includes rows (bit_or a b) places segs
 includes_right rows a b = includes_more rows rows b (bit_or a b) (λ row i. i) (meets_right a b)
 
-all_included : (rows : List Row) (places : Bool) (pending : ℕ) (segs : Segments) → is_whole pending ≡ true → Includes rows places pending segs
+all_included : (rows : List Row) (places : Bool) (pending : ℕ) (segs : Segments) → is_whole pending ≡ true → Includes rows pending places segs
 all_included rows places pending no_segments h = whole_ends places pending h
 all_included rows places pending (segment kind seg rest) h = inl h
 
 -- ---- after a step
-
-pub stays : (rows : List Row) (s : Step) (pending : ℕ) → is_whole pending ≡ true → is_whole (after rows s pending) ≡ true
-stays rows s pending e = rw e whole_one
-
-so_far_met : (rows : List Row) (s : Step) (pending so_far m : ℕ) → meets so_far m ≡ true → meets (after_rows rows s pending so_far) m ≡ true
-so_far_met [] s pending so_far m h = h
-so_far_met (row ∷ rows) s pending so_far m h = elim (cases_Bool (meets pending row.bit)) [
-  | inl e ↦ rw e (so_far_met rows s pending (bit_or so_far (onward row s)) m (meets_left so_far (onward row s) m h))
-  | inr e ↦ rw e (so_far_met rows s pending so_far m h)
-]
-
-row_met : (rows : List Row) (s : Step) (pending so_far m : ℕ) (row : Row) → IsIn row rows → meets pending row.bit ≡ true → meets (onward row s) m ≡ true
-    → meets (after_rows rows s pending so_far) m ≡ true
-row_met [] s pending so_far m row i met h = absurd i
-row_met (first ∷ rows) s pending so_far m row (inl is) met h =
-    let here : meets pending first.bit ≡ true = rw (← is) met in
-    rw here (so_far_met rows s pending (bit_or so_far (onward first s)) m (meets_right so_far (onward first s) m (rw (← is) h)))
-row_met (first ∷ rows) s pending so_far m row (inr i) met h =
-    row_met rows s pending (if meets pending first.bit then bit_or so_far (onward first s) else so_far) m row i met h
 
 -- where a filter asks something, its selector admits each step
 filter_admits : (sels : Selectors) (segs : Segments) (s : Step) → IsIn (query current segs) (queries_in_selectors sels) → any_may_admit (selectors_list sels) s ≡ true
@@ -145,95 +125,86 @@ asked_admits : (seg : Segment) (segs : Segments) (s : Step) → IsIn (query curr
 asked_admits (long_hand sels) segs s h = filter_admits sels segs s h
 asked_admits _ segs s h = absurd h
 
-module _ (rows : List Row) (s : Step) (pending : ℕ) where
-  -- where not all is kept, what is pending by a row is pending after the step
-  from_row : (row : Row) (m : ℕ) → is_whole pending ≡ false → IsIn row rows → meets pending row.bit ≡ true → meets (onward row s) m ≡ true → meets (after rows s pending) m ≡ true
-  from_row row m e i met h = rw e (row_met rows s pending 0 m row i met h)
+next_met : (row : Row) (s : Step) (m : ℕ) → may_admit_by_row row s ≡ true → meets row.next m ≡ true → meets (onward row s) m ≡ true
+next_met row s m may h = rw may (meets_right row.again row.next m h)
 
-  next_met : (row : Row) (m : ℕ) → may_admit_by_row row s ≡ true → meets row.next m ≡ true → meets (onward row s) m ≡ true
-  next_met row m may h = rw may (meets_right row.again row.next m h)
+again_met : (row : Row) (s : Step) (m : ℕ) → meets row.again m ≡ true → meets (onward row s) m ≡ true
+again_met row s m h = elim (cases_Bool (may_admit_by_row row s)) [
+  | inl e ↦ rw e (meets_left row.again row.next m h)
+  | inr e ↦ rw e h
+]
 
-  again_met : (row : Row) (m : ℕ) → meets row.again m ≡ true → meets (onward row s) m ≡ true
-  again_met row m h = elim (cases_Bool (may_admit_by_row row s)) [
-    | inl e ↦ rw e (meets_left row.again row.next m h)
-    | inr e ↦ rw e h
-  ]
+pub all_led : (rows : List Row) (s : Step) (pending : ℕ) → is_whole pending ≡ true → Leads rows s pending 1
+all_led rows s pending whole = record { stays = λ w. whole_one; by_rows = λ row m e i met on. absurd (true≢false (sym whole ∙ e)) }
 
+-- where values are asked at the end of a query, all is kept
+pub whole_asked : (pending : ℕ) → is_end false pending ≡ true → is_whole pending ≡ true
+whole_asked pending h = elim (whole_or_place false pending h) [ inl w ↦ w | inr (is, p) ↦ absurd (true≢false (sym is)) ]
+
+module _ (rows : List Row) (right : AreRight rows) (s : Step) (pending next : ℕ) (leads : Leads rows s pending next) where
   -- what a row's `next` includes is pending where the row's segment may admit the step
-  from_next : (row : Row) (places : Bool) (segs : Segments) → is_whole pending ≡ false → IsIn row rows → meets pending row.bit ≡ true → may_admit_by_row row s ≡ true
-      → Includes rows places row.next segs → Includes rows places (after rows s pending) segs
-  from_next row places segs e i met may = includes_more rows rows row.next (after rows s pending) (λ r j. j) (λ m g. from_row row m e i met (next_met row m may g)) places segs
+  from_next : (row : Row) (places : Bool) (segs : Segments) → is_whole pending ≡ false → IsIn row rows → meets pending row.bit ≡ true → any_may_admit (selectors_of_row row) s ≡ true
+      → Includes rows row.next places segs → Includes rows next places segs
+  from_next row places segs e i met may = includes_more rows rows row.next next (λ r j. j) (λ m g. leads.by_rows row m e i met (next_met row s m ((right row i).named s may) g)) places segs
 
-module _ (rows : List Row) (right : AreRight rows) where
-  goes_on : (places : Bool) (s : Step) (pending : ℕ) (kind : SegmentKind) (seg : Segment) (more : Segments) → Includes rows places pending (segment kind seg more)
-      → any_may_admit (selectors_of seg) s ≡ true → Includes rows places (after rows s pending) more
-  goes_on places s pending kind seg more (inl whole) may = all_included rows places (after rows s pending) more (stays rows s pending whole)
-  goes_on places s pending kind seg more (inr (row, i, enough, met, is)) may = elim (cases_Bool (is_whole pending)) [
-    | inl whole ↦ all_included rows places (after rows s pending) more (stays rows s pending whole)
-    | inr e ↦
-        let here : segment_of_row row ≡ seg = cc in
-        let rest : rest_of_row row ≡ more = cc in
-        let may_row : any_may_admit (selectors_of_row row) s ≡ true = rw here may in
-        from_next rows s pending row places more e i met ((right row i).named s may_row) (rw (← rest, ← enough) (right row i).next.rest)
+  -- what is asked at a child is pending there
+  pub led : AsksLess (Then s (Includes rows pending)) (Includes rows next)
+  led places segs asked = elim (cases_Bool (is_whole pending)) [
+    | inl whole ↦ all_included rows places next segs (leads.stays whole)
+    | inr e ↦ by e asked
   ]
+    where
+      by : is_whole pending ≡ false → Then s (Includes rows pending) places segs → Includes rows next places segs
+      by e (inl (kind, seg, inl whole, may)) = absurd (true≢false (sym whole ∙ e))
+      by e (inl (kind, seg, inr (row, i, enough, met, is), may)) =
+          let here : segment_of_row row ≡ seg = cc in
+          let rest : rest_of_row row ≡ segs = cc in
+          from_next row places segs e i met (rw here may) (rw (← rest, ← enough) (right row i).next.rest)
+      by e (inr (inl (seg, more, is, h))) = rw is (again seg more (rw is at h))
+        where
+          again : (seg : Segment) (more : Segments) → Includes rows pending places (segment descendant seg more) → Includes rows next places (segment descendant seg more)
+          again seg more (inl whole) = absurd (true≢false (sym whole ∙ e))
+          again seg more (inr (row, i, enough, met, is)) =
+              let down : kind_of_row row ≡ descendant = cc in
+              inr (row, i, enough, leads.by_rows row row.bit e i met (again_met row s row.bit ((right row i).again down)), is)
+      by e (inr (inr (is, (ends, kind, seg, more, inl whole, j)))) = absurd (true≢false (sym whole ∙ e))
+      by e (inr (inr (is, (ends, kind, seg, more, inr (row, i, enough, met, same), j)))) =
+          let here : segment_of_row row ≡ seg = cc in
+          let asked : IsIn (query current segs) (queries_in_segment (segment_of_row row)) = rw here j in
+          rw is (from_next row false segs e i met (asked_admits (segment_of_row row) segs s asked) ((right row i).next.asked segs asked))
 
-  asks : (places : Bool) (s : Step) (pending : ℕ) (kind : SegmentKind) (seg : Segment) (more segs : Segments) → Includes rows places pending (segment kind seg more)
-      → IsIn (query current segs) (queries_in_segment seg) → Includes rows false (after rows s pending) segs
-  asks places s pending kind seg more segs (inl whole) j = all_included rows false (after rows s pending) segs (stays rows s pending whole)
-  asks places s pending kind seg more segs (inr (row, i, enough, met, is)) j = elim (cases_Bool (is_whole pending)) [
-    | inl whole ↦ all_included rows false (after rows s pending) segs (stays rows s pending whole)
-    | inr e ↦
-        let here : segment_of_row row ≡ seg = cc in
-        let asked : IsIn (query current segs) (queries_in_segment (segment_of_row row)) = rw here j in
-        from_next rows s pending row false segs e i met ((right row i).named s (asked_admits (segment_of_row row) segs s asked)) ((right row i).next.asked segs asked)
-  ]
-
-  again : (places : Bool) (s : Step) (pending : ℕ) (seg : Segment) (more : Segments) → Includes rows places pending (segment descendant seg more)
-      → Includes rows places (after rows s pending) (segment descendant seg more)
-  again places s pending seg more (inl whole) = inl (stays rows s pending whole)
-  again places s pending seg more (inr (row, i, enough, met, is)) = elim (cases_Bool (is_whole pending)) [
-    | inl whole ↦ inl (stays rows s pending whole)
-    | inr e ↦
-        let down : kind_of_row row ≡ descendant = cc in
-        inr (row, i, enough, from_row rows s pending row row.bit e i met (again_met rows s pending row row.bit ((right row i).again down)), is)
-  ]
-
-  pub leads : Leads (after rows) (Includes rows)
-  leads = record { ends = λ places pending h. h; stays = stays rows; again = again; goes_on = goes_on; asks = asks }
-
--- ---- nothing is kept inside where nothing is pending, or a place alone
-
-after_nothing : (rows : List Row) (s : Step) → after rows s 0 ≡ 0
-after_nothing rows s = rw (nothing_met 1) (by rows)
-  where
-    by : (rows : List Row) → after_rows rows s 0 0 ≡ 0
-    by [] = refl
-    by (row ∷ rows) = rw (nothing_met row.bit) (by rows)
-
-after_place : (rows : List Row) (s : Step) → after rows s 2 ≡ 0
-after_place rows s = rw place_not_whole (by rows)
-  where
-    by : (rows : List Row) → after_rows rows s 2 0 ≡ 0
-    by [] = refl
-    by (row ∷ rows) = rw row.apart (by rows)
+-- ---- where nothing is pending, or a place alone
 
 module _ (rows : List Row) where
-  mutual
-    nothing_inside : (pending : ℕ) → ((s : Step) → after rows s pending ≡ 0) → (d : Data) → inside (after rows) pending d ≡ None
-    nothing_inside pending none (array ds) = rw (nothing_in_items pending none ds 0) refl
-    nothing_inside pending none (object ms) = ap kept_object (nothing_in_members pending none ms)
-    nothing_inside pending none _ = refl
+  pub nothing_pending : AsksNothing (Includes rows 0)
+  nothing_pending places no_segments h = elim (whole_or_place places 0 h) [ inl w ↦ true≢false (sym w ∙ nothing_met 1) | inr (is, p) ↦ true≢false (sym p ∙ nothing_met 2) ]
+  nothing_pending places (segment kind seg more) (inl w) = true≢false (sym w ∙ nothing_met 1)
+  nothing_pending places (segment kind seg more) (inr (row, i, enough, met, is)) = true≢false (sym met ∙ nothing_met row.bit)
 
-    nothing_in_items : (pending : ℕ) → ((s : Step) → after rows s pending ≡ 0) → (ds : Items) (n : ℕ) → any_kept (items_inside (after rows) pending n ds) ≡ false
-    nothing_in_items pending none no_items n = refl
-    nothing_in_items pending none (item d ds) n =
-        rw (none (by_position n), nothing_met 1, nothing_met 2, nothing_inside 0 (after_nothing rows) d) (nothing_in_items pending none ds (suc n))
+  place_alone : (places : Bool) (kind : SegmentKind) (seg : Segment) (more : Segments) → Includes rows 2 places (segment kind seg more) → ⊥
+  place_alone places kind seg more (inl w) = true≢false (sym w ∙ place_not_whole)
+  place_alone places kind seg more (inr (row, i, enough, met, is)) = true≢false (sym met ∙ row.apart)
 
-    nothing_in_members : (pending : ℕ) → ((s : Step) → after rows s pending ≡ 0) → (ms : Members) → members_inside (after rows) pending ms ≡ no_members
-    nothing_in_members pending none no_members = refl
-    nothing_in_members pending none (member k d ms) =
-        rw (none (by_name k), nothing_met 1, nothing_met 2, nothing_inside 0 (after_nothing rows) d) (nothing_in_members pending none ms)
+  then_nothing : (s : Step) → AsksNothing (Then s (Includes rows 2))
+  then_nothing s places segs (inl (kind, seg, h, may)) = place_alone places kind seg segs h
+  then_nothing s places segs (inr (inl (seg, more, is, h))) = place_alone places descendant seg more (rw is at h)
+  then_nothing s places segs (inr (inr (is, (ends, kind, seg, more, h, i)))) = place_alone ends kind seg more h
 
-  pub bare_kept : (pending : ℕ) (d : Data) → (pending ≡ 0) ⊎ (pending ≡ 2) → kept (after rows) pending d ≡ placed pending None
-  bare_kept pending d (inl is) = rw is (kept_not (after rows) 0 d (nothing_inside 0 (after_nothing rows) d) (nothing_met 1))
-  bare_kept pending d (inr is) = rw is (kept_not (after rows) 2 d (nothing_inside 2 (after_place rows) d) place_not_whole)
+  -- what stands for a value of whose children nothing is shown
+  pub stead_shown : (pending : ℕ) (d : Data) → is_whole pending ≡ false → ((s : Step) → Shows (Then s (Includes rows pending)) (child_at d s) None) → Shows (Includes rows pending) (Some d) (in_stead pending)
+  stead_shown pending d e kids = elim (cases_Bool (is_place pending)) [
+    | inl p ↦ rw p (assembled (Includes rows pending) d null kids (λ ends. absurd (true≢false (sym (whole_asked pending ends) ∙ e))) (λ s c to. absurd (none-some c to)))
+    | inr p ↦ rw p (dropped (Includes rows pending) d kids (λ places ends. elim (whole_or_place places pending ends) [ inl w ↦ true≢false (sym w ∙ e) | inr (is, q) ↦ true≢false (sym q ∙ p) ]))
+  ]
+
+  pub bare_shown : (pending : ℕ) (d : Data) → (pending ≡ 0) ⊎ (pending ≡ 2) → Shows (Includes rows pending) (Some d) (in_stead pending)
+  bare_shown pending d (inl is) = rw is (unasked (Includes rows 0) (Some d) (in_stead 0) nothing_pending)
+  bare_shown pending d (inr is) = rw is (stead_shown 2 d place_not_whole (λ s. unasked (Then s (Includes rows 2)) (child_at d s) None (then_nothing s)))
+
+  -- where the whole value is asked, it is what is shown
+  pub whole_shown : (pending : ℕ) (d : Data) (o : Option Data) → is_whole pending ≡ true → Shows (Includes rows pending) (Some d) o → o ≡ Some d
+  whole_shown pending d o w l = let (e, there, values) = l.ends [] false d (whole_ends false pending w) refl in by o e there (values refl)
+    where
+      by : (o : Option Data) (e : Data) → below o [] ≡ Some e → e ≡ d → o ≡ Some d
+      by None e there is = absurd (none-some e there)
+      by (Some x) e there is = there ∙ ap Some is

@@ -1,9 +1,7 @@
--- Queries select the same from what they reach of a document.
-use Rattle.serde_json_path_reach.proofs.Words.{Admits, AdmitsBy, AdmitsIn, AllZip, Answers, AnswersYes, AreArguments, Argument, Arguments, Basic, BelongsTo, Bool, Call, Compared, Data, Derives, Exists, FunctionSet, Holds, HoldsAll, HoldsBasic, HoldsTest, IsArgument, IsComparedAs, IsIn, IsPositionOf, IsResult, IsTakenAs, IsTruthOf, Items, Kind, List, Located, LogicalAnd, LogicalOr, MayDescend, None, NotIf, Operand, Option, Query, Segment, SegmentKind, Segments, Selector, Selectors, Selects, SelectsPlaces, SelectsIndex, SelectsPosition, Some, Step, Term, Triple, [], and, ap, argument, as_array, at, call, called, cases_Bool, child_at, current, dot_name, dot_wildcard, false, filter, in_append, in_place, index, inl, inr, is_end, is_whole, items_len, kept, literal, location_of, logical_argument, long_hand, map, name, no_and, no_arguments, no_or, no_segments, no_selectors, none-some, of_logical, of_nodes, of_value, operand, option_map, or, params_of, paren, queried, queries_in_and, queries_in_argument, queries_in_arguments, queries_in_basic, queries_in_call, queries_in_operand, queries_in_or, queries_in_segment, queries_in_segments, queries_in_selector, queries_in_selectors, queries_of, query, refl, relation, root, same_Some, segment, segments_of, selector, slice, subst, suc, sym, test, true, true≢false, value, wildcard, zero, ℕ, ◌++◌, ◌↔◌, ◌∙◌, ◌∷◌, ◌≡◌, ◌⊎◌}
-use Rattle.serde_json_path_reach.proofs.Ordered.{IsOrdered}
-use Rattle.serde_json_path_reach.proofs.Pending.{Leads, along, at_step, still, admits_any, end_pending}
-use Rattle.serde_json_path_reach.proofs.Rows.{whole_or_place}
-use Rattle.serde_json_path_reach.proofs.Children.{ordered_child, ordered_at, child_kept, child_back, held, at_kept, at_back, array_len, len_kept}
+-- Queries select the same from a value that shows what they ask.
+use Rattle.serde_json_path_reach.proofs.Words.{Admits, AdmitsBy, AdmitsIn, AllZip, Answers, AnswersYes, AreArguments, Argument, Arguments, Basic, BelongsTo, Bool, Call, Compared, Data, Derives, Exists, FunctionSet, Holds, HoldsAll, HoldsBasic, HoldsTest, IsArgument, IsComparedAs, IsIn, IsPositionOf, IsResult, IsTakenAs, IsTruthOf, Items, Kind, List, Located, LogicalAnd, LogicalOr, MayDescend, None, NotIf, Operand, Option, Query, Segment, SegmentKind, Segments, Selector, Selectors, Selects, SelectsIndex, SelectsPlaces, SelectsPosition, Shows, Some, Step, Term, Then, Triple, [], along, and, ap, argument, array_len, as_array, at, call, called, child_at, current, dot_name, dot_wildcard, false, filter, in_append, index, inl, inr, items_len, literal, location_of, logical_argument, long_hand, map, name, no_and, no_arguments, no_or, no_segments, no_selectors, none-some, of_logical, of_nodes, of_value, operand, option_map, or, params_of, paren, queried, queries_in_and, queries_in_argument, queries_in_arguments, queries_in_basic, queries_in_call, queries_in_operand, queries_in_or, queries_in_segment, queries_in_segments, queries_in_selector, queries_in_selectors, queries_of, query, refl, relation, root, same_Some, segment, segments_of, selector, slice, subst, suc, sym, test, true, value, wildcard, zero, ℕ, ◌++◌, ◌↔◌, ◌∙◌, ◌∷◌, ◌≡◌, ◌⊎◌}
+use Rattle.serde_json_path_reach.proofs.Pending.{admits_any, end_asked, still}
+use Rattle.serde_json_path_reach.proofs.Shows.{at_split, at_step, shown_at, shown_child, step_at}
 
 -- ---- facts that hold together
 
@@ -42,26 +40,14 @@ position_same Picks v w s lens (items, is, p, step, picks) =
 
 -- ---- derivations
 
--- where values are asked, a query ends at values that are kept whole
-whole_end : (pending : ℕ) → is_end false pending ≡ true → is_whole pending ≡ true
-whole_end pending h = elim (whole_or_place false pending h) [ inl w ↦ w | inr (is, p) ↦ absurd (true≢false (sym is)) ]
-
-module _ (after : Step → ℕ → ℕ) (Includes : Bool → ℕ → Segments → Type 0) (course : Leads after Includes) (F : FunctionSet) (top : Data) (start : ℕ) where
-  -- what is kept, with null for what is not
-  abbrev shown : ℕ → Data → Data
-  shown pending d = in_place (kept after pending d)
-
-  -- what is reached of the document
-  abbrev base : Data
-  base = shown start top
-
-  -- each `$` query among some is pending at the root
+module _ (F : FunctionSet) (top base : Data) (Root : Bool → Segments → Type 0) where
+  -- each `$` query among some is asked at the root
   abbrev AreAsked : List Query → Type 0
-  AreAsked qs = (segs : Segments) → IsIn (query root segs) qs → Includes false start segs
+  AreAsked qs = (segs : Segments) → IsIn (query root segs) qs → Root false segs
 
   -- and each `@` query at hand
-  abbrev AreAskedAt : ℕ → List Query → Type 0
-  AreAskedAt pending qs = AreAsked qs × ((segs : Segments) → IsIn (query current segs) qs → Includes false pending segs)
+  abbrev AreAskedAt : (Bool → Segments → Type 0) → List Query → Type 0
+  AreAskedAt A qs = AreAsked qs × ((segs : Segments) → IsIn (query current segs) qs → A false segs)
 
   first_asked : (qs rs : List Query) → AreAsked (qs ++ rs) → AreAsked qs
   first_asked qs rs h segs i = h segs ((in_append (query root segs) qs rs).1 (inl i))
@@ -69,234 +55,211 @@ module _ (after : Step → ℕ → ℕ) (Includes : Bool → ℕ → Segments �
   rest_asked : (qs rs : List Query) → AreAsked (qs ++ rs) → AreAsked rs
   rest_asked qs rs h segs i = h segs ((in_append (query root segs) qs rs).1 (inr i))
 
-  first_at : (pending : ℕ) (qs rs : List Query) → AreAskedAt pending (qs ++ rs) → AreAskedAt pending qs
-  first_at pending qs rs h = (first_asked qs rs h.0, λ segs i. h.1 segs ((in_append (query current segs) qs rs).1 (inl i)))
+  first_at : (A : Bool → Segments → Type 0) (qs rs : List Query) → AreAskedAt A (qs ++ rs) → AreAskedAt A qs
+  first_at A qs rs h = (first_asked qs rs h.0, λ segs i. h.1 segs ((in_append (query current segs) qs rs).1 (inl i)))
 
-  rest_at : (pending : ℕ) (qs rs : List Query) → AreAskedAt pending (qs ++ rs) → AreAskedAt pending rs
-  rest_at pending qs rs h = (rest_asked qs rs h.0, λ segs i. h.1 segs ((in_append (query current segs) qs rs).1 (inr i)))
+  rest_at : (A : Bool → Segments → Type 0) (qs rs : List Query) → AreAskedAt A (qs ++ rs) → AreAskedAt A rs
+  rest_at A qs rs h = (rest_asked qs rs h.0, λ segs i. h.1 segs ((in_append (query current segs) qs rs).1 (inr i)))
 
-  -- a step from a value to a child, and from what is kept of the value to what is kept of the child
-  record Linked (pending : ℕ) (v w : Data) (s : Step) (c : Data) : Type 0 where
+  -- a step from a value to a child, and from what shows the value to what shows the child
+  record Linked (A : Bool → Segments → Type 0) (v w : Data) (s : Step) (c e : Data) : Type 0 where
     lens : array_len w ≡ array_len v
     here : child_at v s ≡ Some c
-    there : child_at w s ≡ Some (shown pending c)
-    ordered : IsOrdered c
-
-  -- where a query may end, the value is kept, or its place
-  end_kept : (places : Bool) (pending : ℕ) (c : Data) → is_end places pending ≡ true → kept after pending c ≡ Some (shown pending c)
-  end_kept places pending c h = elim (cases_Bool (is_whole pending)) [
-    | inl w ↦ rw w refl
-    | inr e ↦ elim (whole_or_place places pending h) [ inl w ↦ rw w refl | inr (is, p) ↦ rw (e, p) refl ]
-  ]
-
-  -- where a pending query goes on, something is kept
-  is_kept : (places : Bool) (more : Segments) (pending : ℕ) (c : Data) (xs : List Triple) → Includes places pending more → Derives F base more (shown pending c) xs
-      → kept after pending c ≡ Some (shown pending c)
-  is_kept places no_segments pending c xs i h = end_kept places pending c (course.ends places pending i)
-  is_kept places (segment kind seg more) pending c [] i h = absurd h
-  is_kept places (segment kind seg more) pending c (x ∷ xs) i (may, (d, down, admits, (e, leads, rest))) = above x.descent x.step (kept after pending c) d e down leads
-    where
-      above : (descent : List Step) (s : Step) (o : Option Data) (d e : Data) → at (in_place o) descent ≡ Some d → child_at d s ≡ Some e → o ≡ Some (in_place o)
-      above [] s o d e down leads = held o s [] e (at_step s (in_place o) e (rw (same_Some (in_place o) d down) leads))
-      above (t ∷ descent) s o d e down leads = held o t descent d down
+    there : child_at w s ≡ Some e
+    shown : Shows A (Some c) (Some e)
 
   -- what a query's result is, where its derivations are the same
-  result_same : (segs : Segments) (pending : ℕ) (v : Data) (ns : List Located) → Includes false pending segs
-      → ((xs : List Triple) → Derives F top segs v xs ↔ Derives F base segs (shown pending v) xs)
-      → IsResult F top (query current segs) v ns ↔ IsResult F base (query current segs) (shown pending v) ns
-  result_same segs pending v ns i same =
-      let ends = λ (xs : List Triple) (h : Derives F top segs v xs). ends_same segs pending v xs i h in (
-        λ h. (
-          h.0,
-          h.1,
-          λ xs. ((λ g. (same xs).0 ((h.2 xs).0 g)), (λ g. (h.2 xs).1 ((same xs).1 g))),
-          zip_same (BelongsTo v) (BelongsTo (shown pending v)) h.0 ns (λ xs n g b. (b.0, sym (at_end xs n ((h.2 xs).0 g) b.0) ∙ b.1)) h.3,
-        ),
-        λ h. (
-          h.0,
-          h.1,
-          λ xs. ((λ g. (same xs).1 ((h.2 xs).0 g)), (λ g. (h.2 xs).1 ((same xs).0 g))),
-          zip_same (BelongsTo (shown pending v)) (BelongsTo v) h.0 ns (λ xs n g b. (b.0, at_end xs n ((same xs).1 ((h.2 xs).0 g)) b.0 ∙ b.1)) h.3,
-        ),
-      )
+  result_same : (segs : Segments) (A : Bool → Segments → Type 0) (v w : Data) (ns : List Located) → A false segs → Shows A (Some v) (Some w)
+      → ((xs : List Triple) → Derives F top segs v xs ↔ Derives F base segs w xs)
+      → IsResult F top (query current segs) v ns ↔ IsResult F base (query current segs) w ns
+  result_same segs A v w ns asked l same = (
+    λ h. (
+      h.0,
+      h.1,
+      λ xs. ((λ g. (same xs).0 ((h.2 xs).0 g)), (λ g. (h.2 xs).1 ((same xs).1 g))),
+      zip_same (BelongsTo v) (BelongsTo w) h.0 ns (λ xs n g b. (b.0, sym (at_end xs n ((h.2 xs).0 g) b.0) ∙ b.1)) h.3,
+    ),
+    λ h. (
+      h.0,
+      h.1,
+      λ xs. ((λ g. (same xs).1 ((h.2 xs).0 g)), (λ g. (h.2 xs).1 ((same xs).0 g))),
+      zip_same (BelongsTo w) (BelongsTo v) h.0 ns (λ xs n g b. (b.0, at_end xs n ((same xs).1 ((h.2 xs).0 g)) b.0 ∙ b.1)) h.3,
+    ),
+  )
     where
-      ends_same : (segs : Segments) (pending : ℕ) (v : Data) (xs : List Triple) → Includes false pending segs → Derives F top segs v xs → at v (location_of xs) ≡ at (shown pending v) (location_of xs)
-      ends_same segs pending v xs i h =
-          let (c, there, ends) = end_pending after Includes course false F top segs pending v xs i h in
-          let whole = whole_end (along after (location_of xs) pending) ends in
-          there ∙ sym (at_kept after course.stays (location_of xs) pending v c c there (rw whole refl))
+      at_end : (xs : List Triple) (n : Located) → Derives F top segs v xs → n.location ≡ location_of xs → at v n.location ≡ at w n.location
+      at_end xs n h e =
+          let (c, there, ends) = end_asked F top false segs A v xs asked h in
+          let (x, shown, values) = l.ends (location_of xs) false c ends there in
+          rw e (there ∙ sym (shown ∙ ap Some (values refl)))
 
-      at_end : (xs : List Triple) (n : Located) → Derives F top segs v xs → n.location ≡ location_of xs → at v n.location ≡ at (shown pending v) n.location
-      at_end xs n h e = rw e (ends_same segs pending v xs i h)
-
-  step_same : (places : Bool) (kind : SegmentKind) (seg : Segment) (more : Segments) (pending : ℕ) (v : Data) (x : Triple) (xs : List Triple)
-      → AreAsked (queries_in_segment seg) → Includes places pending (segment kind seg more) → IsOrdered v
-      → ((next : ℕ) (c : Data) → Includes places next more → IsOrdered c → Derives F top more c xs ↔ Derives F base more (shown next c) xs)
-      → ((next : ℕ) (d w c : Data) → AreAskedAt next (queries_in_segment seg) → Linked next d w x.step c
-      → AdmitsIn F top seg x.number d x.step ↔ AdmitsIn F base seg x.number w x.step)
-      → Derives F top (segment kind seg more) v (x ∷ xs) ↔ Derives F base (segment kind seg more) (shown pending v) (x ∷ xs)
-  step_same places kind seg more pending v x xs asks i o same admit = (forward, back)
+  step_same : (places : Bool) (kind : SegmentKind) (seg : Segment) (more : Segments) (A : Bool → Segments → Type 0) (v w : Data) (x : Triple) (xs : List Triple)
+      → AreAsked (queries_in_segment seg) → A places (segment kind seg more) → Shows A (Some v) (Some w)
+      → ((B : Bool → Segments → Type 0) (c e : Data) → B places more → Shows B (Some c) (Some e) → Derives F top more c xs ↔ Derives F base more e xs)
+      → ((B : Bool → Segments → Type 0) (d u c e : Data) → AreAskedAt B (queries_in_segment seg) → Linked B d u x.step c e
+      → AdmitsIn F top seg x.number d x.step ↔ AdmitsIn F base seg x.number u x.step)
+      → Derives F top (segment kind seg more) v (x ∷ xs) ↔ Derives F base (segment kind seg more) w (x ∷ xs)
+  step_same places kind seg more A v w x xs asks i l same admit = (forward, back)
     where
-      here : ℕ
-      here = along after x.descent pending
+      Here : Bool → Segments → Type 0
+      Here = along x.descent A
 
-      next : ℕ
-      next = after x.step here
+      Next : Bool → Segments → Type 0
+      Next = Then x.step Here
 
-      asks_next : Includes places here (segment kind seg more) → AreAskedAt next (queries_in_segment seg)
-      asks_next now = (asks, λ segs j. course.asks places x.step here kind seg more segs now j)
+      now : MayDescend kind x.descent → Here places (segment kind seg more)
+      now may = still kind seg more x.descent A places may i
 
-      link : (d c : Data) → IsOrdered d → child_at d x.step ≡ Some c → kept after next c ≡ Some (shown next c) → Linked next d (shown here d) x.step c × (kept after here d ≡ Some (shown here d))
-      link d c od leads keeps =
-          let leads' = child_kept after course.stays here d x.step c (shown next c) leads keeps in
-          let stands = held (kept after here d) x.step [] (shown next c) (at_step x.step (shown here d) (shown next c) leads') in
-          (record { lens = len_kept after course.stays here d x.step (shown next c) leads'; here = leads; there = leads'; ordered = ordered_child d x.step c od leads }, stands)
+      asks_next : Here places (segment kind seg more) → AreAskedAt Next (queries_in_segment seg)
+      asks_next h = (asks, λ segs j. inr (inr (refl, (places, kind, seg, more, h, j))))
 
-      forward : Derives F top (segment kind seg more) v (x ∷ xs) → Derives F base (segment kind seg more) (shown pending v) (x ∷ xs)
+      link : (d u c e : Data) → Here places (segment kind seg more) → at v x.descent ≡ Some d → at w x.descent ≡ Some u → child_at d x.step ≡ Some c → child_at u x.step ≡ Some e
+          → Linked Next d u x.step c e
+      link d u c e h down there leads to =
+          let here = shown_at x.descent A v w d u l down there in
+          record { lens = here.lens [] places (segment kind seg more) d u e x.step h refl refl to; here = leads; there = to; shown = shown_child Here d u x.step c e here leads to }
+
+      forward : Derives F top (segment kind seg more) v (x ∷ xs) → Derives F base (segment kind seg more) w (x ∷ xs)
       forward (may, (d, down, admits, (c, leads, rest))) =
-          let now = still after Includes course places kind seg more x.descent pending may i in
-          let od = ordered_at v x.descent d o down in
-          let later = course.goes_on places x.step here kind seg more now (admits_any F top seg x.number d x.step admits) in
-          let below = (same next c later (ordered_child d x.step c od leads)).0 rest in
-          let (l, stands) = link d c od leads (is_kept places more next c xs later below) in
-          (may, (shown here d, at_kept after course.stays x.descent pending v d (shown here d) down stands, (admit next d (shown here d) c (asks_next now) l).0 admits, (shown next c, l.there, below)))
+          let (z, stands, ends) = end_asked F top places (segment kind seg more) A v (x ∷ xs) i (may, (d, down, admits, (c, leads, rest))) in
+          let (y, shown, values) = l.ends (location_of (x ∷ xs)) places z ends stands in
+          let (b, at_child, later) = at_split (x.descent ++ x.step ∷ []) (location_of xs) w y shown in
+          let (u, there, at_b) = at_split x.descent (x.step ∷ []) w b at_child in
+          let k = link d u c b (now may) down there leads (step_at x.step u b at_b) in
+          let next = inl (kind, seg, now may, admits_any F top seg x.number d x.step admits) in
+          (may, (u, there, (admit Next d u c b (asks_next (now may)) k).0 admits, (b, k.there, (same Next c b next k.shown).0 rest)))
 
-      back_from : (d c : Data) → MayDescend kind x.descent → at v x.descent ≡ Some d → child_at d x.step ≡ Some c → AdmitsIn F base seg x.number (shown here d) x.step
-          → Derives F base more (shown next c) xs → Derives F top (segment kind seg more) v (x ∷ xs)
-      back_from d c may down leads admits rest =
-          let now = still after Includes course places kind seg more x.descent pending may i in
-          let od = ordered_at v x.descent d o down in
-          let later = course.goes_on places x.step here kind seg more now (admits_any F base seg x.number (shown here d) x.step admits) in
-          let (l, stands) = link d c od leads (is_kept places more next c xs later rest) in
-          (may, (d, down, (admit next d (shown here d) c (asks_next now) l).1 admits, (c, leads, (same next c later l.ordered).1 rest)))
+      back : Derives F base (segment kind seg more) w (x ∷ xs) → Derives F top (segment kind seg more) v (x ∷ xs)
+      back (may, (u, there, admits, (e, to, rest))) =
+          let (d, down) = l.back x.descent places (segment kind seg more) u (now may) there in
+          let here = shown_at x.descent A v w d u l down there in
+          let next = inl (kind, seg, now may, admits_any F base seg x.number u x.step admits) in
+          let (c, at_c) = here.back (x.step ∷ []) places more e next (at_step x.step u e to) in
+          let leads = step_at x.step d c at_c in
+          let k = link d u c e (now may) down there leads to in
+          (may, (d, down, (admit Next d u c e (asks_next (now may)) k).1 admits, (c, leads, (same Next c e next k.shown).1 rest)))
 
-      back : Derives F base (segment kind seg more) (shown pending v) (x ∷ xs) → Derives F top (segment kind seg more) v (x ∷ xs)
-      back (may, (w, down, admits, (e, leads, rest))) =
-          let (d, there, is) = at_back after course.stays x.descent pending v w o down in
-          let (c, below, as_kept) = child_back after course.stays here d x.step e (ordered_at v x.descent d o there) (rw is at leads) in
-          back_from d c may there below (rw is at admits) (rw as_kept at rest)
+  answers_yes : (c : Call) (v w : Data) → ((t : Term) → Answers F top c v t ↔ Answers F base c w t)
+      → ((t : Term) × Answers F top c v t × AnswersYes t) ↔ ((t : Term) × Answers F base c w t × AnswersYes t)
+  answers_yes c v w same = (λ h. (h.0, (same h.0).0 h.1, h.2), λ h. (h.0, (same h.0).1 h.1, h.2))
 
-  answers_yes : (c : Call) (pending : ℕ) (v : Data) → ((t : Term) → Answers F top c v t ↔ Answers F base c (shown pending v) t)
-      → ((t : Term) × Answers F top c v t × AnswersYes t) ↔ ((t : Term) × Answers F base c (shown pending v) t × AnswersYes t)
-  answers_yes c pending v same = (λ h. (h.0, (same h.0).0 h.1, h.2), λ h. (h.0, (same h.0).1 h.1, h.2))
-
-  module _ (ordered : IsOrdered top) where
+  module _ (root_shown : Shows Root (Some top) (Some base)) where
     mutual
-      derives : (places : Bool) (segs : Segments) (pending : ℕ) (v : Data) (xs : List Triple) → AreAsked (queries_in_segments segs) → Includes places pending segs → IsOrdered v
-          → Derives F top segs v xs ↔ Derives F base segs (shown pending v) xs
-      derives places no_segments pending v xs asks i o = (λ h. h, λ h. h)
-      derives places (segment kind seg more) pending v [] asks i o = (λ h. h, λ h. h)
-      derives places (segment kind seg more) pending v (x ∷ xs) asks i o =
-          step_same places kind seg more pending v x xs (first_asked (queries_in_segment seg) (queries_in_segments more) asks) i o
-          (λ next c. derives places more next c xs (rest_asked (queries_in_segment seg) (queries_in_segments more) asks))
-          (λ next d w c. admits_in seg x.number next d w x.step c)
+      derives : (places : Bool) (segs : Segments) (A : Bool → Segments → Type 0) (v w : Data) (xs : List Triple) → AreAsked (queries_in_segments segs) → A places segs → Shows A (Some v) (Some w)
+          → Derives F top segs v xs ↔ Derives F base segs w xs
+      derives places no_segments A v w xs asks i l = (λ h. h, λ h. h)
+      derives places (segment kind seg more) A v w [] asks i l = (λ h. h, λ h. h)
+      derives places (segment kind seg more) A v w (x ∷ xs) asks i l =
+          step_same places kind seg more A v w x xs (first_asked (queries_in_segment seg) (queries_in_segments more) asks) i l
+          (λ B c e. derives places more B c e xs (rest_asked (queries_in_segment seg) (queries_in_segments more) asks))
+          (λ B d u c e. admits_in seg x.number B d u x.step c e)
 
-      admits_in : (seg : Segment) (n : ℕ) (pending : ℕ) (v w : Data) (s : Step) (c : Data) → AreAskedAt pending (queries_in_segment seg) → Linked pending v w s c
+      admits_in : (seg : Segment) (n : ℕ) (A : Bool → Segments → Type 0) (v w : Data) (s : Step) (c e : Data) → AreAskedAt A (queries_in_segment seg) → Linked A v w s c e
           → AdmitsIn F top seg n v s ↔ AdmitsIn F base seg n w s
-      admits_in (dot_name k) n pending v w s c asks l = (λ h. h, λ h. h)
-      admits_in dot_wildcard n pending v w s c asks l = (λ h. h, λ h. h)
-      admits_in (long_hand sels) n pending v w s c asks l = admits_by sels n pending v w s c asks l
+      admits_in (dot_name k) n A v w s c e asks l = (λ h. h, λ h. h)
+      admits_in dot_wildcard n A v w s c e asks l = (λ h. h, λ h. h)
+      admits_in (long_hand sels) n A v w s c e asks l = admits_by sels n A v w s c e asks l
 
-      admits_by : (sels : Selectors) (n : ℕ) (pending : ℕ) (v w : Data) (s : Step) (c : Data) → AreAskedAt pending (queries_in_selectors sels) → Linked pending v w s c
+      admits_by : (sels : Selectors) (n : ℕ) (A : Bool → Segments → Type 0) (v w : Data) (s : Step) (c e : Data) → AreAskedAt A (queries_in_selectors sels) → Linked A v w s c e
           → AdmitsBy F top sels n v s ↔ AdmitsBy F base sels n w s
-      admits_by no_selectors n pending v w s c asks l = (λ h. h, λ h. h)
-      admits_by (selector sel more) zero pending v w s c asks l = admits sel pending v w s c (first_at pending (queries_in_selector sel) (queries_in_selectors more) asks) l
-      admits_by (selector sel more) (suc n) pending v w s c asks l = admits_by more n pending v w s c (rest_at pending (queries_in_selector sel) (queries_in_selectors more) asks) l
+      admits_by no_selectors n A v w s c e asks l = (λ h. h, λ h. h)
+      admits_by (selector sel more) zero A v w s c e asks l = admits sel A v w s c e (first_at A (queries_in_selector sel) (queries_in_selectors more) asks) l
+      admits_by (selector sel more) (suc n) A v w s c e asks l = admits_by more n A v w s c e (rest_at A (queries_in_selector sel) (queries_in_selectors more) asks) l
 
-      admits : (sel : Selector) (pending : ℕ) (v w : Data) (s : Step) (c : Data) → AreAskedAt pending (queries_in_selector sel) → Linked pending v w s c
+      admits : (sel : Selector) (A : Bool → Segments → Type 0) (v w : Data) (s : Step) (c e : Data) → AreAskedAt A (queries_in_selector sel) → Linked A v w s c e
           → Admits F top sel v s ↔ Admits F base sel w s
-      admits (name k) pending v w s c asks l = (λ h. h, λ h. h)
-      admits wildcard pending v w s c asks l = (λ h. h, λ h. h)
-      admits (index j) pending v w s c asks l = (position_same (SelectsIndex j) v w s l.lens, position_same (SelectsIndex j) w v s (sym l.lens))
-      admits (slice r) pending v w s c asks l = (position_same (SelectsPosition r) v w s l.lens, position_same (SelectsPosition r) w v s (sym l.lens))
-      admits (filter e) pending v w s c asks l =
-          let same = holds e pending c asks l.ordered in (
-            λ h. (shown pending c, l.there, same.0 (subst (Holds F top e) (same_Some h.0 c (sym h.1 ∙ l.here)) h.2)),
-            λ h. (c, l.here, same.1 (subst (Holds F base e) (same_Some h.0 (shown pending c) (sym h.1 ∙ l.there)) h.2)),
+      admits (name k) A v w s c e asks l = (λ h. h, λ h. h)
+      admits wildcard A v w s c e asks l = (λ h. h, λ h. h)
+      admits (index j) A v w s c e asks l = (position_same (SelectsIndex j) v w s l.lens, position_same (SelectsIndex j) w v s (sym l.lens))
+      admits (slice r) A v w s c e asks l = (position_same (SelectsPosition r) v w s l.lens, position_same (SelectsPosition r) w v s (sym l.lens))
+      admits (filter f) A v w s c e asks l =
+          let same = holds f A c e asks l.shown in (
+            λ h. (e, l.there, same.0 (subst (Holds F top f) (same_Some h.0 c (sym h.1 ∙ l.here)) h.2)),
+            λ h. (c, l.here, same.1 (subst (Holds F base f) (same_Some h.0 e (sym h.1 ∙ l.there)) h.2)),
           )
 
-      holds : (e : LogicalOr) (pending : ℕ) (v : Data) → AreAskedAt pending (queries_in_or e) → IsOrdered v → Holds F top e v ↔ Holds F base e (shown pending v)
-      holds no_or pending v asks o = (λ h. h, λ h. h)
-      holds (or a more) pending v asks o =
-          either_same (holds_all a pending v (first_at pending (queries_in_and a) (queries_in_or more) asks) o) (holds more pending v (rest_at pending (queries_in_and a) (queries_in_or more) asks) o)
+      holds : (e : LogicalOr) (A : Bool → Segments → Type 0) (v w : Data) → AreAskedAt A (queries_in_or e) → Shows A (Some v) (Some w) → Holds F top e v ↔ Holds F base e w
+      holds no_or A v w asks l = (λ h. h, λ h. h)
+      holds (or a more) A v w asks l =
+          either_same (holds_all a A v w (first_at A (queries_in_and a) (queries_in_or more) asks) l) (holds more A v w (rest_at A (queries_in_and a) (queries_in_or more) asks) l)
 
-      holds_all : (a : LogicalAnd) (pending : ℕ) (v : Data) → AreAskedAt pending (queries_in_and a) → IsOrdered v → HoldsAll F top a v ↔ HoldsAll F base a (shown pending v)
-      holds_all no_and pending v asks o = (λ h. h, λ h. h)
-      holds_all (and b more) pending v asks o =
-          both_same (holds_basic b pending v (first_at pending (queries_in_basic b) (queries_in_and more) asks) o) (holds_all more pending v (rest_at pending (queries_in_basic b) (queries_in_and more) asks) o)
+      holds_all : (a : LogicalAnd) (A : Bool → Segments → Type 0) (v w : Data) → AreAskedAt A (queries_in_and a) → Shows A (Some v) (Some w) → HoldsAll F top a v ↔ HoldsAll F base a w
+      holds_all no_and A v w asks l = (λ h. h, λ h. h)
+      holds_all (and b more) A v w asks l =
+          both_same (holds_basic b A v w (first_at A (queries_in_basic b) (queries_in_and more) asks) l) (holds_all more A v w (rest_at A (queries_in_basic b) (queries_in_and more) asks) l)
 
-      holds_basic : (b : Basic) (pending : ℕ) (v : Data) → AreAskedAt pending (queries_in_basic b) → IsOrdered v → HoldsBasic F top b v ↔ HoldsBasic F base b (shown pending v)
-      holds_basic (paren negated e) pending v asks o = not_if_same negated (holds e pending v asks o)
-      holds_basic (relation a op b) pending v asks o =
-          let one = λ (x : Compared). compared a pending v x (first_at pending (queries_in_operand a) (queries_in_operand b) asks) o in
-          let two = λ (x : Compared). compared b pending v x (rest_at pending (queries_in_operand a) (queries_in_operand b) asks) o in (
+      holds_basic : (b : Basic) (A : Bool → Segments → Type 0) (v w : Data) → AreAskedAt A (queries_in_basic b) → Shows A (Some v) (Some w) → HoldsBasic F top b v ↔ HoldsBasic F base b w
+      holds_basic (paren negated e) A v w asks l = not_if_same negated (holds e A v w asks l)
+      holds_basic (relation a op b) A v w asks l =
+          let one = λ (x : Compared). compared a A v w x (first_at A (queries_in_operand a) (queries_in_operand b) asks) l in
+          let two = λ (x : Compared). compared b A v w x (rest_at A (queries_in_operand a) (queries_in_operand b) asks) l in (
             λ h. (h.0, h.1, (one h.0).0 h.2, (two h.1).0 h.3, h.4),
             λ h. (h.0, h.1, (one h.0).1 h.2, (two h.1).1 h.3, h.4),
           )
-      holds_basic (test negated t) pending v asks o = not_if_same negated (holds_test t pending v asks o)
+      holds_basic (test negated t) A v w asks l = not_if_same negated (holds_test t A v w asks l)
 
-      holds_test : (t : Operand) (pending : ℕ) (v : Data) → AreAskedAt pending (queries_in_operand t) → IsOrdered v → HoldsTest F top t v ↔ HoldsTest F base t (shown pending v)
-      holds_test (literal l) pending v asks o = (λ h. h, λ h. h)
-      holds_test (queried q) pending v asks o = exists q pending v asks o
-      holds_test (called c) pending v asks o = answers_yes c pending v (λ t. answers c pending v t asks o)
+      holds_test : (t : Operand) (A : Bool → Segments → Type 0) (v w : Data) → AreAskedAt A (queries_in_operand t) → Shows A (Some v) (Some w) → HoldsTest F top t v ↔ HoldsTest F base t w
+      holds_test (literal own) A v w asks l = (λ h. h, λ h. h)
+      holds_test (queried q) A v w asks l = exists q A v w asks l
+      holds_test (called c) A v w asks l = answers_yes c v w (λ t. answers c A v w t asks l)
 
-      exists : (q : Query) (pending : ℕ) (v : Data) → AreAskedAt pending (queries_of q) → IsOrdered v → Exists F top q v ↔ Exists F base q (shown pending v)
-      exists (query root segs) pending v asks o =
-          let same = λ (xs : List Triple). derives false segs start top xs (λ s i. asks.0 s (inr i)) (asks.0 segs (inl refl)) ordered in
+      exists : (q : Query) (A : Bool → Segments → Type 0) (v w : Data) → AreAskedAt A (queries_of q) → Shows A (Some v) (Some w) → Exists F top q v ↔ Exists F base q w
+      exists (query root segs) A v w asks l =
+          let same = λ (xs : List Triple). derives false segs Root top base xs (λ s i. asks.0 s (inr i)) (asks.0 segs (inl refl)) root_shown in
           (λ h. (h.0, (same h.0).0 h.1), λ h. (h.0, (same h.0).1 h.1))
-      exists (query current segs) pending v asks o =
-          let same = λ (xs : List Triple). derives false segs pending v xs (λ s i. asks.0 s (inr i)) (asks.1 segs (inl refl)) o in
+      exists (query current segs) A v w asks l =
+          let same = λ (xs : List Triple). derives false segs A v w xs (λ s i. asks.0 s (inr i)) (asks.1 segs (inl refl)) l in
           (λ h. (h.0, (same h.0).0 h.1), λ h. (h.0, (same h.0).1 h.1))
 
-      result : (q : Query) (pending : ℕ) (v : Data) (ns : List Located) → AreAskedAt pending (queries_of q) → IsOrdered v
-          → IsResult F top q v ns ↔ IsResult F base q (shown pending v) ns
-      result (query root segs) pending v ns asks o =
-          result_same segs start top ns (asks.0 segs (inl refl)) (λ xs. derives false segs start top xs (λ s i. asks.0 s (inr i)) (asks.0 segs (inl refl)) ordered)
-      result (query current segs) pending v ns asks o =
-          result_same segs pending v ns (asks.1 segs (inl refl)) (λ xs. derives false segs pending v xs (λ s i. asks.0 s (inr i)) (asks.1 segs (inl refl)) o)
+      result : (q : Query) (A : Bool → Segments → Type 0) (v w : Data) (ns : List Located) → AreAskedAt A (queries_of q) → Shows A (Some v) (Some w)
+          → IsResult F top q v ns ↔ IsResult F base q w ns
+      result (query root segs) A v w ns asks l =
+          result_same segs Root top base ns (asks.0 segs (inl refl)) root_shown (λ xs. derives false segs Root top base xs (λ s i. asks.0 s (inr i)) (asks.0 segs (inl refl)) root_shown)
+      result (query current segs) A v w ns asks l =
+          result_same segs A v w ns (asks.1 segs (inl refl)) l (λ xs. derives false segs A v w xs (λ s i. asks.0 s (inr i)) (asks.1 segs (inl refl)) l)
 
-      compared : (a : Operand) (pending : ℕ) (v : Data) (x : Compared) → AreAskedAt pending (queries_in_operand a) → IsOrdered v
-          → IsComparedAs F top a v x ↔ IsComparedAs F base a (shown pending v) x
-      compared (literal l) pending v x asks o = (λ h. h, λ h. h)
-      compared (queried q) pending v x asks o =
-          let same = λ (ns : List Located). result q pending v ns asks o in
+      compared : (a : Operand) (A : Bool → Segments → Type 0) (v w : Data) (x : Compared) → AreAskedAt A (queries_in_operand a) → Shows A (Some v) (Some w)
+          → IsComparedAs F top a v x ↔ IsComparedAs F base a w x
+      compared (literal own) A v w x asks l = (λ h. h, λ h. h)
+      compared (queried q) A v w x asks l =
+          let same = λ (ns : List Located). result q A v w ns asks l in
           (λ h. (h.0, (same h.0).0 h.1, h.2), λ h. (h.0, (same h.0).1 h.1, h.2))
-      compared (called c) pending v x asks o =
-          let same = λ (t : Term). answers c pending v t asks o in
+      compared (called c) A v w x asks l =
+          let same = λ (t : Term). answers c A v w t asks l in
           (λ h. (h.0, (same (value h.0)).0 h.1, h.2), λ h. (h.0, (same (value h.0)).1 h.1, h.2))
 
-      answers : (c : Call) (pending : ℕ) (v : Data) (t : Term) → AreAskedAt pending (queries_in_call c) → IsOrdered v
-          → Answers F top c v t ↔ Answers F base c (shown pending v) t
-      answers (call f args) pending v t asks o =
-          let same = λ (ts : List Term). arguments args (params_of (F.signature f)) pending v ts asks o in
+      answers : (c : Call) (A : Bool → Segments → Type 0) (v w : Data) (t : Term) → AreAskedAt A (queries_in_call c) → Shows A (Some v) (Some w)
+          → Answers F top c v t ↔ Answers F base c w t
+      answers (call f args) A v w t asks l =
+          let same = λ (ts : List Term). arguments args (params_of (F.signature f)) A v w ts asks l in
           (λ h. (h.0, (same h.0).0 h.1, h.2), λ h. (h.0, (same h.0).1 h.1, h.2))
 
-      arguments : (args : Arguments) (kinds : List Kind) (pending : ℕ) (v : Data) (ts : List Term) → AreAskedAt pending (queries_in_arguments args) → IsOrdered v
-          → AreArguments F top args kinds v ts ↔ AreArguments F base args kinds (shown pending v) ts
-      arguments no_arguments kinds pending v ts asks o = (λ h. h, λ h. h)
-      arguments (argument a more) (kind ∷ kinds) pending v (t ∷ ts) asks o =
-          both_same (as_argument a kind pending v t (first_at pending (queries_in_argument a) (queries_in_arguments more) asks) o)
-          (arguments more kinds pending v ts (rest_at pending (queries_in_argument a) (queries_in_arguments more) asks) o)
-      arguments (argument a more) [] pending v ts asks o = (λ h. h, λ h. h)
-      arguments (argument a more) (kind ∷ kinds) pending v [] asks o = (λ h. h, λ h. h)
+      arguments : (args : Arguments) (kinds : List Kind) (A : Bool → Segments → Type 0) (v w : Data) (ts : List Term) → AreAskedAt A (queries_in_arguments args) → Shows A (Some v) (Some w)
+          → AreArguments F top args kinds v ts ↔ AreArguments F base args kinds w ts
+      arguments no_arguments kinds A v w ts asks l = (λ h. h, λ h. h)
+      arguments (argument a more) (kind ∷ kinds) A v w (t ∷ ts) asks l =
+          both_same (as_argument a kind A v w t (first_at A (queries_in_argument a) (queries_in_arguments more) asks) l)
+          (arguments more kinds A v w ts (rest_at A (queries_in_argument a) (queries_in_arguments more) asks) l)
+      arguments (argument a more) [] A v w ts asks l = (λ h. h, λ h. h)
+      arguments (argument a more) (kind ∷ kinds) A v w [] asks l = (λ h. h, λ h. h)
 
-      as_argument : (a : Argument) (kind : Kind) (pending : ℕ) (v : Data) (t : Term) → AreAskedAt pending (queries_in_argument a) → IsOrdered v
-          → IsArgument F top a kind v t ↔ IsArgument F base a kind (shown pending v) t
-      as_argument (operand x) kind pending v t asks o = taken x kind pending v t asks o
-      as_argument (logical_argument e) kind pending v t asks o = truth_same t (holds e pending v asks o)
+      as_argument : (a : Argument) (kind : Kind) (A : Bool → Segments → Type 0) (v w : Data) (t : Term) → AreAskedAt A (queries_in_argument a) → Shows A (Some v) (Some w)
+          → IsArgument F top a kind v t ↔ IsArgument F base a kind w t
+      as_argument (operand x) kind A v w t asks l = taken x kind A v w t asks l
+      as_argument (logical_argument e) kind A v w t asks l = truth_same t (holds e A v w asks l)
 
-      taken : (a : Operand) (kind : Kind) (pending : ℕ) (v : Data) (t : Term) → AreAskedAt pending (queries_in_operand a) → IsOrdered v
-          → IsTakenAs F top a kind v t ↔ IsTakenAs F base a kind (shown pending v) t
-      taken (literal l) kind pending v t asks o = (λ h. h, λ h. h)
-      taken (queried q) of_value pending v t asks o =
-          let same = λ (ns : List Located). result q pending v ns asks o in (λ h. (h.0, (same h.0).0 h.1, h.2), λ h. (h.0, (same h.0).1 h.1, h.2))
-      taken (queried q) of_nodes pending v t asks o =
-          let same = λ (ns : List Located). result q pending v ns asks o in (λ h. (h.0, (same h.0).0 h.1, h.2), λ h. (h.0, (same h.0).1 h.1, h.2))
-      taken (queried q) of_logical pending v t asks o = truth_same t (exists q pending v asks o)
-      taken (called c) of_value pending v t asks o = answers c pending v t asks o
-      taken (called c) of_nodes pending v t asks o = answers c pending v t asks o
-      taken (called c) of_logical pending v t asks o =
-          let same = λ (u : Term). answers c pending v u asks o in (λ h. (h.0, (same h.0).0 h.1, h.2), λ h. (h.0, (same h.0).1 h.1, h.2))
+      taken : (a : Operand) (kind : Kind) (A : Bool → Segments → Type 0) (v w : Data) (t : Term) → AreAskedAt A (queries_in_operand a) → Shows A (Some v) (Some w)
+          → IsTakenAs F top a kind v t ↔ IsTakenAs F base a kind w t
+      taken (literal own) kind A v w t asks l = (λ h. h, λ h. h)
+      taken (queried q) of_value A v w t asks l =
+          let same = λ (ns : List Located). result q A v w ns asks l in (λ h. (h.0, (same h.0).0 h.1, h.2), λ h. (h.0, (same h.0).1 h.1, h.2))
+      taken (queried q) of_nodes A v w t asks l =
+          let same = λ (ns : List Located). result q A v w ns asks l in (λ h. (h.0, (same h.0).0 h.1, h.2), λ h. (h.0, (same h.0).1 h.1, h.2))
+      taken (queried q) of_logical A v w t asks l = truth_same t (exists q A v w asks l)
+      taken (called c) of_value A v w t asks l = answers c A v w t asks l
+      taken (called c) of_nodes A v w t asks l = answers c A v w t asks l
+      taken (called c) of_logical A v w t asks l =
+          let same = λ (u : Term). answers c A v w u asks l in (λ h. (h.0, (same h.0).0 h.1, h.2), λ h. (h.0, (same h.0).1 h.1, h.2))
 
 -- ---- places alone
 
@@ -332,29 +295,22 @@ places_moved F t u segs v w places same stands (ns, h, is) =
 
 -- ---- queries at the document
 
-module _ (after : Step → ℕ → ℕ) (Includes : Bool → ℕ → Segments → Type 0) (course : Leads after Includes) (F : FunctionSet) (pending : ℕ) (document : Data) (ordered : IsOrdered document) where
-  -- what is kept of the document
-  abbrev reached : Data
-  reached = in_place (kept after pending document)
+module _ (F : FunctionSet) (document reached : Data) (A : Bool → Segments → Type 0) (l : Shows A (Some document) (Some reached)) where
+  module _ (segs : Segments) (asks : (more : Segments) → IsIn (query root more) (queries_in_segments segs) → A false more) where
+    values_same : (ns : List Located) → A false segs → IsResult F document (query current segs) document ns ↔ IsResult F reached (query current segs) reached ns
+    values_same ns first = result_same F document reached A segs A document reached ns first l (λ xs. derives F document reached A l false segs A document reached xs asks first l)
 
-  module _ (segs : Segments) (asks : (more : Segments) → IsIn (query root more) (queries_in_segments segs) → Includes false pending more) where
-    values_same : (ns : List Located) → Includes false pending segs → IsResult F document (query current segs) document ns ↔ IsResult F reached (query current segs) reached ns
-    values_same ns first =
-        result_same after Includes course F document pending segs pending document ns first (λ xs. derives after Includes course F document pending ordered false segs pending document xs asks first ordered)
-
-    module _ (first : Includes true pending segs) where
+    module _ (first : A true segs) where
       moves : (xs : List Triple) → Derives F document segs document xs ↔ Derives F reached segs reached xs
-      moves xs = derives after Includes course F document pending ordered true segs pending document xs asks first ordered
+      moves xs = derives F document reached A l true segs A document reached xs asks first l
 
-      ends : (xs : List Triple) → Derives F document segs document xs → (c : Data) × (at document (location_of xs) ≡ Some c) × (is_end true (along after (location_of xs) pending) ≡ true)
-      ends xs h = end_pending after Includes course true F document segs pending document xs first h
+      ends : (xs : List Triple) → Derives F document segs document xs → (c : Data) × (at document (location_of xs) ≡ Some c) × along (location_of xs) A true no_segments
+      ends xs h = end_asked F document true segs A document xs first h
 
       stands : (xs : List Triple) → Derives F reached segs reached xs → (e : Data) × (at reached (location_of xs) ≡ Some e)
       stands xs h =
           let (c, there, end) = ends xs ((moves xs).1 h) in
-          let here = along after (location_of xs) pending in
-          let stands_there = end_kept after Includes course F document pending true here c end in
-          (in_place (kept after here c), at_kept after course.stays (location_of xs) pending document c (in_place (kept after here c)) there stands_there)
+          let (e, shown, values) = l.ends (location_of xs) true c end there in (e, shown)
 
       places_same : (places : List (List Step))
           → ((ns : List Located) × IsResult F document (query current segs) document ns × (map (λ n. n.location) ns ≡ places))
@@ -364,16 +320,14 @@ module _ (after : Step → ℕ → ℕ) (Includes : Bool → ℕ → Segments �
         places_moved F reached document segs reached document places (λ xs. ((moves xs).1, (moves xs).0)) (λ xs h. let (c, there, end) = ends xs h in (c, there)),
       )
 
-  -- a query whose segments are pending, and those of each `$` query in its filters, selects the same from what is kept
-  pub selects_kept : (q : Query) (ns : List Located) → Includes false pending (segments_of q)
-      → ((segs : Segments) → IsIn (query root segs) (queries_in_segments (segments_of q)) → Includes false pending segs)
+  -- a query whose segments are asked, and those of each `$` query in its filters, selects the same from what shows the document
+  pub selects_shown : (q : Query) (ns : List Located) → A false (segments_of q) → ((segs : Segments) → IsIn (query root segs) (queries_in_segments (segments_of q)) → A false segs)
       → Selects F q document ns ↔ Selects F q reached ns
-  selects_kept (query root segs) ns first asks = values_same segs asks ns first
-  selects_kept (query current segs) ns first asks = values_same segs asks ns first
+  selects_shown (query root segs) ns first asks = values_same segs asks ns first
+  selects_shown (query current segs) ns first asks = values_same segs asks ns first
 
-  -- and where its places are pending, the same places
-  pub selects_places : (q : Query) (places : List (List Step)) → Includes true pending (segments_of q)
-      → ((segs : Segments) → IsIn (query root segs) (queries_in_segments (segments_of q)) → Includes false pending segs)
+  -- and where its places are asked, the same places
+  pub selects_places : (q : Query) (places : List (List Step)) → A true (segments_of q) → ((segs : Segments) → IsIn (query root segs) (queries_in_segments (segments_of q)) → A false segs)
       → SelectsPlaces F q document places ↔ SelectsPlaces F q reached places
   selects_places (query root segs) places first asks = places_same segs asks first places
   selects_places (query current segs) places first asks = places_same segs asks first places

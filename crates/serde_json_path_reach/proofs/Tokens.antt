@@ -1,5 +1,5 @@
 -- Values, items and members are read one token after another.
-use Rattle.serde_json_path_reach.proofs.Words.{AreItems, AreMembers, Data, IsRead, IsSome, Items, Json, List, Members, None, Num, Option, Parse, Some, Step, Token, after_end_array, ap, arith, array, boolean, inside, item, items_end, items_more, leaf_of, length, members_end, members_more, no_items, no_members, none-some, null, number, object, option_map, parse_map, put, read_key, read_key-shorter, refl, same_Some, string, subst, value-begin_array, value-begin_object, value_is, ℕ, ◌-◌, ◌<◌, ◌∙◌, ◌∷◌, ◌≡◌, ◌≤◌}
+use Rattle.serde_json_path_reach.proofs.Words.{AreItems, AreMembers, Data, IsRead, IsSome, Items, Json, List, Members, None, Num, Option, Parse, Some, Step, Token, after_end_array, ap, arith, array, boolean, child_at, item, items_end, items_more, leaf_of, length, members_end, members_more, no_items, no_members, none-some, null, number, object, option_map, parse_map, put, read_key, read_key-shorter, refl, same_Some, string, subst, value-begin_array, value-begin_object, value_is, ℕ, ◌-◌, ◌<◌, ◌∙◌, ◌∷◌, ◌≡◌, ◌≤◌}
 use Rattle.json.specs.Json.{value}
 use Rattle.serde_json.specs.Read.{number_of}
 use Rattle.json.specs.Json as json
@@ -100,14 +100,14 @@ leaf_read depth (Token.boolean b) rest d e = (json.boolean b, value_is depth _, 
 leaf_read depth Token.null rest d e = (json.null, value_is depth _, e)
 leaf_read depth _ rest d e = absurd (none-some d e)
 
-module _ (after : Step → ℕ → ℕ) (pending : ℕ) where
-  number_inside : (o : Option Num) (d : Data) → option_map number o ≡ Some d → inside after pending d ≡ None
-  number_inside None d e = absurd (none-some d e)
-  number_inside (Some n) d e = subst (λ (x : Data). inside after pending x ≡ None) (same_Some (number n) d e) refl
+number_has_none : (o : Option Num) (d : Data) (s : Step) → option_map number o ≡ Some d → child_at d s ≡ None
+number_has_none None d s e = absurd (none-some d e)
+number_has_none (Some n) d s e = subst (λ (x : Data). child_at x s ≡ None) (same_Some (number n) d e) refl
 
-  pub leaf_inside : (t : Token) (d : Data) → leaf_of t ≡ Some d → inside after pending d ≡ None
-  leaf_inside (Token.string s) d e = subst (λ (x : Data). inside after pending x ≡ None) (same_Some (string s) d e) refl
-  leaf_inside (Token.number s) d e = number_inside (number_of s) d e
-  leaf_inside (Token.boolean b) d e = subst (λ (x : Data). inside after pending x ≡ None) (same_Some (boolean b) d e) refl
-  leaf_inside Token.null d e = subst (λ (x : Data). inside after pending x ≡ None) (same_Some null d e) refl
-  leaf_inside _ d e = absurd (none-some d e)
+-- such a value has no children
+pub leaf_has_none : (t : Token) (d : Data) (s : Step) → leaf_of t ≡ Some d → child_at d s ≡ None
+leaf_has_none (Token.string x) d s e = subst (λ (y : Data). child_at y s ≡ None) (same_Some (string x) d e) refl
+leaf_has_none (Token.number x) d s e = number_has_none (number_of x) d s e
+leaf_has_none (Token.boolean b) d s e = subst (λ (y : Data). child_at y s ≡ None) (same_Some (boolean b) d e) refl
+leaf_has_none Token.null d s e = subst (λ (y : Data). child_at y s ≡ None) (same_Some null d e) refl
+leaf_has_none _ d s e = absurd (none-some d e)

@@ -4,8 +4,8 @@
 pub mod Queries
 -- what is pending at a value, as bits
 pub mod Bits
--- what of a value is kept, given what is pending there
-pub mod Kept
+-- a value that shows what is asked of another
+pub mod Shows
 -- steps that a selector may admit
 pub mod Steps
 -- the rows of a plan: what is pending, and what is after a step

@@ -125,10 +125,7 @@ impl<'q> DocumentReader<'q> {
         };
         let found = read_reached(alloc, text, &self.plan, self.plan.at_root, &mut scratch);
         self.scratch.set(Some(scratch));
-        match found? {
-            Some(document) => Ok(document),
-            None => Ok(Value::Null),
-        }
+        found
     }
 
     /// What the paths can reach of the document that the bytes are: each selects from it what it selects from the whole

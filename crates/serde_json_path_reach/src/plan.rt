@@ -3,7 +3,7 @@
 ghost use Rattle.std.specs.Prelude.{◌≡◌, ◌<◌, ◌%◌};
 
 use crate::bits::{PLACE, WHOLE, is_whole, meets};
-use crate::row::{Row, only_name};
+use crate::row::{Row, children_of};
 use serde_json_path_core::{Checked, Part, PathElement, QueryKind, SegmentKind};
 use serde_json_path_syntax::{Basic, Node, Operand, Segment, Selector};
 use std::alloc::{AllocError, Global};
@@ -26,8 +26,7 @@ impl<'q> Plan<'q> {
     ghost use Rattle.serde_json_path_reach.specs.Alike.{trees_of};
     ghost use Rattle.serde_json_path_reach.specs.Inside.Queries.{queries_in_branch, queries_in_branches, queries_in_segments};
     ghost use Rattle.serde_json_path_reach.specs.Inside.Bits.{meets};
-    ghost use Rattle.serde_json_path_reach.specs.Inside.Rows as rows;
-    ghost use Rattle.serde_json_path_reach.specs.Inside.Rows.{AddsRow, AreRight, AsksAll, Gains, Includes, segment_kind_at};
+    ghost use Rattle.serde_json_path_reach.specs.Inside.Rows.{AddsRow, AreRight, AsksAll, Gains, Includes, Leads, segment_kind_at};
 
     /// The plan of some queries. `places` says whether the places of their nodes are enough.
     pub(crate) fn of(
@@ -53,7 +52,7 @@ impl<'q> Plan<'q> {
     fn add_path(&mut self, path: &'q Checked, places: bool) -> Result<(), AllocError>
         ensures inside { OnOk result ((asked : ℕ) × Gains self.old self.new asked
             (queries_in_segments (segments_of (tree_of path.now)))) }
-        ensures itself { OnOk result (Includes self.new.rows.items places self.new.at_root
+        ensures itself { OnOk result (Includes self.new.rows.items self.new.at_root places
             (segments_of (tree_of path.now))) }
     {
         let (first, _) = self.add_segments(path, path.segments(), places)?;
@@ -64,7 +63,7 @@ impl<'q> Plan<'q> {
     /// What is pending after the step.
     #[inline(always)]
     pub(crate) fn after(&self, pending: u64, step: PathElement<'_>) -> u64
-        ensures { result ≡ rows.after self.now.rows.items (step_view step.entry) pending }
+        ensures { Leads self.now.rows.items (step_view step.entry) pending result }
     {
         if is_whole(pending) {
             return WHOLE;
@@ -115,7 +114,7 @@ impl<'q> Plan<'q> {
             query,
             segment,
             rest,
-            name: only_name(query, segment),
+            children: children_of(query, segment),
             places,
             bit,
             again,
@@ -137,7 +136,7 @@ impl<'q> Plan<'q> {
         requires are { AreOfKind is_segment (nodes_in query.now) segments.now }
         ensures gains { IfOk result (λ pending. Gains self.old self.new pending.1
             (queries_in_segments (segments_at (nodes_in query.now) segments.now))) }
-        ensures first { IfOk result (λ pending. Includes self.new.rows.items places pending.0
+        ensures first { IfOk result (λ pending. Includes self.new.rows.items pending.0 places
             (segments_at (nodes_in query.now) segments.now)) }
     {
         let mut first = if places { PLACE } else { WHOLE };

@@ -2,12 +2,11 @@
 
 ghost use Rattle.std.specs.Prelude.{◌≡◌, ◌<◌, ◌++◌, length, option_map, ◌⊎◌, replicate, None, Some, IfOk, IsTrue, OnOk};
 ghost use Rattle.json.specs.Json.{value};
-ghost use Rattle.serde_json.specs.Data.{Data, Items, Members, array, object, no_members};
+ghost use Rattle.serde_json.specs.Data.{Data, Items, Members, array, object, no_members, put as put_data};
 ghost use Rattle.serde_json.specs.Read.{read as read_text};
-ghost use Rattle.serde_json.specs.View.{view};
+ghost use Rattle.serde_json.specs.View.{members_view, view};
 ghost use Rattle.serde_json.specs.declared.value.Value.TheVariants.{Null};
-ghost use Rattle.serde_json_path_reach.specs.Inside.Kept.{kept, placed};
-ghost use Rattle.serde_json_path_reach.specs.Inside.Rows.{after};
+ghost use Rattle.serde_json_path_reach.specs.Inside.Rows.{IsShown, in_stead};
 ghost use Rattle.serde_json_path_reach.specs.Inside.Tokens.{AreItems, AreMembers, IsRead};
 
 use crate::bits::{PLACE, is_place, is_whole};
@@ -23,20 +22,20 @@ use std::alloc::Global;
 /// How many arrays and objects `serde_json` takes within each other.
 const MAX_DEPTH: usize = 127;
 
-/// What is kept of the document that a text is, or `None` where that is nothing.
+/// What is shown of the document that a text is; null where that is nothing.
 pub(crate) fn read_reached(
     alloc: Global,
     text: &str,
     plan: &Plan<'_>,
     pending: u64,
     scratch: &mut Scratch,
-) -> Result<Option<Value>, Refused>
+) -> Result<Value, Refused>
     ensures ok { IfOk result (λ v. (d : Data) × (read_text text.now ≡ Some d)
-        × (option_map view v ≡ kept (after plan.now.rows.items) pending d)) }
+        × IsShown plan.now.rows.items pending d (Some v)) }
 {
     if is_whole(pending) {
         return match Value::from_str(alloc, text) {
-            Ok(document) => Ok(Some(document)),
+            Ok(document) => Ok(document),
             Err(_error) => Err(Refused),
         };
     }
@@ -45,10 +44,13 @@ pub(crate) fn read_reached(
     if reader.next().is_some() {
         return Err(Refused);
     }
-    Ok(found)
+    match found {
+        Some(document) => Ok(document),
+        None => Ok(Value::Null),
+    }
 }
 
-/// What is kept of a value.
+/// What is shown of a value.
 #[cycle(read)]
 #[inline(always)]
 fn read(
@@ -60,7 +62,7 @@ fn read(
 ) -> Result<Option<Value>, Refused>
     ensures ok { IfOk result (λ v.
         (d : Data) × IsRead (value depth) reader.old reader.new d
-        × (option_map view v ≡ kept (after plan.now.rows.items) pending d)) }
+        × IsShown plan.now.rows.items pending d v) }
     ensures shorter { OnOk result (length reader.new < length reader.old) }
 {
     if is_bare(pending) {
@@ -91,7 +93,7 @@ fn read(
     }
 }
 
-/// What is kept of an array, from its first item on.
+/// What is shown of an array, from its first item on.
 #[cycle(read)]
 #[inline(never)]
 fn read_items(
@@ -104,7 +106,7 @@ fn read_items(
     ensures ok { IfOk result (λ v.
         (ds : Items)
         × AreItems (value depth) (length reader.old) reader.old reader.new ds
-        × (option_map view v ≡ kept (after plan.now.rows.items) pending (array ds))) }
+        × IsShown plan.now.rows.items pending (array ds) v) }
     ensures shorter { OnOk result (length reader.new < length reader.old) }
 {
     let mut found = Vec::new(alloc);
@@ -135,7 +137,7 @@ fn read_items(
     Ok(Some(Value::Array(found)))
 }
 
-/// What is kept of an object, from its first member on.
+/// What is shown of an object, from its first member on.
 #[cycle(read)]
 #[inline(never)]
 fn read_members(
@@ -148,23 +150,19 @@ fn read_members(
     ensures ok { IfOk result (λ v.
         (ms : Members)
         × AreMembers (value depth) (length reader.old) reader.old reader.new no_members ms
-        × (option_map view v ≡ kept (after plan.now.rows.items) pending (object ms))) }
+        × IsShown plan.now.rows.items pending (object ms) v) }
     ensures shorter { OnOk result (length reader.new < length reader.old) }
 {
     let mut found: Map<String, Value> = Map::new(alloc);
     'members: while let Some(name) = reader.next_key()? {
-        let member = read(
-            alloc,
-            reader,
-            depth,
-            plan,
-            plan.after(pending, PathElement::Name(name)),
-        )?;
-        match member {
-            None => drop(found.remove(name)),
-            Some(member) => {
-                let key = String::from_str(alloc, name)?;
-                drop(found.insert(key, member)?);
+        let after = plan.after(pending, PathElement::Name(name));
+        match read(alloc, reader, depth, plan, after)? {
+            Some(member) => put(alloc, &mut found, name, member)?,
+            // Null takes the place of an earlier member of this name.
+            None => {
+                if after != 0 && found.contains_key(name) {
+                    put(alloc, &mut found, name, Value::Null)?;
+                }
             }
         }
     }
@@ -182,16 +180,32 @@ fn is_bare(pending: u64) -> bool
     pending == 0 || pending == PLACE
 }
 
-/// What is kept of a value of which nothing is kept inside.
+/// What stands for a value of which nothing is shown inside.
 #[inline(always)]
 fn place(pending: u64) -> Option<Value>
-    ensures { option_map view result ≡ placed pending None }
+    ensures { option_map view result ≡ in_stead pending }
 {
     if is_place(pending) {
         Some(Value::Null)
     } else {
         None
     }
+}
+
+/// Puts a member, in the place of an earlier one of its name.
+#[inline(always)]
+fn put(
+    alloc: Global,
+    found: &mut Map<String, Value>,
+    name: &str,
+    member: Value,
+) -> Result<(), Refused>
+    ensures { OnOk result (members_view found.new.entries
+        ≡ put_data name.now (view member) (members_view found.old.entries)) }
+{
+    let key = String::from_str(alloc, name)?;
+    drop(found.insert(key, member)?);
+    Ok(())
 }
 
 /// Pushes so many nulls.

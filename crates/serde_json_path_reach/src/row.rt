@@ -11,20 +11,32 @@ use crate::steps::may_admit;
 use serde_json_path_core::{Checked, Part, PathElement};
 use serde_json_path_syntax::SelectorRef;
 
-/// The name that a segment selects, where it has no other selector.
-pub(crate) fn only_name<'q>(query: &'q Checked, segment: Part) -> Option<&'q str>
+/// Which children a segment may select, as far as a look at its first selectors tells.
+#[derive(Clone, Copy)]
+pub(crate) enum Children<'q> {
+    /// The member of this name: the segment has no other selector.
+    Named(&'q str),
+    /// All: its first selector is a wildcard or a filter.
+    All,
+    /// Those that its selectors say.
+    Selected,
+}
+
+/// Which children a segment may select.
+pub(crate) fn children_of<'q>(query: &'q Checked, segment: Part) -> Children<'q>
     requires within { number_of segment < length (nodes_in query.now) }
     requires kind { IsOfKind is_segment (nodes_in query.now) segment }
     ensures { (s : Step)
         → any_may_admit (selectors_of (segment_at (nodes_in query.now) segment)) s ≡ true
         → may_admit_by result (selectors_of (segment_at (nodes_in query.now) segment)) s ≡ true }
 {
-    let Some(SelectorRef::Name(name)) = query.selector_ref(segment, 0) else {
-        return None;
-    };
-    match query.selector_ref(segment, 1) {
-        Some(_) => None,
-        None => Some(name),
+    match query.selector_ref(segment, 0) {
+        Some(SelectorRef::Wildcard | SelectorRef::Filter(_)) => Children::All,
+        Some(SelectorRef::Name(name)) => match query.selector_ref(segment, 1) {
+            Some(_) => Children::Selected,
+            None => Children::Named(name),
+        },
+        _ => Children::Selected,
     }
 }
 
@@ -35,8 +47,8 @@ pub(crate) struct Row<'q> {
     pub(crate) segment: Part,
     /// The segments that follow.
     pub(crate) rest: &'q [Part],
-    /// The name of the segment's selector, where that is its only one.
-    pub(crate) name: Option<&'q str>,
+    /// Which children the segment may select.
+    pub(crate) children: Children<'q>,
     /// Whether places are enough of what the segments end at.
     pub(crate) places: bool,
     /// Set where the row is pending.
@@ -60,9 +72,10 @@ impl<'q> Row<'q> {
     fn may_admit(&self, step: PathElement<'_>) -> bool
         ensures { result ≡ rows.may_admit_by_row self.now (step_view step.entry) }
     {
-        match self.name {
-            Some(name) => may_admit(SelectorRef::Name(name), step),
-            None => self.any_may_admit(step),
+        match self.children {
+            Children::Named(name) => may_admit(SelectorRef::Name(name), step),
+            Children::All => true,
+            Children::Selected => self.any_may_admit(step),
         }
     }
 

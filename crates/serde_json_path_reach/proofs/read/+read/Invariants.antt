@@ -1,7 +1,6 @@
-use Rattle.serde_json_path_reach.proofs.Words.{Items, Members, after, items_len, items_view, length, members_inside, members_view, ◌*◌, ◌+◌, ◌≡◌}
+use Rattle.serde_json_path_reach.proofs.Words.{Items, Members, items_len, items_view, length, members_view, ◌*◌, ◌+◌, ◌≡◌}
 use Rattle.json.specs.Json.{value}
-use Rattle.serde_json_path_reach.proofs.Ordered.{AreRising}
-use Rattle.serde_json_path_reach.proofs.Reading.{AreSoFar}
+use Rattle.serde_json_path_reach.proofs.Reading.{AreSoFar, MembersShown}
 use Rattle.serde_json_path_reach.proofs.Tokens.{ItemsSoFar, MembersSoFar}
 use Rattle.serde_json_path_reach.proofs.read.+read.Given as goal
 
@@ -18,7 +17,7 @@ abbrev pub invariant-read_items-items : goal.invariant-read_items-items
 invariant-read_items-items l = record {
   done : Items;
   tokens : ItemsSoFar (value l.depth) l.initial.reader l.reader done;
-  so_far : AreSoFar (after l.plan.rows.items) l.pending done (items_view l.found.items) l.passed;
+  so_far : AreSoFar l.plan.rows.items l.pending done (items_view l.found.items) l.passed;
   place : items_len done ≡ l.position;
 }
 
@@ -29,8 +28,7 @@ abbrev pub invariant-read_members-members : goal.invariant-read_members-members
 invariant-read_members-members l = record {
   done : Members;
   tokens : MembersSoFar (value l.depth) l.initial.reader l.reader done;
-  rising : AreRising done;
-  kept : members_view l.found.entries ≡ members_inside (after l.plan.rows.items) l.pending done;
+  so_far : MembersShown l.plan.rows.items l.pending done (members_view l.found.entries);
 }
 
 abbrev pub decreases-read_members-members : goal.decreases-read_members-members

@@ -17,7 +17,7 @@ abbrev pub invariant-add_segments-segments : goal.invariant-add_segments-segment
 invariant-add_segments-segments l = record {
   within : l.number ≤ length l.segments;
   gains : Gains l.initial.self l.self l.asked (queries_in_segments (segments_at (nodes_in l.query) (drop l.number l.segments)));
-  first : Includes l.self.rows.items l.places l.first (segments_at (nodes_in l.query) (drop l.number l.segments));
+  first : Includes l.self.rows.items l.first l.places (segments_at (nodes_in l.query) (drop l.number l.segments));
 }
 
 abbrev pub decreases-add_segments-segments : goal.decreases-add_segments-segments

@@ -9,4 +9,4 @@ returns c =
       | in-Child w ↦ absurd (let e = ap segment_kind_view (sym w.in-Child.is) ∙ c.segment_kind.ensures ∙ down in cc)
       | in-Descendant w ↦ w.again-is
     ] in
-    adds_row c.args.self.now _ _ _ c.in_ok-push.ensures.items (ap (λ rows. rows.items) c.fresh-bit.ensures.rows) c.fresh-bit.ensures.root c.fresh-bit.ensures.some again c.only_name.ensures
+    adds_row c.args.self.now _ _ _ c.in_ok-push.ensures.items (ap (λ rows. rows.items) c.fresh-bit.ensures.rows) c.fresh-bit.ensures.root c.fresh-bit.ensures.some again c.children_of.ensures
