@@ -1,14 +1,11 @@
 -- What the pointer of a nullable box owns is nothing or a box's. Assumes `Logic`.
-use Rattle.nullable_box.proofs.Words.{◌≡◌, ℕ, List, ◌∷◌, refl, Option, None, Some, Ura, ftrue, ffalse, ent, guard, guard_i, via, snd∗, never_e, Logic, sem, Item, Goal, Seq, given, ‵, ◌$◌, drop, use1, learn, fact_use, lone, RattleType, Ptr, block_ptr, null_ptr, Testable, box_owns, points_to, ghosts, Global, dealloc_token-Testable, held, bare}
+use Rattle.nullable_box.proofs.Words.{◌≡◌, ℕ, List, ◌∷◌, refl, Option, None, Some, Ura, ftrue, ffalse, ent, guard_i, via, id⊢, fst∗, snd∗, never, never_e, Logic, sem, Item, Goal, Seq, given, ‵, ◌$◌, drop, use1, learn, fact_use, lone, RattleType, Ptr, block_ptr, null_ptr, Testable, box_owns, points_to, ghosts, Global, dealloc_token-Testable, held, bare}
 
 module _ (R : RattleType) {M : Type 1} {𝓤 : Ura M} where
-  -- a box's pointer may be compared with null
-  testable : (𝓛 : Logic 𝓤) (a : Global) (p : Ptr) (x : R.Denot) → ent 𝓤 (sem 𝓛 (box_owns (ghosts.dealloc_token a) R p x)) (guard 𝓤 (Testable p) (sem 𝓛 (box_owns (ghosts.dealloc_token a) R p x)))
-  testable 𝓛 a p x =
-      let token = ghosts.dealloc_token a (bare (lone R.mir)) p in
-      fact_use 𝓤 (Testable p)
-      (via 𝓤 (sem 𝓛 token) (snd∗ 𝓤 (sem 𝓛 (points_to R p x)) (sem 𝓛 token)) (dealloc_token-Testable 𝓛 a (bare (lone R.mir)) p))
-      (guard_i 𝓤 (Testable p) _)
+  -- what a box owns is held
+  pub owned_held : (𝓛 : Logic 𝓤) (a : Global) (p : Ptr) (x : R.Denot) → ent 𝓤 (sem 𝓛 (box_owns (ghosts.dealloc_token a) R p x)) (sem 𝓛 (held R p (Some x)))
+  owned_held 𝓛 a null_ptr x = fst∗ 𝓤 (never 𝓤) (sem 𝓛 (ghosts.dealloc_token a (bare (lone R.mir)) null_ptr))
+  owned_held 𝓛 a (block_ptr b o) x = id⊢ 𝓤 _
 
   module _ {𝓛 : Logic 𝓤} {K : Type 0} {Γ : List (Item 𝓤)} {G : Goal 𝓤 𝓛.H} where
     impossible : K → Seq K 𝓛 (‵ ffalse ∷ Γ) G
@@ -23,5 +20,7 @@ module _ (R : RattleType) {M : Type 1} {𝓤 : Ura M} where
     either_held t null_ptr (Some x) empty box = impossible t
     either_held t (block_ptr b o) None empty box = impossible t
     either_held t (block_ptr b o) (Some x) empty box =
-        let owned = held R (block_ptr b o) (Some x) in
-        use1 𝓛 (given (Testable (block_ptr b o)) (‵ owned)) (testable 𝓛 _ (block_ptr b o) x) $ learn t (λ can. box b o x refl refl can)
+        let p : Ptr = block_ptr b o in
+        use1 𝓛 (given (Testable p) (‵ (held R p (Some x)))) (fact_use 𝓤 (Testable p)
+        (via 𝓤 _ (snd∗ 𝓤 (sem 𝓛 (points_to R p x)) _) (dealloc_token-Testable 𝓛 _ (bare (lone R.mir)) p)) (guard_i 𝓤 (Testable p) _)) $
+        learn t (λ can. box b o x refl refl can)

@@ -1,7 +1,7 @@
 -- A function that moves what one pointer owns from a struct into another is proved once, for all structs. Assumes `Logic`.
-use Rattle.nullable_box.proofs.Words.{◌≡◌, List, [], ◌∷◌, ◌++◌, refl, sym, ap, lit<, Option, T, true, ◌&&◌, Ura, Sym, Fn, Callee, copy, place, field, local, value_local, assign, rv_opd, aggregate, seq, return, ty_ptr, ty_struct, tcons, tnil, Val, has_ty, WT, SProp, emp, Fml, ftrue, fsep, Model, WpFn, Closed, Logic, ‵, raw, ◌⊛◌, ◌$◌, ◌∵◌, !, qed, by, regoal, prop, keep, drop, split, fsplit, fjoin, rewrite, use0, stop, fld, of_opd, no_more, and_then, returns, enter, alloc_all, pass_all, free_all, look_at, get, get_in, sets, agg, sub, whole, fact, fact_i, Running, MachineTables, tables, yes, Last, left, rest, RattleType, owns, Ptr, block_ptr, null_ptr, ptr_val, types_at, plain, nothing, Ended, Clauses, closing, Meets, Stays, stay_dropped, walk_of, Goes-dropped, proved_at, leaves, and_tt, held}
+use Rattle.nullable_box.proofs.Words.{◌≡◌, List, [], ◌∷◌, ◌++◌, refl, sym, ap, Option, Ura, Sym, Fn, Callee, copy, place, field, local, value_local, assign, rv_opd, aggregate, seq, return, ty_ptr, ty_struct, tcons, tnil, Val, SProp, emp, Fml, ftrue, fsep, Model, WpFn, Closed, Logic, ‵, raw, ◌⊛◌, ◌$◌, ◌∵◌, !, qed, by, regoal, prop, keep, drop, split, fsplit, fjoin, rewrite, use0, stop, fld, of_opd, no_more, and_then, returns, enter, alloc_all, pass_all, free_all, look_at, get, get_in, sets, agg, sub, whole, fact, fact_i, Running, MachineTables, tables, yes, Last, left, rest, RattleType, owns, Ptr, ptr_val, types_at, plain, nothing, Ended, Clauses, closing, Meets, Stays, stay_dropped, walk_of, Goes-dropped, proved_at, leaves, held}
 use Rattle.nullable_box.specs.contracts.nullable_box.NullableBox as nullable
-use Rattle.nullable_box.proofs.Owners.{single, OnePtr, owner_in, owner_out}
+use Rattle.nullable_box.proofs.Owners.{single, OnePtr, pointer_good, single_good, owner_in, owner_out}
 
 -- A struct of one pointer that owns an R, or nothing. Of a struct that is written out each equation is `refl`.
 pub record Owner (R : RattleType) : Type 1 where
@@ -42,13 +42,6 @@ module _ (name name' : Sym) where
     body = seq (assign (place 2 []) (rv_opd (copy (place 1 (field 0 ∷ []))))) (seq (assign (place 3 []) (rv_opd (copy (place 2 []))))
         (seq (assign (place 0 []) (aggregate (copy (place 3 []) ∷ []))) return));
   }
-
-pointer_good : (p : Ptr) → T (has_ty ty_ptr (ptr_val p)) × WT (ptr_val p)
-pointer_good (block_ptr b o) = (tt, tt)
-pointer_good null_ptr = (tt, record { fits = lit< tt })
-
-single_good : (p : Ptr) → T (has_ty ty_ptr (ptr_val p) && true) × WT (single (ptr_val p))
-single_good p = (and_tt _ (pointer_good p).0, ((pointer_good p).1, tt))
 
 module _ {R : RattleType} (P Q : Owner R) where
   abbrev ended : Ended

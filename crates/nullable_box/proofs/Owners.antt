@@ -1,17 +1,20 @@
 -- Structs that own memory by a pointer: their machine values, and how they are made and taken apart. Assumes `Logic`.
-use Rattle.nullable_box.proofs.Words.{◌≡◌, ℕ, List, [], ◌∷◌, ◌++◌, refl, subst, T, true, ◌&&◌, Ura, impl, tnil, dnil, Val, vptr, vstruct, vcons, vnil, of_list, has_ty, WT, Fml, fsep, never, fst∗, Logic, sem, Item, Goal, Seq, Step, step, ‵, ◌$◌, move, drop, fsplit, fjoin, fpick, fpack, feq_i, feq_l, RattleType, Valss, lone, Ptr, RawPtr, block_ptr, null_ptr, ptr_val, in_a_block, nothing, layout, Laws, Struct, within, shape, Ghosts, Al, handle_tells, Good, box_owns, and_tt, bare}
-use Rattle.nullable_box.specs.contracts.LooseBox as loose
+use Rattle.nullable_box.proofs.Words.{◌≡◌, lit<, ty_ptr, List, [], ◌∷◌, ◌++◌, refl, subst, T, true, ◌&&◌, Ura, Val, vstruct, vcons, vnil, of_list, has_ty, WT, Fml, fsep, Logic, Item, Goal, Seq, Step, step, ‵, ◌$◌, drop, fsplit, fjoin, fpick, fpack, feq_i, feq_l, RattleType, Valss, Ptr, RawPtr, block_ptr, null_ptr, ptr_val, nothing, Struct, within, and_tt}
 
--- the machine values of structs of one field and of two
+-- the machine value of a struct of one field
 abbrev pub single : Val → Val
 single v = vstruct (vcons v vnil)
-
-abbrev pub pair : Val → Val → Val
-pair v w = vstruct (vcons v (vcons w vnil))
 
 -- a struct of one pointer
 abbrev pub OnePtr : RattleType
 OnePtr = Struct (record { name = []; args = []; types = []; fields = RawPtr ∷ [] })
+
+pub pointer_good : (p : Ptr) → T (has_ty ty_ptr (ptr_val p)) × WT (ptr_val p)
+pointer_good (block_ptr b o) = (tt, tt)
+pointer_good null_ptr = (tt, record { fits = lit< tt })
+
+pub single_good : (p : Ptr) → T (has_ty ty_ptr (ptr_val p) && true) × WT (single (ptr_val p))
+single_good p = (and_tt _ (pointer_good p).0, ((pointer_good p).1, tt))
 
 module _ {M : Type 1} {𝓤 : Ura M} {𝓛 : Logic 𝓤} {K : Type 0} {Γ : List (Item 𝓤)} {G : Goal 𝓤 𝓛.H} where
   -- an owner of F by one pointer is made of F
@@ -29,39 +32,3 @@ module _ {M : Type 1} {𝓤 : Ura M} {𝓛 : Logic 𝓤} {K : Type 0} {Γ : List
   owner_out t p F vs then =
       fsplit t $ fpick t (λ vss. fsplit t $ feq_l t (λ packed. fsplit t $ feq_l t (λ pointer. drop t $
       then (subst (λ (ws : List Val). vs ≡ vstruct (of_list (ws ++ [])) ∷ []) pointer packed))))
-
-module _ (R A : RattleType) (L : Laws A) (g : Ghosts A.Denot) where
-  abbrev pub Loose : RattleType
-  Loose = loose.the_row R A g
-
-  -- the allocator, as its lemmas take it
-  abbrev pub allocator : Al
-  allocator = record { row = A; laws = L; g = g; d = impl [] tnil dnil; drops = impl [] tnil dnil }
-
-  pub loose_good : (b o : ℕ) (h : Val) → Good (layout A) h → T (has_ty (layout A) h && true) × WT (pair (vptr b o) h)
-  loose_good b o h good = (and_tt (has_ty (layout A) h) good.0, (tt, (good.1, tt)))
-
-  module _ {M : Type 1} {𝓤 : Ura M} {𝓛 : Logic 𝓤} {K : Type 0} {Γ : List (Item 𝓤)} {G : Goal 𝓤 𝓛.H} where
-    -- a loose box is made of what a box owns and the allocator
-    pub loose_in : K → (b o : ℕ) (h : Val) (a : A.Denot) (x : R.Denot)
-        → Step K 𝓛 (‵ (Loose.own_val (record { at = block_ptr b o; alloc = a; value = x }) (pair (vptr b o) h ∷ [])) ∷ Γ) G
-        (‵ (box_owns (g.dealloc_token a) R (block_ptr b o) x) ∷ ‵ (A.own_val a (h ∷ [])) ∷ Γ) G
-    loose_in t b o h a x = step (λ s.
-        nothing t $ move t (2 ∷ 0 ∷ []) $ fjoin t $ feq_i t (List Val) (vptr b o ∷ []) (vptr b o ∷ []) refl $ fjoin t $
-        feq_i t (List Val) (pair (vptr b o) h ∷ []) (pair (vptr b o) h ∷ []) refl $ fjoin t $
-        fpack t (Valss (RawPtr ∷ A ∷ [])) (within (shape (loose.the_type R A g)) (block_ptr b o, (a, tt)) (pair (vptr b o) h ∷ [])) (vptr b o ∷ [], (h ∷ [], tt)) $
-        fjoin t $ s)
-
-    -- and taken apart gives these
-    pub loose_out : K → (l : Loose.Denot) (vs : List Val)
-        → ((b o : ℕ) (h : Val) → l.at ≡ block_ptr b o → vs ≡ pair (vptr b o) h ∷ [] → Good (layout A) h
-        → Seq K 𝓛 (‵ (box_owns (g.dealloc_token l.alloc) R (block_ptr b o) l.value) ∷ ‵ (A.own_val l.alloc (h ∷ [])) ∷ Γ) G)
-        → Seq K 𝓛 (‵ (Loose.own_val l vs) ∷ Γ) G
-    loose_out t l vs then =
-        fsplit t $ fpick t (λ vss. fsplit t $ feq_l t (λ packed. fsplit t $ feq_l t (λ pointer. fsplit t $
-        handle_tells allocator t l.alloc vss.1.0 (λ h handle good. move t (1 ∷ []) $ drop t $ move t (1 ∷ []) $
-        in_a_block t l.at (λ p. box_owns (g.dealloc_token l.alloc) R p l.value) (fst∗ 𝓤 (never 𝓤) (sem 𝓛 (g.dealloc_token l.alloc (bare (lone R.mir)) null_ptr))) (λ b o at.
-        then b o h at
-        (subst (λ (p : Ptr). vs ≡ vstruct (of_list (ptr_val p ∷ h ∷ [])) ∷ []) at
-        (subst (λ (hs : List Val). vs ≡ vstruct (of_list (ptr_val l.at ∷ (hs ++ []))) ∷ []) handle
-        (subst (λ (ps : List Val). vs ≡ vstruct (of_list (ps ++ (vss.1.0 ++ []))) ∷ []) pointer packed))) good)))))

@@ -5,7 +5,6 @@ ghost use Rattle.std.specs.Coded.{coded_option};
 ghost use Rattle.std.specs.Option.{MatchOption};
 ghost use Rattle.nullable_box.specs.Held.{held};
 
-use crate::LooseBox;
 use std::alloc::Global;
 use std::marker::Model;
 use std::ptr::null_mut;
@@ -29,26 +28,6 @@ impl<T> NullableBox<T> {
     {
         NullableBox { at: null_mut() }
     }
-
-    /// What a box has that was taken apart.
-    fn of_loose(value: LooseBox<T, Global>) -> NullableBox<T>
-        ensures { result.value ≡ Some value.value }
-    {
-        let LooseBox { at, alloc: _ } = value;
-        NullableBox { at }
-    }
-
-    /// The box, taken apart, if there is one.
-    fn into_loose(self, alloc: Global) -> Option<LooseBox<T, Global>>
-        ensures { MatchOption result (self.value ≡ None) (λ l. self.value ≡ Some l.value) }
-    {
-        let NullableBox { at } = self;
-        if at.is_null() {
-            None
-        } else {
-            Some(LooseBox { at, alloc })
-        }
-    }
 }
 
 impl<T: Drop> NullableBox<T> {
@@ -56,16 +35,19 @@ impl<T: Drop> NullableBox<T> {
     pub fn of(value: Box<T, Global>) -> NullableBox<T>
         ensures { result.value ≡ Some value.value }
     {
-        NullableBox::of_loose(LooseBox::of(value))
+        NullableBox {
+            at: Box::into_raw(value),
+        }
     }
 
     /// The box, if there is one.
     pub fn into_box(self, alloc: Global) -> Option<Box<T, Global>>
         ensures { MatchOption result (self.value ≡ None) (λ b. self.value ≡ Some b.value) }
     {
-        match self.into_loose(alloc) {
-            None => None,
-            Some(loose) => Some(loose.into_box()),
+        let NullableBox { at } = self;
+        if at.is_null() {
+            return None;
         }
+        Some(unsafe { Box::from_raw(alloc, at) })
     }
 }
