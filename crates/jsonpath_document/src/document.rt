@@ -251,25 +251,25 @@ fn before_large_number<'t>(text: &'t str, before: &'t str) -> Option<&'t str>
     let number = text.strip_prefix(start)?;
     let end = number.find(|c| !is_of_number(c)).unwrap_or(number.len());
     let value: f64 = number.get(..end)?.parse().ok()?;
-    if value.is_infinite() {
-        Some(start)
-    } else {
-        None
-    }
+    value.is_infinite().then_some(start)
 }
 
 /// The text before a comma, where a text ends by one and blanks.
 fn before_comma(text: &str) -> Option<&str>
     ensures { IfSome result (λ front. (blanks : List ℕ) × (text.now ≡ front.now ++ (44 ∷ blanks))) }
 {
-    text.trim_end().strip_suffix(',')
+    let front = text.trim_end().strip_suffix(',')?;
+    Some(front)
 }
 
 /// The text before the bracket or the brace that it ends by.
 fn before_bracket(text: &str) -> &str
     ensures { (after : List ℕ) × (text.now ≡ result.now ++ after) }
 {
-    text.strip_suffix(['[', '{']).unwrap_or(text)
+    match text.strip_suffix(['[', '{']) {
+        Some(front) => front,
+        None => text,
+    }
 }
 
 /// What a fault says of a place in a text, by what stands before it and from there on, and the text before that. How deep

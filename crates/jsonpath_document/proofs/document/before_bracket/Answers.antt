@@ -1,5 +1,5 @@
-use Rattle.jsonpath_document.proofs.Ends.{front}
+use Rattle.jsonpath_document.proofs.Ends.{parts}
 use Rattle.jsonpath_document.proofs.document.before_bracket.Goals as goal
 
-pub returns : goal.returns
-returns c = rw c.unwrap_or.ensures (front _ _ c.args.text c.strip_suffix.result c.strip_suffix.ensures.cases)
+pub returns-in-Some : goal.returns-in-Some
+returns-in-Some c = (_, parts _ _ _ c.in-Some.ensures.cases.2)
