@@ -34,10 +34,7 @@ slice_range-more items more start end rises within = grind (arith, common_steps,
 pub cut_more : {T : Type 0} (start : ℕ) (ends : List ℕ) (items more : List T) → AreEnds start ends (length items)
     → cut start ends (items ++ more) ≡ cut start ends items
 cut_more start [] items more h = refl
-cut_more start (end ∷ ends) items more h =
-    let bounds = last_within end ends (length items) h.1 in
-    let first = slice_range-more items more start end h.0 (omega arith) in
-    let rest = cut_more end ends items more h.1 in cc
+cut_more start (end ∷ ends) items more h = grind (arith, common_steps, slice_range-more, last_within, (cut_more end ends items more h.1))
 
 -- the ends are those of any items that the last one is within
 pub ends_of : (start : ℕ) (ends : List ℕ) (total other : ℕ) → AreEnds start ends total → last_end start ends ≤ other → AreEnds start ends other
@@ -50,8 +47,7 @@ ends_push start [] total h = (h, omega arith)
 ends_push start (end ∷ ends) total h = (h.0, ends_push end ends total h.1)
 
 pub last_end_push : (start : ℕ) (ends : List ℕ) (total : ℕ) → last_end start (ends ++ total ∷ []) ≡ total
-last_end_push start [] total = refl
-last_end_push start (end ∷ ends) total = last_end_push end ends total
+last_end_push start ends total = grind (arith, common_steps, length_push)
 
 pub cut_push : {T : Type 0} (start : ℕ) (ends : List ℕ) (items : List T) → AreEnds start ends (length items)
     → cut start (ends ++ length items ∷ []) items ≡ cut start ends items ++ drop (last_end start ends) items ∷ []
@@ -63,8 +59,7 @@ pub cut_kept : {T : Type 0} (start : ℕ) (ends : List ℕ) (items : List T) →
     → cut start ends (take (last_end start ends) items) ≡ cut start ends items
 cut_kept start ends items h =
     let last = last_end start ends in
-    let bounds = last_within start ends (length items) h in
-    let long : length (take last items) ≡ last = length-take-le last items bounds.1 in
+    let long = length-take-le last items (last_within start ends (length items) h).1 in
     let are = ends_of start ends (length items) (length (take last items)) h (omega arith) in
     sym (cut_more start ends (take last items) (drop last items) are) ∙ ap (cut start ends) (take-append-drop last items)
 
