@@ -7,10 +7,10 @@ map-filter : {X Y : Type 0} (h : X → Y) (q : Y → Bool) (xs : List X) → map
 map-filter h q [] = refl
 map-filter h q (x ∷ xs) = grind (arith, common_steps, (map-filter h q xs))
 
-pub given_are : (rows : List Row) (all given : List (Bor Text × Form)) → given ≡ filter (λ f. is_given f.0.now rows) all → map form_of_row all ≡ forms
-    → map form_of_row given ≡ given_forms forms rows
-given_are rows all given is are =
-    ap (map form_of_row) is ∙ map-filter form_of_row (λ f. is_given f.0 rows) all ∙ ap (λ fs. given_forms fs rows) are
+pub given_are : (rows : List Row) (all given slice : List (Bor Text × Form)) → slice ≡ given → given ≡ filter (λ f. is_given f.0.now rows) all → map form_of_row all ≡ forms
+    → map form_of_row slice ≡ given_forms forms rows
+given_are rows all given slice same is are =
+    ap (map form_of_row) (same ∙ is) ∙ map-filter form_of_row (λ f. is_given f.0 rows) all ∙ ap (λ fs. given_forms fs rows) are
 
 -- ---- misuse
 

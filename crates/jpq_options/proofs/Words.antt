@@ -8,8 +8,7 @@ pub use Rattle.clap.specs.declared.builder.value_parser.ValueParser.{ValueParser
 pub use Rattle.clap.specs.declared.error.kind.ErrorKind.{ErrorKind}
 pub use Rattle.clap.specs.declared.error.kind.ErrorKind.TheVariants.{ArgumentConflict, OutOfMemory}
 pub use Rattle.clap.specs.declared.parser.matches.Found.{Found}
-pub use Rattle.clap.specs.declared.parser.matches.ValueSource.{ValueSource}
-pub use Rattle.jpq_options.specs.Options.{AreOptions, IsNumberIn, IsRefusal, IsRequestOf, IsTold, checks_file, color_in, end_of, first_form, form_of_row, forms, given_forms, has_two, is_given, is_of_words, lacks_lines, lacks_path, layout_of, misuse_by, misuse_in, texts, values_of}
+pub use Rattle.jpq_options.specs.Options.{AreOptions, IsNumberIn, IsRefusal, IsRequestOf, IsTold, checks_file, first_form, form_of_row, forms, given_forms, has_two, is_given, lacks_lines, lacks_path, misuse_by, misuse_in, texts}
 pub use Rattle.jpq_options.specs.Paths.{is_path_line}
 pub use Rattle.jpq_options.specs.Table.{file_rule, jpq, path_rule, rule_of_setting, setting_of, settings}
 pub use Rattle.jpq_options.specs.declared.options.OptionRow.{OptionRow}

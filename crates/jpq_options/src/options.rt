@@ -294,6 +294,7 @@ impl fmt::Display for Misuse {
 }
 
 /// Whether the words have an option.
+#[tactic(auto, using(crate::proofs::Found::of_found))]
 fn is_given(matches: &ArgMatches<'_>, name: &str) -> bool
     ensures { result ≡ is_given name.now (rows_of (found_of matches.now)) }
 {
@@ -305,6 +306,7 @@ fn is_given(matches: &ArgMatches<'_>, name: &str) -> bool
 }
 
 /// The values of an argument, in order.
+#[tactic(auto, using(crate::proofs::Found::of_found))]
 fn values<'a>(
     alloc: Global,
     matches: &ArgMatches<'a>,
