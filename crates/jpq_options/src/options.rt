@@ -298,11 +298,7 @@ impl fmt::Display for Misuse {
 fn is_given(matches: &ArgMatches<'_>, name: &str) -> bool
     ensures { result ≡ is_given name.now (rows_of (found_of matches.now)) }
 {
-    match matches.value_source(name) {
-        Some(ValueSource::CommandLine) => true,
-        Some(ValueSource::DefaultValue) => false,
-        None => false,
-    }
+    matches!(matches.value_source(name), Some(ValueSource::CommandLine))
 }
 
 /// The values of an argument, in order.
