@@ -1,6 +1,6 @@
 -- What a reader's loops over items and members have shown so far.
 use Rattle.serde_json_path_reach.proofs.Words.{AreRight, Bool, Data, Includes, Items, Leads, List, Members, None, Option, Row, Segments, Shows, Some, Step, Then, ap, arith, array, by_name, by_position, bytes_eq, bytes_eq-Decides, cases_Bool, child_at, false, get_item, get_member, get_member-put, get_member-put_other, in_stead, inl, inr, is_whole, item, items_len, no_items, no_members, none-some, null, object, put, refl, same_Some, subst, suc, sym, true, true≢false, zero, ℕ, ◌+◌, ◌<◌, ◌∙◌, ◌≡◌, ◌≤◌, ◌⊎◌}
-use Rattle.serde_json_path_reach.proofs.Rows.{led, nothing_pending, stead_shown, whole_asked, whole_shown}
+use Rattle.serde_json_path_reach.proofs.Rows.{led, nothing_met, nothing_pending, stead_shown, whole_asked, whole_shown}
 use Rattle.serde_json_path_reach.proofs.Shows.{assembled, in_place, itself, shows_less, unasked}
 use Rattle.serde_json_path_reach.proofs.Tokens.{joined, joined-nil, joined-joined}
 
@@ -169,14 +169,17 @@ module _ (rows : List Row) (pending : ℕ) where
         (λ right. rw (get_member-put k e found) (shown_below right (by_name k) next d (Some e) leads (l right)))
         (λ right w. rw (i.whole right w, same_Some e d (whole_shown rows next d (Some e) (leads.stays w) (l right))) refl)
 
-    -- a member at which nothing is pending, or of which nothing is shown where there was none of its name
-    pub member_passed : (next ≡ 0) ⊎ (get_member k found ≡ None) → (AreRight rows → Shows (Includes rows next) (Some d) None) → MembersShown (put k d done) found
-    member_passed either l = one_member done found found k d i (λ q apart. refl) (λ right. shown_below right (by_name k) next d (get_member k found) leads (still right either))
-        (λ right w. absurd (none-some d (whole_shown rows next d None (leads.stays w) (l right))))
-      where
-        still : AreRight rows → (next ≡ 0) ⊎ (get_member k found ≡ None) → Shows (Includes rows next) (Some d) (get_member k found)
-        still right (inl is) = rw is (unasked (Includes rows 0) (Some d) (get_member k found) (nothing_pending rows))
-        still right (inr none) = rw none (l right)
+    passed : (AreRight rows → Shows (Includes rows next) (Some d) (get_member k found)) → (AreRight rows → is_whole pending ≡ true → ⊥) → MembersShown (put k d done) found
+    passed l never = one_member done found found k d i (λ q apart. refl) (λ right. shown_below right (by_name k) next d (get_member k found) leads (l right)) (λ right w. absurd (never right w))
+
+    -- a member at which nothing is pending
+    pub member_unasked : next ≡ 0 → MembersShown (put k d done) found
+    member_unasked is = passed (λ right. rw is (unasked (Includes rows 0) (Some d) (get_member k found) (nothing_pending rows)))
+        (λ right w. true≢false (sym (leads.stays w) ∙ rw is (nothing_met 1)))
+
+    -- a member of which nothing is shown, where there was none of its name
+    pub member_passed : get_member k found ≡ None → (AreRight rows → Shows (Includes rows next) (Some d) None) → MembersShown (put k d done) found
+    member_passed none l = passed (λ right. rw none (l right)) (λ right w. none-some d (whole_shown rows next d None (leads.stays w) (l right)))
 
   object_kids : AreRight rows → (done found : Members) → MembersShown done found → (s : Step) → Shows (Then s (Includes rows pending)) (child_at (object done) s) (child_at (object found) s)
   object_kids right done found i (by_name k) = i.shown right k

@@ -39,7 +39,7 @@ meets_itself a some =
     let unset : (a == 0) ≡ false = grind arith in
     rw (same, unset) refl
 
-nothing_met : (a : ℕ) → meets 0 a ≡ false
+pub nothing_met : (a : ℕ) → meets 0 a ≡ false
 unfolding meets
 nothing_met a = refl
 

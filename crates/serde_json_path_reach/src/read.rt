@@ -156,11 +156,15 @@ fn read_members(
     let mut found: Map<String, Value> = Map::new(alloc);
     'members: while let Some(name) = reader.next_key()? {
         let after = plan.after(pending, PathElement::Name(name));
+        if after == 0 {
+            pass(reader, depth)?;
+            continue;
+        }
         match read(alloc, reader, depth, plan, after)? {
             Some(member) => put(alloc, &mut found, name, member)?,
             // Null takes the place of an earlier member of this name.
             None => {
-                if after != 0 && found.contains_key(name) {
+                if found.contains_key(name) {
                     put(alloc, &mut found, name, Value::Null)?;
                 }
             }

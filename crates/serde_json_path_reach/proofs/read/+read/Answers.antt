@@ -1,13 +1,12 @@
 -- A value of which something is shown is read token by token as `serde_json` reads it.
-use Rattle.serde_json_path_reach.proofs.Words.{None, Null, Some, [], after_end_array, ap, arith, array, common_steps, false, inl, inr, item, items_view, members_view, no_items, no_members, object, null, put, read_key, refl, replicate, get_member, suc, sym, token_of, view, view-Array, view-Object, ◌∙◌, ◌∷◌, ◌≡◌, ◌⊎◌}
+use Rattle.serde_json_path_reach.proofs.Words.{None, Null, Some, [], after_end_array, ap, arith, array, common_steps, false, inl, inr, item, items_view, members_view, no_items, no_members, object, null, put, read_key, refl, replicate, suc, sym, token_of, view, view-Array, view-Object, ◌∙◌, ◌∷◌, ◌≡◌, ◌⊎◌}
 use Rattle.serde_json_path_reach.proofs.Plans.{if_ok}
-use Rattle.serde_json_path_reach.proofs.Reading.{array_dropped, array_shown, found_one, member_passed, member_put, next_place, no_members_shown, none_so_far, nulls, object_dropped, object_shown, passed_one}
+use Rattle.serde_json_path_reach.proofs.Reading.{array_dropped, array_shown, found_one, member_passed, member_put, member_unasked, next_place, no_members_shown, none_so_far, nulls, object_dropped, object_shown, passed_one}
 use Rattle.serde_json_path_reach.proofs.Rows.{bare_shown, stead_shown}
 use Rattle.serde_json_path_reach.proofs.Shows.{in_place, itself}
 use Rattle.serde_json_path_reach.proofs.Tokens.{array_read, items_begun, items_ended, items_on, joined, leaf_has_none, leaf_read, members_begun, members_ended, members_on, object_read, some_of}
 use Rattle.serde_json_path_reach.proofs.Values.{items_view-append, items_view-nulls, nil, no_member, pushed, view_null}
 use Rattle.serde_json_path_reach.proofs.read.+read.Goals as goal
-use Rattle.serde_json_path_reach.proofs.read.+read.Goals.{read_members-else-after-ne0-via-then-after-ne0+else-contains_key, read_members-else-after-ne0-via-else-after-ne0}
 
 pub read-returns-then-is_bare-clause-ok : goal.read-returns-then-is_bare-clause-ok
 read-returns-then-is_bare-clause-ok t c =
@@ -106,8 +105,21 @@ read_items-returns-clause-ok t c =
 pub read_members-members-init : goal.read_members-members-init
 read_members-members-init t c = record { done = no_members; tokens = members_begun _ _; so_far = rw c.new-found.ensures.empty (no_members_shown c.args.plan.now.rows.items c.args.pending) }
 
-pub read_members-members-preserved-in-Continue-branch-5 : goal.read_members-members-preserved-in-Continue-branch-5
-read_members-members-preserved-in-Continue-branch-5 t c =
+pub read_members-members-preserved-then-after-eq0 : goal.read_members-members-preserved-then-after-eq0
+read_members-members-preserved-then-after-eq0 t c =
+    let l = c.members in
+    let i = l.invariant in
+    let named : read_key l.reader ≡ Some (Some c.in-Some.name.now, c.next_key.new.self) = grind arith in
+    let (d, read) = c.in_ok-pass.ensures.ok in
+    let none : c.after-after.result ≡ 0 = grind (arith, c.if-after-eq0.true) in
+    record {
+      done = put c.in-Some.name.now d i.done;
+      tokens = members_on _ _ l.reader c.next_key.new.self c.pass.new.reader c.in-Some.name.now i.done d i.tokens named read c.in_ok-pass.ensures.shorter;
+      so_far = member_unasked c.args.plan.now.rows.items c.args.pending i.done (members_view l.found.entries) c.in-Some.name.now c.after-after.result d i.so_far c.after-after.ensures none;
+    }
+
+pub read_members-members-preserved-in-Continue-branch-6 : goal.read_members-members-preserved-in-Continue-branch-6
+read_members-members-preserved-in-Continue-branch-6 t c =
     let l = c.members in
     let i = l.invariant in
     let named : read_key l.reader ≡ Some (Some c.in-Some.name.now, c.next_key.new.self) = grind arith in
@@ -119,8 +131,8 @@ read_members-members-preserved-in-Continue-branch-5 t c =
           (view c.in-Some-2.member) (λ right. rw c.in-Some-2.is at (k right)));
     }
 
-pub read_members-members-preserved-then-contains_key : goal.read_members-members-preserved-then-contains_key
-read_members-members-preserved-then-contains_key t c =
+pub read_members-members-preserved-in-Continue-branch-7 : goal.read_members-members-preserved-in-Continue-branch-7
+read_members-members-preserved-in-Continue-branch-7 t c =
     let l = c.members in
     let i = l.invariant in
     let named : read_key l.reader ≡ Some (Some c.in-Some.name.now, c.next_key.new.self) = grind arith in
@@ -138,14 +150,11 @@ read_members-members-preserved t c =
     let i = l.invariant in
     let named : read_key l.reader ≡ Some (Some c.in-Some.name.now, c.next_key.new.self) = grind arith in
     let (d, read, k) = c.in_ok-member.ensures.ok in
-    let either : (c.after-after.result ≡ 0) ⊎ (get_member c.in-Some.name.now (members_view l.found.entries) ≡ None) = elim c.else-after-ne0.branch [
-      | read_members-else-after-ne0-via-then-after-ne0+else-contains_key w ↦ inr (no_member c.in-Some.name.now l.found.entries (sym w.contains_key.ensures ∙ w.if-contains_key.false))
-      | read_members-else-after-ne0-via-else-after-ne0 w ↦ inl (grind (arith, w.if-after-ne0.false))
-    ] in
+    let none = no_member c.in-Some.name.now l.found.entries (sym c.contains_key.ensures ∙ c.if-contains_key.false) in
     record {
       done = put c.in-Some.name.now d i.done;
       tokens = members_on _ _ l.reader c.next_key.new.self c.read.new.reader c.in-Some.name.now i.done d i.tokens named read c.in_ok-member.ensures.shorter;
-      so_far = member_passed c.args.plan.now.rows.items c.args.pending i.done (members_view l.found.entries) c.in-Some.name.now c.after-after.result d i.so_far c.after-after.ensures either (λ right. rw c.in-None.is at (k right));
+      so_far = member_passed c.args.plan.now.rows.items c.args.pending i.done (members_view l.found.entries) c.in-Some.name.now c.after-after.result d i.so_far c.after-after.ensures none (λ right. rw c.in-None.is at (k right));
     }
 
 pub read_members-returns-then-not-is_whole-clause-ok : goal.read_members-returns-then-not-is_whole-clause-ok
