@@ -9,6 +9,7 @@
 //! streams.
 #![tactic(auto)]
 
+use jpq_program::colours::takes_colors;
 use jpq_program::inputs::Inputs;
 use jpq_program::run::run;
 use std::fs::File;
@@ -59,12 +60,29 @@ fn words(rt: &HostRuntime) -> Vec<String> {
     }
 }
 
+/// Whether the environment has a variable whose value is not empty and not this one.
+fn is_set(rt: &HostRuntime, name: &str, but: &str) -> bool {
+    match env::var(rt, name) {
+        Ok(value) => !value.is_empty() && value.as_str() != but,
+        Err(_) => false,
+    }
+}
+
+/// Whether the terminal that the environment names has no colours.
+fn is_dumb(rt: &HostRuntime) -> bool {
+    env::var(rt, "TERM").is_ok_and(|name| name.as_str() == "dumb")
+}
+
 fn main(rt: HostRuntime) -> ExitCode {
     let words = words(&rt);
     let mut inputs = MachineInputs { rt: &rt };
     let mut out = rt.stdout();
     let mut err = rt.stderr();
-    let terminal = out.is_terminal();
+    let (no_color, is_forced) = (
+        is_set(&rt, "NO_COLOR", ""),
+        is_set(&rt, "CLICOLOR_FORCE", "0"),
+    );
+    let terminal = takes_colors(out.is_terminal(), is_dumb(&rt), no_color, is_forced);
     let status = run(
         rt.alloc(),
         &words,

@@ -2,6 +2,7 @@
 
 use crate::answers::push_answer;
 use crate::colours::push_colored;
+use crate::encodings::{encoding_of, without_mark};
 use crate::inputs::Inputs;
 use crate::paths::AskedPath;
 use crate::streams::{Stop, Streams};
@@ -35,6 +36,9 @@ pub(crate) struct Answering<'a> {
     /// Whether lines have colours.
     pub(crate) colored: bool,
 }
+
+/// How many lines of an input that are no documents are told, each by itself.
+const TOLD_LINES: usize = 10;
 
 /// The name of an input, as messages and lines begin with it.
 fn shown_name(name: &str) -> &str {
@@ -164,17 +168,50 @@ impl Answering<'_> {
             }
             Err(e) => e,
         };
-        let e = DocumentError {
-            line: e.line.saturating_add(line.saturating_sub(1)),
-            ..e
-        };
-        let name = shown_name(name);
-        streams.tell_refusal(format!(in self.alloc; "jpq: {name}: {e}\n")?.as_str());
+        self.refuse_document(name, line, bytes, e, streams)
+    }
+
+    /// Tells why bytes are no document. Of an input's lines the first ten are told, and the rest are counted.
+    fn refuse_document<W: Write, E: Write>(
+        &self,
+        name: &str,
+        line: usize,
+        bytes: &[u8],
+        e: DocumentError,
+        streams: &mut Streams<'_, W, E>,
+    ) -> Result<(), Stop> {
+        streams.outcome.refused = true;
+        streams.refused_documents = streams.refused_documents.saturating_add(1);
+        if streams.refused_documents <= TOLD_LINES {
+            let name = shown_name(name);
+            let line = e.line.saturating_add(line.saturating_sub(1));
+            let e = DocumentError { line, ..e };
+            let message = match encoding_of(bytes) {
+                Some(encoding) => format!(in self.alloc; "jpq: {name}: {encoding}\n")?,
+                None => format!(in self.alloc; "jpq: {name}: {e}\n")?,
+            };
+            streams.tell(message.as_str());
+        }
         if self.strict {
             Err(Stop::Refused)
         } else {
             Ok(())
         }
+    }
+
+    /// Tells how many lines of an input were refused after those that were told.
+    fn tell_more_lines<W: Write, E: Write>(
+        &self,
+        name: &str,
+        streams: &mut Streams<'_, W, E>,
+    ) -> Result<(), Stop> {
+        let more = streams.refused_documents.saturating_sub(TOLD_LINES);
+        if more > 0 {
+            let name = shown_name(name);
+            let message = format!(in self.alloc; "jpq: {name}: {more} more lines are refused\n")?;
+            streams.tell(message.as_str());
+        }
+        Ok(())
     }
 
     /// Tells that an input can't be opened or read.
@@ -200,7 +237,7 @@ impl Answering<'_> {
     ) -> Result<(), Stop> {
         let mut bytes = Vec::new(self.alloc);
         match input.read_to_end(&mut bytes) {
-            Ok(_) => self.answer_bytes(name, 1, &bytes, streams),
+            Ok(_) => self.answer_bytes(name, 1, without_mark(&bytes), streams),
             Err(e) => self.refuse_input(name, &e, streams),
         }
     }
@@ -217,7 +254,7 @@ impl Answering<'_> {
             return Ok(());
         }
         let document = line.strip_suffix(b"\n").unwrap_or(line);
-        self.answer_bytes(name, number, document, streams)
+        self.answer_bytes(name, number, without_mark(document), streams)
     }
 
     /// Answers an input of which each line is a document. One line is held at a time.
@@ -234,7 +271,7 @@ impl Answering<'_> {
         for number in 1..usize::MAX {
             line.clear();
             match reader.read_until(b'\n', &mut line) {
-                Ok(0) => return Ok(()),
+                Ok(0) => return self.tell_more_lines(name, streams),
                 Ok(_) => self.answer_line(name, number, &line, streams)?,
                 Err(e) => return self.refuse_input(name, &e, streams),
             }
@@ -250,6 +287,7 @@ impl Answering<'_> {
         streams: &mut Streams<'_, W, E>,
     ) -> Result<(), Stop> {
         for name in names {
+            streams.refused_documents = 0;
             match inputs.open(*name) {
                 Ok(input) if self.lines => self.answer_lines(*name, input, streams)?,
                 Ok(input) => self.answer_whole(*name, input, streams)?,

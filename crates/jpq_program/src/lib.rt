@@ -7,9 +7,10 @@
 
 pub mod answers;
 mod caret;
-mod colours;
+pub mod colours;
 mod documents;
 mod empty_answer;
+mod encodings;
 pub mod inputs;
 mod paths;
 mod refusal;

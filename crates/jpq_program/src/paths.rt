@@ -108,6 +108,22 @@ fn paths_text<I: Inputs, W: Write, E: Write>(
     }
 }
 
+/// Tells that the path comes first, where a file's name stands in its place.
+fn tell_order<I: Inputs, W: Write, E: Write>(
+    alloc: Global,
+    texts: &[&str],
+    inputs: &mut I,
+    streams: &mut Streams<'_, W, E>,
+) -> Result<(), Stop> {
+    if let Some(text) = texts.first() {
+        if *text != "-" && inputs.open(*text).is_ok() {
+            let message = format!(in alloc; "jpq: {text} is a file: the path comes first\n")?;
+            streams.tell(message.as_str());
+        }
+    }
+    Ok(())
+}
+
 /// The rule for numbers, as the options say.
 fn numbers_of(options: &Options<'_>) -> Numbers {
     if options.whole_numbers {
@@ -136,9 +152,11 @@ pub(crate) fn asked_paths<I: Inputs, W: Write, E: Write>(
     let mut paths = Vec::new(alloc);
     reading.parse_all(&options.paths, 1, &mut paths, streams)?;
     reading.parse_all(&lines, in_words.saturating_add(1), &mut paths, streams)?;
-    if streams.outcome.refused {
-        Err(Stop::Refused)
-    } else {
-        Ok(paths)
+    if !streams.outcome.refused {
+        return Ok(paths);
     }
+    if reading.hints {
+        tell_order(alloc, &options.paths, inputs, streams)?;
+    }
+    Err(Stop::Refused)
 }

@@ -156,8 +156,8 @@ fn exit_status<W: Write, E: Write>(ended: Result<(), Stop>, streams: &mut Stream
     }
 }
 
-/// The program: `jpq [OPTIONS] PATH [FILE]...`. The first word is the program's name; `terminal` says whether the output is a
-/// terminal. Returns the exit status:
+/// The program: `jpq [OPTIONS] PATH [FILE]...`. The first word is the program's name; `terminal` says whether the output takes
+/// colours, as most terminals do. Returns the exit status:
 ///
 /// | Status | When |
 /// |---|---|

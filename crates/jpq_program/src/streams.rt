@@ -82,6 +82,8 @@ pub(crate) struct Streams<'a, W, E> {
     pub(crate) out: &'a mut W,
     pub(crate) err: &'a mut E,
     pub(crate) outcome: Outcome,
+    /// How many documents of the input at hand were refused.
+    pub(crate) refused_documents: usize,
 }
 
 impl<'a, W: Write, E: Write> Streams<'a, W, E> {
@@ -91,7 +93,12 @@ impl<'a, W: Write, E: Write> Streams<'a, W, E> {
             selected: false,
             refused: false,
         };
-        Streams { out, err, outcome }
+        Streams {
+            out,
+            err,
+            outcome,
+            refused_documents: 0,
+        }
     }
 
     /// Writes texts, one after the other, and flushes them.

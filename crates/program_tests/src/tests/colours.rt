@@ -1,6 +1,7 @@
 //! Lines in colours.
 
 use crate::tests::forms::form;
+use jpq_program::colours::takes_colors;
 use jsonpath_lines::colored;
 use std::alloc::Global;
 use std::test::Fail;
@@ -55,4 +56,31 @@ fn push_coloured(text: &mut String, part: &str) -> Result<(), Fail> {
 #[test]
 fn lines_in_colours(rt: HostRuntime) -> Result<(), Fail> {
     hold_rows(&rt, LINES, with_signs)
+}
+
+/// What an output is, and what the environment says; and whether the output takes colours.
+const OUTPUTS: &[&str] = &[
+    "a terminal -> true",
+    "a dumb terminal -> false",
+    "a pipe -> false",
+    "a pipe, CLICOLOR_FORCE -> true",
+    "a dumb terminal, CLICOLOR_FORCE -> true",
+    "a terminal, NO_COLOR -> false",
+    "a pipe, NO_COLOR, CLICOLOR_FORCE -> false",
+];
+
+/// Whether such an output takes colours.
+fn takes(alloc: Global, output: &str) -> Came {
+    let taken = takes_colors(
+        output.contains("terminal"),
+        output.contains("dumb"),
+        output.contains("NO_COLOR"),
+        output.contains("CLICOLOR_FORCE"),
+    );
+    Ok(format!(in alloc; "{taken}")?)
+}
+
+#[test]
+fn heeds_the_environment(rt: HostRuntime) -> Result<(), Fail> {
+    hold_rows(&rt, OUTPUTS, takes)
 }

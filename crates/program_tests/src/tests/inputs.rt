@@ -22,9 +22,19 @@ const FILES: &[(&str, &str)] = &[
     ("paths", "# paths of a file\n$.a\n\n$.b\r\n"),
 ];
 
-/// The text of a file, if there is one of that name.
-fn file(name: &str) -> Option<&'static str> {
-    FILES.iter().find(|file| file.0 == name).map(|file| file.1)
+/// Files that are not UTF-8.
+const OTHERS: &[(&str, &[u8])] = &[
+    ("book.json.gz", b"\x1f\x8b\x08\x00"),
+    ("little.json", b"\xff\xfe{\x00}\x00"),
+    ("big.json", b"\xfe\xff\x00{\x00}"),
+];
+
+/// The bytes of a file, if there is one of that name.
+fn file(name: &str) -> Option<&'static [u8]> {
+    match FILES.iter().find(|file| file.0 == name) {
+        Some(file) => Some(file.1.as_bytes()),
+        None => OTHERS.iter().find(|file| file.0 == name).map(|file| file.1),
+    }
 }
 
 /// A reader of bytes that fails at one of its calls.
@@ -60,13 +70,13 @@ impl<'a> Inputs for MemoryInputs<'a> {
     type Input = MemoryInput<'a>;
 
     fn open(&mut self, name: &str) -> io::Result<MemoryInput<'a>> {
-        let text: &'a str = match file(name) {
-            Some(text) => text,
-            None if name == "-" => self.standard,
+        let left: &'a [u8] = match file(name) {
+            Some(bytes) => bytes,
+            None if name == "-" => self.standard.as_bytes(),
             None => return Err(io::Error::from(io::ErrorKind::NotFound)),
         };
         Ok(MemoryInput {
-            left: text.as_bytes(),
+            left,
             calls: 0,
             fails_at: self.fails_at,
         })

@@ -42,6 +42,9 @@ const RUNS: &[&str] = &[
     "-f  paths  -v  one.json -> 0: 1\t1~",
     // Lines of which each is a document.
     "-L  -v  $.a ~ {\"a\":1}\n\n{\"a\":2}\n{\"b\":3} -> 0: 1~2~",
+    // A byte order mark before a document or a line is passed over.
+    "-v  $.a ~ \u{feff}{\"a\":1} -> 0: 1~",
+    "-L  -v  $.a ~ \u{feff}{\"a\":1}\n\u{feff}{\"a\":2} -> 0: 1~2~",
     // Paths alone.
     "--check  $.store..book[?(@.a==1)] -> 0: $.store..book[?(@.a == 1)]~",
     // Colours.
@@ -55,6 +58,11 @@ const TOLD: &[&str] = &[
     r#"-v  $.a ~ {"a":1} {"a":2} -> 2: , told jpq: standard input: line 1, column 9: a second document (is it NDJSON? use -L)~"#,
     "-L  -v  $.a ~ {\"a\":1}\n{\"a\"\n{\"a\":3}\n -> 2: 1~3~, told jpq: standard input: line 2, column 5: the document ends too soon~",
     "-L  --strict  -v  $.a ~ {\"a\":1}\n// x\n{\"a\":3}\n -> 2: 1~, told jpq: standard input: line 2, column 1: a comment, which JSON does not have~",
+    "-L  -v  $ ~ x\nx\nx\nx\nx\nx\nx\nx\nx\nx\nx\nx\n1 -> 2: 1~, told jpq: standard input: line 1, column 1: not JSON~jpq: standard input: line 2, column 1: not JSON~jpq: standard input: line 3, column 1: not JSON~jpq: standard input: line 4, column 1: not JSON~jpq: standard input: line 5, column 1: not JSON~jpq: standard input: line 6, column 1: not JSON~jpq: standard input: line 7, column 1: not JSON~jpq: standard input: line 8, column 1: not JSON~jpq: standard input: line 9, column 1: not JSON~jpq: standard input: line 10, column 1: not JSON~jpq: standard input: 2 more lines are refused~",
+    "-v  $ ~ \u{feff}\u{feff}1 -> 2: , told jpq: standard input: line 1, column 1: a byte order mark, which JSON does not begin with~",
+    "book.json  $.a -> 2: , told jpq: the path is refused at byte 1: a path begins with '$', found 'book'~  book.json~  ^~  write `$.` before it, as in `$.a.b`~jpq: book.json is a file: the path comes first~",
+    "-s  book.json  $.a -> 2: , told jpq: the path is refused at byte 1: a path begins with '$', found 'book'~  book.json~  ^~",
+    "-v  $  book.json.gz  little.json  big.json -> 2: , told jpq: book.json.gz: compressed by gzip (unpack it with gzip -dc)~jpq: little.json: UTF-16, where JSON is UTF-8 (convert it with iconv -f UTF-16 -t UTF-8)~jpq: big.json: UTF-16, where JSON is UTF-8 (convert it with iconv -f UTF-16 -t UTF-8)~",
     r#"-v  $.items.length ~ {"items":[1]} -> 1: , told jpq: nothing was selected: 'length' is a member's name here; length(@.a) in a filter is how long a value is~"#,
     "-v  $..size ~ [] -> 1: , told jpq: nothing was selected: 'size' is a member's name here; length(@.a) in a filter is how long a value is~",
     "-v  $[?@.a == 1 || @.b.count > 1] ~ [] -> 1: , told jpq: nothing was selected: 'count' is a member's name here; count(@.*) in a filter is how many nodes there are~",
