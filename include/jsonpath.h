@@ -8,12 +8,13 @@
  *
  * A call with two texts reads both each time. A program that asks many paths, or many documents, compiles a path once and reads
  * a document once, and keeps each in a handle: `jsonpath_path *`, `jsonpath_document *`, and `jsonpath_nodes *` for a list of
- * nodes. A handle begins as NULL, which is empty; a call that fills or empties it is handed its address. Every call works on
+ * nodes. A document that is asked once is handed over as its bytes (`jsonpath_lines_in` and on), of which what the path can reach
+ * is read. A handle begins as NULL, which is empty; a call that fills or empties it is handed its address. Every call works on
  * what it is handed and keeps nothing else. A text is bytes and a length in bytes, and needs no NUL at its end.
  *
  * What the caller must keep to; nothing checks it:
  *   - A pointer is not null, also where its length is 0, and the memory behind it is valid for that length. What a call may
- *     write (`out`, `length`, `refusal`) overlaps nothing else that the call is handed, and no other thread uses it meanwhile.
+ *     write (`out`, `length`, `refusal`, `position`) overlaps nothing else that the call is handed, and no other thread uses it meanwhile.
  *   - A variable of a handle is NULL at first, is changed by these calls alone, and is not copied: what two variables hold would
  *     be freed twice. A call uses a handle as if it wrote it: no other thread uses it meanwhile, and one call is not handed the
  *     same variable twice. Between calls a handle may go from one thread to another, with what orders their memory.
@@ -45,7 +46,8 @@ extern "C" {
 #define JSONPATH_NOT_UTF8 6         /* The path is not UTF-8. */
 #define JSONPATH_EMPTY_HANDLE 7     /* A handle that the call needs is empty. */
 #define JSONPATH_CUT_SHORT 8        /* There is more than the limits allow; what comes before is answered. */
-#define JSONPATH_DOCUMENT_TOO_DEEP 9 /* The document nests deeper than 127 levels (of `jsonpath_document_new`). */
+#define JSONPATH_DOCUMENT_TOO_DEEP 9 /* The document nests deeper than 127 levels (of `jsonpath_document_new`, and of
+                                      * calls on a path and bytes). */
 #define JSONPATH_NO_SUCH_NODE 10    /* The list has no node of that index, or it is not what is asked for. */
 
 /* Kinds of refusals of a path. */
@@ -168,6 +170,21 @@ uint8_t jsonpath_count(jsonpath_path **path, jsonpath_document **document, size_
 
 /* Whether a path selects a node, 1 or 0 in `*exists`; it stops at the first: statuses as of jsonpath_count. */
 uint8_t jsonpath_exists(jsonpath_path **path, jsonpath_document **document, uint8_t *exists);
+
+/* As jsonpath_lines, of the document that the bytes are, which is read for this call: its statuses, and DOCUMENT_REFUSED and
+ * DOCUMENT_TOO_DEEP with `*position` as of jsonpath_document_new. What the path cannot reach is passed over, and of
+ * JSONPATH_LOCATIONS the values are. With EMPTY_HANDLE the bytes were not looked at. */
+uint8_t jsonpath_lines_in(jsonpath_path **path, const uint8_t *document, size_t document_length, uint8_t form,
+                          const struct jsonpath_limits *limits, uint8_t *out, size_t out_length, size_t *length,
+                          size_t *position);
+
+/* As jsonpath_count, of the document that the bytes are: its statuses, and the two refusals as of jsonpath_lines_in. */
+uint8_t jsonpath_count_in(jsonpath_path **path, const uint8_t *document, size_t document_length, size_t *count,
+                          size_t *position);
+
+/* As jsonpath_exists, of the document that the bytes are: statuses as of jsonpath_count_in. */
+uint8_t jsonpath_exists_in(jsonpath_path **path, const uint8_t *document, size_t document_length, uint8_t *exists,
+                           size_t *position);
 
 /* A list of the nodes that a path selects, in order: DONE, CUT_SHORT, QUERY_REFUSED, NO_MEMORY or EMPTY_HANDLE. With `unique`
  * other than 0 each location comes once, where it comes first; at most 64 nodes, or four times as many as differ in their

@@ -193,6 +193,7 @@ struct asked_with {
     size_t index; /* Of a node. */
     uint8_t form; /* Of lines, as `limits`. */
     struct jsonpath_limits limits;
+    const char *bytes; /* A document that is handed over as such. */
 };
 
 static const struct jsonpath_limits NO_LIMITS = {SIZE_MAX, SIZE_MAX};
@@ -205,6 +206,13 @@ static uint8_t path_text(struct asked_with *with, uint8_t *out, size_t out_lengt
 }
 static uint8_t lines(struct asked_with *with, uint8_t *out, size_t out_length, size_t *length) {
     return jsonpath_lines(&with->path, &with->document, with->form, &with->limits, out, out_length, length);
+}
+static uint8_t lines_in(struct asked_with *with, uint8_t *out, size_t out_length, size_t *length) {
+    size_t position = 7;
+    uint8_t status = jsonpath_lines_in(&with->path, (const uint8_t *)with->bytes, strlen(with->bytes), with->form,
+                                       &with->limits, out, out_length, length, &position);
+    holds(position == 7, "position is written by lines", with->bytes);
+    return status;
 }
 static uint8_t location(struct asked_with *with, uint8_t *out, size_t out_length, size_t *length) {
     return jsonpath_node_location(&with->nodes, with->index, out, out_length, length);
@@ -240,7 +248,7 @@ static void read_to(jsonpath_document **document, const char *text) {
 
 /* A path, a document, and the list of the nodes that it selects. */
 static struct asked_with asked_of(const char *path, uint8_t numbers, const char *document) {
-    struct asked_with with = {NULL, NULL, NULL, 0, JSONPATH_VALUES, NO_LIMITS};
+    struct asked_with with = {NULL, NULL, NULL, 0, JSONPATH_VALUES, NO_LIMITS, document};
     compile(&with.path, path, numbers);
     read_to(&with.document, document);
     uint8_t status = jsonpath_select(&with.path, &with.document, 0, &NO_LIMITS, &with.nodes);
@@ -283,6 +291,64 @@ static void writes_nothing(text_call *call, struct asked_with *with, uint8_t sta
     free(answer.out);
 }
 
+enum { BLANKS = 1024 }; /* A document that is so long is read for its path, and a shorter one whole. */
+
+/* The document of a question with blanks after it. */
+static char *longer(struct asked_with *with) {
+    char *text = malloc(strlen(with->bytes) + BLANKS + 1);
+    sprintf(text, "%s%*s", with->bytes, BLANKS, "");
+    return text;
+}
+
+/* Holds the lines of a document, and of it as bytes, with and without blanks, to what is wanted. */
+static void writes_lines_of(struct asked_with *with, uint8_t status, const char *wanted, const char *what) {
+    struct asked_with of_longer = *with;
+    char *bytes = longer(with);
+    of_longer.bytes = bytes;
+    writes(lines, with, status, wanted, what);
+    writes(lines_in, with, status, wanted, what);
+    writes(lines_in, &of_longer, status, wanted, what);
+    free(bytes);
+}
+
+/* Holds the calls that count in bytes, with and without blanks, to the number of nodes. */
+static void counts_in(struct asked_with *with, size_t nodes, const char *what) {
+    char *bytes = longer(with);
+    for (size_t blanks = 0; blanks <= BLANKS; blanks += BLANKS) {
+        const uint8_t *text = (const uint8_t *)bytes;
+        size_t count = 7, position = 7, length = strlen(with->bytes) + blanks;
+        uint8_t exists = 7;
+        uint8_t status = jsonpath_count_in(&with->path, text, length, &count, &position);
+        holds(status == JSONPATH_DONE && count == nodes && position == 7, "count in bytes", what);
+        status = jsonpath_exists_in(&with->path, text, length, &exists, &position);
+        holds(status == JSONPATH_DONE && exists == !!nodes && position == 7, "exists in bytes", what);
+    }
+    free(bytes);
+}
+
+/* Holds each call on bytes, with and without blanks before them, to a status with which nothing is written but the byte where
+ * they are refused; it is 0 where that is not written either. */
+static void refuses_in(struct asked_with *with, const char *bytes, size_t length, uint8_t wanted, size_t byte,
+                       const char *what) {
+    uint8_t *text = malloc(BLANKS + length);
+    memset(text, ' ', BLANKS), memcpy(text + BLANKS, bytes, length);
+    for (size_t blanks = 0; blanks <= BLANKS; blanks += BLANKS) {
+        const uint8_t *begin = text + BLANKS - blanks, form = with->form;
+        size_t count = 7, position[3] = {0}, all = length + blanks, at = byte ? byte + blanks : 0;
+        uint8_t exists = 7;
+        struct answer answer = lent(ROOM);
+        answer.status = jsonpath_lines_in(&with->path, begin, all, form, &NO_LIMITS, answer.out, ROOM, &answer.length, position);
+        holds(answer.status == wanted && position[0] == at, "lines of bytes that are refused", what);
+        holds(is_untouched(answer.out, ROOM) && is_untouched(&answer.length, sizeof answer.length), "lines are written", what);
+        uint8_t status = jsonpath_count_in(&with->path, begin, all, &count, position + 1);
+        holds(status == wanted && position[1] == at && count == 7, "count in bytes that are refused", what);
+        status = jsonpath_exists_in(&with->path, begin, all, &exists, position + 2);
+        holds(status == wanted && position[2] == at && exists == 7, "exists in bytes that are refused", what);
+        free(answer.out);
+    }
+    free(text);
+}
+
 /* Holds what compiled paths select to what the calls with two texts give. */
 static void selects_compiled(const char *path, uint8_t numbers, const char *document, const char *report,
                              const char *values, const char *locations) {
@@ -291,12 +357,13 @@ static void selects_compiled(const char *path, uint8_t numbers, const char *docu
     struct asked_with with = asked_of(path, numbers, document);
     for (int at = 0; at < 5; at++) {
         with.form = forms[at];
-        writes(lines, &with, JSONPATH_DONE, wanted[at], path);
+        writes_lines_of(&with, JSONPATH_DONE, wanted[at], path);
     }
     size_t count = 7, length = 7, nodes = 0;
     for (const char *at = values; (at = strchr(at, '\n')); at++) nodes++;
     holds(jsonpath_count(&with.path, &with.document, &count) == JSONPATH_DONE && count == nodes, "count", path);
     holds(jsonpath_exists(&with.path, &with.document, &exists) == JSONPATH_DONE && exists == !!nodes, "exists", path);
+    counts_in(&with, nodes, path);
     holds(jsonpath_nodes_length(&with.nodes, &length) == JSONPATH_DONE && length == nodes, "length of a list", path);
     for (; with.index < nodes; with.index++) {
         char value[ROOM], place[ROOM];
@@ -379,6 +446,13 @@ static void refuses_document(const char *bytes, size_t length, uint8_t wanted, s
     holds(none == NULL && position == byte, "byte of a document", bytes);
     holds(jsonpath_document_new(copy, length, &with.document, &position) == wanted, "status over a document", bytes);
     writes(lines, &with, JSONPATH_DONE, "[1]\n", "document after a refusal");
+    const char *paths[] = {"$", "$.a[0]", "$..a"};
+    for (int at = 0; at < 3; at++) {
+        compile(&with.path, paths[at], JSONPATH_WHOLE_NUMBERS);
+        with.form = at;
+        refuses_in(&with, bytes, length, wanted, byte, paths[at]);
+        writes(path_text, &with, JSONPATH_DONE, paths[at], "path after a refusal");
+    }
     free(copy), emptied(&with);
 }
 
@@ -440,11 +514,11 @@ static void limits(void) {
     for (size_t at = 0; at < sizeof rows / sizeof *rows; at++) {
         with.limits = rows[at].limits;
         uint8_t status = strlen(rows[at].lines) == 9 ? JSONPATH_DONE : JSONPATH_CUT_SHORT;
-        writes(lines, &with, status, rows[at].lines, "lines within limits");
+        writes_lines_of(&with, status, rows[at].lines, "lines within limits");
     }
     compile(&with.path, "$.a", JSONPATH_WHOLE_NUMBERS);
     with.limits = (struct jsonpath_limits){0, 0};
-    writes(lines, &with, JSONPATH_DONE, "", "no lines within limits of 0");
+    writes_lines_of(&with, JSONPATH_DONE, "", "no lines within limits of 0");
     emptied(&with);
 }
 
@@ -615,6 +689,8 @@ static void finds_empty(struct asked_with *with, const char *what) {
         writes_nothing(path_text, with, empty, what);
         holds(jsonpath_path_equals(&with->path, &other, &equal) == empty && equal == 7, "equals", what);
         holds(jsonpath_path_equals(&other, &with->path, &equal) == empty && equal == 7, "is equal", what);
+        refuses_in(with, "[1]", 3, empty, 0, what);
+        refuses_in(with, "{", 1, empty, 0, what);
     }
     if (cannot_query) {
         writes_nothing(lines, with, empty, what);
@@ -664,6 +740,7 @@ static void refused_queries(void) {
     writes_nothing(lines, &with, refused, path);
     holds(jsonpath_count(&with.path, &with.document, &count) == refused && count == 7, "count", path);
     holds(jsonpath_exists(&with.path, &with.document, &exists) == refused && exists == 7, "exists", path);
+    for (with.form = 0; with.form < 3; with.form++) refuses_in(&with, with.bytes, strlen(with.bytes), refused, 0, path);
     for (uint8_t unique = 0; unique < 2; unique++) {
         holds(jsonpath_select(&with.path, &with.document, unique, &with.limits, &with.nodes) == refused, "select", path);
     }
@@ -705,6 +782,18 @@ static uint8_t finds(struct asked_with *with) {
 static uint8_t writes_lines(struct asked_with *with) {
     return lines(with, room_for_text, ROOM, &text_length);
 }
+static uint8_t counts_bytes(struct asked_with *with) {
+    size_t count, position;
+    return jsonpath_count_in(&with->path, (const uint8_t *)with->bytes, strlen(with->bytes), &count, &position);
+}
+static uint8_t finds_in_bytes(struct asked_with *with) {
+    uint8_t exists;
+    size_t position;
+    return jsonpath_exists_in(&with->path, (const uint8_t *)with->bytes, strlen(with->bytes), &exists, &position);
+}
+static uint8_t writes_lines_of_bytes(struct asked_with *with) {
+    return lines_in(with, room_for_text, ROOM, &text_length);
+}
 static uint8_t writes_path(struct asked_with *with) {
     return path_text(with, room_for_text, ROOM, &text_length);
 }
@@ -732,6 +821,8 @@ static void runs_out_on_handles(handle_call *call, const char *what) {
     struct asked_with with = asked_of(READY_PATH, JSONPATH_WHOLE_NUMBERS, "[{\"a\":\"bb\"},[1,2,3]]");
     uint8_t status = JSONPATH_NO_MEMORY;
     size_t requests = 0;
+    char *bytes = longer(&with);
+    with.bytes = bytes;
     for (; status == JSONPATH_NO_MEMORY && requests < 1000; requests++) {
         struct asked_with before = with;
         memset(room_for_text, UNTOUCHED, ROOM), memset(&text_length, UNTOUCHED, sizeof text_length);
@@ -747,7 +838,7 @@ static void runs_out_on_handles(handle_call *call, const char *what) {
         is_ready(&with, what);
     }
     holds(status == JSONPATH_DONE && requests > 1, "status on handles without memory", what);
-    emptied(&with);
+    free(bytes), emptied(&with);
 }
 
 /* Each call on handles that takes memory; the others need none. */
@@ -759,6 +850,9 @@ static void refused_memory(void) {
     runs_out_on_handles(counts, "jsonpath_count");
     runs_out_on_handles(finds, "jsonpath_exists");
     runs_out_on_handles(writes_lines, "jsonpath_lines");
+    runs_out_on_handles(counts_bytes, "jsonpath_count_in");
+    runs_out_on_handles(finds_in_bytes, "jsonpath_exists_in");
+    runs_out_on_handles(writes_lines_of_bytes, "jsonpath_lines_in");
     runs_out_on_handles(writes_path, "jsonpath_path_text");
     runs_out_on_handles(writes_location, "jsonpath_node_location");
     runs_out_on_handles(writes_pointer, "jsonpath_node_pointer");
@@ -814,7 +908,7 @@ static char *field(struct asked_with *with, size_t index, size_t *length) {
  * two texts take whole numbers. */
 static void is_refused(const char *path, uint8_t numbers, const char *document, size_t length, uint8_t wanted,
                        const char *line) {
-    struct asked_with with = {NULL, NULL, NULL, 0, JSONPATH_LINES, NO_LIMITS};
+    struct asked_with with = {NULL, NULL, NULL, 0, JSONPATH_LINES, NO_LIMITS, NULL};
     struct jsonpath_refusal refusal;
     size_t position;
     uint8_t status = jsonpath_path_new((const uint8_t *)path, strlen(path), numbers, &with.path, &refusal);

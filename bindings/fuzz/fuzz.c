@@ -147,7 +147,7 @@ struct question {
     jsonpath_path **path;
     jsonpath_document **document;
     jsonpath_nodes **nodes;
-    size_t index;
+    size_t index, position; /* The position is where the document is refused. */
     uint8_t form, numbers;
     struct jsonpath_limits limits;
 };
@@ -168,6 +168,14 @@ static uint8_t write_path(const struct question *asked, uint8_t *out, size_t out
 
 static uint8_t write_lines(const struct question *asked, uint8_t *out, size_t out_length, size_t *length) {
     return jsonpath_lines(asked->path, asked->document, asked->form, &asked->limits, out, out_length, length);
+}
+
+static uint8_t write_lines_in(const struct question *asked, uint8_t *out, size_t out_length, size_t *length) {
+    size_t position = UNTOUCHED;
+    uint8_t status = jsonpath_lines_in(asked->path, asked->document_text.bytes, asked->document_text.length, asked->form,
+                                       &asked->limits, out, out_length, length, &position);
+    HOLD(position == asked->position);
+    return status;
 }
 
 static uint8_t write_location(const struct question *asked, uint8_t *out, size_t out_length, size_t *length) {
@@ -506,14 +514,29 @@ static size_t within(struct text lines, struct jsonpath_limits limits) {
 static void check_limits(struct question asked, struct text lines, struct jsonpath_limits limits) {
     struct text answer, wanted = {lines.bytes, within(lines, limits)};
     asked.limits = limits;
-    uint8_t status = ask_all(write_lines, &asked, &answer);
-    HOLD(status == (wanted.length < lines.length ? JSONPATH_CUT_SHORT : JSONPATH_DONE));
-    HOLD(same(answer, wanted));
-    free(answer.bytes);
+    writer *calls[] = {write_lines, write_lines_in};
+    for (int at = 0; at < 2; at++) {
+        uint8_t status = ask_all(calls[at], &asked, &answer);
+        HOLD(status == (wanted.length < lines.length ? JSONPATH_CUT_SHORT : JSONPATH_DONE));
+        HOLD(same(answer, wanted));
+        free(answer.bytes);
+    }
 }
 
-/* The lines of a form, without limits and with them. In the mode of whole numbers the call with two texts answers the same, of a
- * document that is read whole and of one that is read for the path. */
+/* Holds the lines of a call of the document's text, as it is and with blanks behind it, which is read for the path. */
+static void check_lines(writer *call, struct question asked, struct text lines) {
+    struct text texts[] = {asked.document_text, with_blanks(asked.document_text)};
+    for (int at = 0; at < 2; at++) {
+        asked.document_text = texts[at];
+        struct text answer = answer_of(call, &asked);
+        HOLD(same(answer, lines));
+        free(answer.bytes);
+    }
+    free(texts[1].bytes);
+}
+
+/* The lines of a form, without limits and with them. The call on bytes answers the same, and in the mode of whole numbers the
+ * call with two texts. */
 static struct text check_form(struct question asked, uint8_t form, uint8_t numbers, size_t count) {
     asked.form = form;
     struct text lines = answer_of(write_lines, &asked);
@@ -521,16 +544,8 @@ static struct text check_form(struct question asked, uint8_t form, uint8_t numbe
     check_limits(asked, lines, (struct jsonpath_limits){count / 2, SIZE_MAX});
     check_limits(asked, lines, (struct jsonpath_limits){SIZE_MAX, lines.length / 2});
     check_limits(asked, lines, (struct jsonpath_limits){SIZE_MAX, lines.length == 0 ? 0 : lines.length - 1});
-    if (numbers == JSONPATH_WHOLE_NUMBERS) {
-        struct text report = answer_of(write_report, &asked);
-        HOLD(same(report, lines));
-        free(report.bytes);
-        asked.document_text = with_blanks(asked.document_text);
-        report = answer_of(write_report, &asked);
-        HOLD(same(report, lines));
-        free(report.bytes);
-        free(asked.document_text.bytes);
-    }
+    check_lines(write_lines_in, asked, lines);
+    if (numbers == JSONPATH_WHOLE_NUMBERS) check_lines(write_report, asked, lines);
     return lines;
 }
 
@@ -546,6 +561,20 @@ static int is_small(struct question asked) {
     return status == JSONPATH_DONE && (double)(clock() - start) / CLOCKS_PER_SEC < MOST_SECONDS;
 }
 
+/* Holds the calls that count in the document's text, as it is and with blanks behind it, to the number of nodes. */
+static void check_counts(struct question asked, size_t wanted) {
+    struct text texts[] = {asked.document_text, with_blanks(asked.document_text)};
+    for (int at = 0; at < 2; at++) {
+        struct text text = texts[at];
+        size_t count = UNTOUCHED, position = UNTOUCHED;
+        uint8_t exists = MARK;
+        HOLD(jsonpath_count_in(asked.path, text.bytes, text.length, &count, &position) == JSONPATH_DONE && count == wanted);
+        HOLD(jsonpath_exists_in(asked.path, text.bytes, text.length, &exists, &position) == JSONPATH_DONE);
+        HOLD(exists == (wanted > 0) && position == UNTOUCHED);
+    }
+    free(texts[1].bytes);
+}
+
 /* Checks what a path selects of a document. */
 static void check_query(struct question asked, uint8_t numbers) {
     size_t count = UNTOUCHED;
@@ -553,6 +582,7 @@ static void check_query(struct question asked, uint8_t numbers) {
     if (!is_small(asked)) return;
     HOLD(jsonpath_count(asked.path, asked.document, &count) == JSONPATH_DONE && count <= MOST_NODES);
     HOLD(jsonpath_exists(asked.path, asked.document, &exists) == JSONPATH_DONE && exists == (count > 0));
+    check_counts(asked, count);
     show(COUNTS + bits(count));
     asked.limits = NO_LIMITS;
     struct text lines[3] = {check_form(asked, JSONPATH_LINES, numbers, count),
@@ -581,19 +611,31 @@ static jsonpath_document *read_document(struct text text) {
     return document;
 }
 
+/* Holds the calls on a text that is no document to what reading it answers. */
+static void check_refused_bytes(struct question asked) {
+    struct text text = asked.document_text;
+    jsonpath_document *none = NULL;
+    size_t count = UNTOUCHED, position[2] = {UNTOUCHED, UNTOUCHED};
+    uint8_t exists = MARK, status = jsonpath_document_new(text.bytes, text.length, &none, &asked.position);
+    HOLD(status == JSONPATH_DOCUMENT_REFUSED || status == JSONPATH_DOCUMENT_TOO_DEEP);
+    /* The call with two texts takes whole numbers, by which the path may be none. */
+    if (asked.numbers == JSONPATH_WHOLE_NUMBERS) hold_refused(write_report, &asked, JSONPATH_DOCUMENT_REFUSED);
+    for (asked.form = 0; asked.form <= JSONPATH_LOCATIONS; asked.form++) hold_refused(write_lines_in, &asked, status);
+    HOLD(jsonpath_count_in(asked.path, text.bytes, text.length, &count, position) == status);
+    HOLD(jsonpath_exists_in(asked.path, text.bytes, text.length, &exists, position + 1) == status);
+    HOLD(count == UNTOUCHED && exists == MARK && position[0] == asked.position && position[1] == asked.position);
+}
+
 /* Nothing is asked of an empty document. */
 static void check_no_document(struct question asked) {
     size_t count = UNTOUCHED;
     uint8_t exists = MARK;
     jsonpath_nodes *nodes = NULL;
-    /* The call with two texts takes whole numbers, by which the path may be none. */
-    if (asked.numbers == JSONPATH_WHOLE_NUMBERS) {
-        hold_refused(write_report, &asked, JSONPATH_DOCUMENT_REFUSED);
-        struct question longer = asked;
-        longer.document_text = with_blanks(asked.document_text);
-        hold_refused(write_report, &longer, JSONPATH_DOCUMENT_REFUSED);
-        free(longer.document_text.bytes);
-    }
+    struct question longer = asked;
+    longer.document_text = with_blanks(asked.document_text);
+    check_refused_bytes(asked);
+    check_refused_bytes(longer);
+    free(longer.document_text.bytes);
     hold_refused(write_lines, &asked, JSONPATH_EMPTY_HANDLE);
     HOLD(jsonpath_count(asked.path, asked.document, &count) == JSONPATH_EMPTY_HANDLE);
     HOLD(jsonpath_exists(asked.path, asked.document, &exists) == JSONPATH_EMPTY_HANDLE);
@@ -613,6 +655,7 @@ static void check_path(struct question asked, uint8_t numbers) {
     if (status != JSONPATH_DONE) {
         check_refused(asked.path_text, status, &path);
         hold_refused(write_report, &asked, status);
+        hold_refused(write_lines_in, &asked, JSONPATH_EMPTY_HANDLE);
         return;
     }
     check_printed(&path);
@@ -630,7 +673,7 @@ int LLVMFuzzerTestOneInput(const uint8_t *input, size_t length) {
     size_t path_length = nul == NULL ? length : (size_t)(nul - input), skipped = path_length + (nul != NULL);
     struct text path = copy(input, path_length), text = copy(input + skipped, length - skipped);
     jsonpath_document *document = read_document(text);
-    struct question asked = {.path_text = path, .document_text = text, .document = &document};
+    struct question asked = {.path_text = path, .document_text = text, .document = &document, .position = UNTOUCHED};
     check_path(asked, JSONPATH_WHOLE_NUMBERS);
     check_path(asked, JSONPATH_ALL_NUMBERS);
     jsonpath_document_free(&document);

@@ -89,12 +89,14 @@ class Paths(unittest.TestCase):
             with self.subTest(path=text):
                 path, rows = JsonPath(text), [row.split("\t", 1) for row in report.split("\n")[:-1]]
                 values = [json.loads(row[1]) for row in rows]
-                self.assertEqual(path.report(document), report)
-                self.assertEqual(path.values(document.encode()), values)
-                self.assertEqual(path.locations(Document(document)), [row[0] for row in rows])
+                # Long documents are read for the path, and shorter ones whole.
+                for asked in (document, document.encode(), Document(document), bytearray(document.encode()) + b" " * 1024):
+                    self.assertEqual(path.report(asked), report)
+                    self.assertEqual(path.values(asked), values)
+                    self.assertEqual(path.locations(asked), [row[0] for row in rows])
+                    self.assertEqual((path.count(asked), path.exists(asked)), (len(rows), bool(rows)))
                 self.assertEqual([[node.location, node.json] for node in path.find(document)], rows)
                 self.assertEqual([node.value for node in path.find(json.loads(document))], values)
-                self.assertEqual((path.count(document), path.exists(document)), (len(rows), bool(rows)))
                 self.assertEqual(path.first(document, "none"), values[0] if values else "none")
 
     def test_kinds(self):

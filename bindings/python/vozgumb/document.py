@@ -25,8 +25,7 @@ class Document:
     def __init__(self, text: Union[str, bytes, bytearray]) -> None:
         if not isinstance(text, (str, bytes, bytearray)):
             raise TypeError(f"a document's text is str, bytes or bytearray, not {type(text).__name__}")
-        data = _utf8(text) if isinstance(text, str) else bytes(text)
-        position = c_size_t()
+        data, position = _bytes(text), c_size_t()
         self._handle = Handle(LIBRARY.jsonpath_document_free)
         status = LIBRARY.jsonpath_document_new(data, len(data), self._handle.pointer, position)
         check(status, position.value)
@@ -42,10 +41,26 @@ def _utf8(text: str) -> bytes:
         raise DocumentError(len(text[: error.start].encode()) + 1) from error
 
 
-def document_of(document: Any) -> Document:
-    """A document as it is, of a JSON text, or of what `json.loads` gives."""
-    if isinstance(document, Document):
+def _bytes(text: Union[str, bytes, bytearray]) -> bytes:
+    """The bytes of a JSON text."""
+    return _utf8(text) if isinstance(text, str) else bytes(text)
+
+
+def asked_of(document: Any) -> Union[Document, bytes]:
+    """A document as it is, or the bytes of a JSON text, or of that of what `json.loads` gives."""
+    if isinstance(document, (Document, bytes)):
         return document
-    if isinstance(document, (str, bytes, bytearray)):
-        return Document(document)
-    return Document(json.dumps(document, allow_nan=False, ensure_ascii=False, separators=(",", ":")))
+    if isinstance(document, (str, bytearray)):
+        return _bytes(document)
+    return _utf8(json.dumps(document, allow_nan=False, ensure_ascii=False, separators=(",", ":")))
+
+
+def document_of(document: Any) -> Document:
+    """The same, read once."""
+    asked = asked_of(document)
+    return asked if isinstance(asked, Document) else Document(asked)
+
+
+def room_of(asked: Union[Document, bytes]) -> int:
+    """The room that an answer finds at first. Bytes are read anew where it has none."""
+    return asked._room if isinstance(asked, Document) else len(asked) + SMALL_ROOM

@@ -6,11 +6,11 @@ from ctypes import c_size_t, c_uint8
 from dataclasses import dataclass
 from enum import IntEnum
 from functools import cached_property
-from typing import Any, Callable, Literal, NoReturn, Optional
+from typing import Any, Literal, NoReturn, Optional, Union
 
 from ._library import CUT_SHORT, LIBRARY, LINES, LOCATIONS, NO_LIMIT, PATH_REFUSED, VALUES
 from ._library import Handle, Limits, NodeFields, Out, Refusal
-from .document import SMALL_ROOM, Document, document_of
+from .document import SMALL_ROOM, Document, asked_of, document_of, room_of
 from .errors import PathError, PathErrorKind, check
 
 Numbers = Literal["all", "whole"]
@@ -99,7 +99,7 @@ class JsonPath:
         """
         asked, nodes, length = document_of(document), Handle(LIBRARY.jsonpath_nodes_free), c_size_t()
         limits = Limits(_limit(most, "nodes"), _limit(most_name_bytes, "bytes of names"))
-        check(self._ask(LIBRARY.jsonpath_select, asked, unique, limits, nodes.pointer))
+        self._ask("select", asked, unique, limits, nodes.pointer)
         check(LIBRARY.jsonpath_nodes_length(nodes.pointer, length))
         out = Out(asked._room)
         return [_node(nodes, asked, index, out) for index in range(length.value)]
@@ -120,13 +120,13 @@ class JsonPath:
     def exists(self, document: Any) -> bool:
         """Whether the path selects a node. The query stops at the first."""
         exists = c_uint8()
-        check(self._ask(LIBRARY.jsonpath_exists, document_of(document), exists))
+        self._ask("exists", asked_of(document), exists)
         return bool(exists.value)
 
     def count(self, document: Any) -> int:
         """How many nodes the path selects."""
         count = c_size_t()
-        check(self._ask(LIBRARY.jsonpath_count, document_of(document), count))
+        self._ask("count", asked_of(document), count)
         return count.value
 
     def report(self, document: Any) -> str:
@@ -135,20 +135,29 @@ class JsonPath:
 
     def _lines(self, document: Any, form: int, nodes: int = NO_LIMIT, size: int = NO_LIMIT) -> tuple[str, bool]:
         """The lines of what the path selects, as many as the limits allow, and whether these are all."""
-        asked = document_of(document)
-        out = Out(asked._room)
+        asked = asked_of(document)
+        out = Out(room_of(asked))
 
         def call(*arguments: Any) -> int:
-            return self._ask(LIBRARY.jsonpath_lines, asked, *arguments)
+            return self._ask("lines", asked, *arguments)
 
         status = out.status(call, form, Limits(nodes, size))
-        check(status)
         return out.text(), status != CUT_SHORT
 
-    def _ask(self, call: Callable[..., int], document: Document, *arguments: Any) -> int:
-        """The status of a call on the path and a document, whose locks are always taken in this order."""
-        with self._handle.lock, document._handle.lock:
-            return call(self._handle.pointer, document._handle.pointer, *arguments)
+    def _ask(self, name: str, asked: Union[Document, bytes], *arguments: Any) -> int:
+        """The status of a call on the path and a document, whose locks are always taken in this order; or on bytes, of which it
+        reads what the path can reach. A refusal is raised."""
+        position = c_size_t()
+        if isinstance(asked, Document):
+            call = getattr(LIBRARY, f"jsonpath_{name}")
+            with self._handle.lock, asked._handle.lock:
+                status: int = call(self._handle.pointer, asked._handle.pointer, *arguments)
+        else:
+            call = getattr(LIBRARY, f"jsonpath_{name}_in")
+            with self._handle.lock:
+                status = call(self._handle.pointer, asked, len(asked), *arguments, position)
+        check(status, position.value)
+        return status
 
     def __str__(self) -> str:
         return self._text

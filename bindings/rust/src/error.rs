@@ -275,6 +275,16 @@ impl QueryError {
             _ => unreachable!("a query has no other refusals"),
         }
     }
+
+    /// The error of a query of bytes that is refused so, at a byte.
+    pub(crate) fn of_bytes((status, position): (Status, usize)) -> QueryError {
+        match status {
+            Status::DocumentRefused | Status::DocumentTooDeep => {
+                QueryError::Document(DocumentError::of(status, position))
+            }
+            status => QueryError::of(status),
+        }
+    }
 }
 
 impl From<DocumentError> for QueryError {

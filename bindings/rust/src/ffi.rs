@@ -4,7 +4,7 @@
 //! its length, what a call writes is a vector that it alone borrows or a variable of the function, and a handle keeps to
 //! [`Handle`].
 
-use std::cell::UnsafeCell;
+use std::cell::{Cell, UnsafeCell};
 use std::os::raw::c_uchar;
 use std::ptr;
 
@@ -226,6 +226,31 @@ extern "C" {
         document: *mut *mut RawDocument,
         exists: *mut u8,
     ) -> u8;
+    fn jsonpath_lines_in(
+        path: *mut *mut RawPath,
+        document: *const c_uchar,
+        document_length: usize,
+        form: u8,
+        limits: *const Limits,
+        out: *mut c_uchar,
+        out_length: usize,
+        length: *mut usize,
+        position: *mut usize,
+    ) -> u8;
+    fn jsonpath_count_in(
+        path: *mut *mut RawPath,
+        document: *const c_uchar,
+        document_length: usize,
+        count: *mut usize,
+        position: *mut usize,
+    ) -> u8;
+    fn jsonpath_exists_in(
+        path: *mut *mut RawPath,
+        document: *const c_uchar,
+        document_length: usize,
+        exists: *mut u8,
+        position: *mut usize,
+    ) -> u8;
     fn jsonpath_select(
         path: *mut *mut RawPath,
         document: *mut *mut RawDocument,
@@ -375,6 +400,51 @@ impl PathHandle {
         // SAFETY: The two variables and `exists` are written.
         let status = unsafe { jsonpath_exists(self.variable(), document.variable(), &mut exists) };
         Status::of(status).done(exists == 1)
+    }
+
+    /// As `lines`, of the document that bytes are; or `position` has the byte where they are none.
+    pub(crate) fn lines_in(
+        &self,
+        document: &[u8],
+        form: u8,
+        limits: &Limits,
+        out: &mut Vec<u8>,
+        position: &Cell<usize>,
+    ) -> (Status, usize) {
+        let (path, data, size) = (self.variable(), document.as_ptr(), document.len());
+        let position = position.as_ptr();
+        write(out, |bytes, room, length| {
+            // SAFETY: The document and `limits` are read, the variable, the vector, its length and `position` are written.
+            unsafe {
+                jsonpath_lines_in(
+                    path, data, size, form, limits, bytes, room, length, position,
+                )
+            }
+        })
+    }
+
+    /// As `count`, of the document that bytes are. A refusal has its position.
+    pub(crate) fn count_in(&self, document: &[u8]) -> Result<usize, (Status, usize)> {
+        let (mut count, mut position) = (0, 0);
+        let (data, size) = (document.as_ptr(), document.len());
+        // SAFETY: The document is read, the variable, `count` and `position` are written.
+        let status =
+            unsafe { jsonpath_count_in(self.variable(), data, size, &mut count, &mut position) };
+        Status::of(status)
+            .done(count)
+            .map_err(|status| (status, position))
+    }
+
+    /// As `exists`, of the document that bytes are. A refusal has its position.
+    pub(crate) fn exists_in(&self, document: &[u8]) -> Result<bool, (Status, usize)> {
+        let (mut exists, mut position) = (0, 0);
+        let (data, size) = (document.as_ptr(), document.len());
+        // SAFETY: The document is read, the variable, `exists` and `position` are written.
+        let status =
+            unsafe { jsonpath_exists_in(self.variable(), data, size, &mut exists, &mut position) };
+        Status::of(status)
+            .done(exists == 1)
+            .map_err(|status| (status, position))
     }
 
     /// The list of the nodes that the path selects, as many as the limits allow, and whether it is cut short.

@@ -6,6 +6,7 @@ use crate::ffi::{Limits, PathHandle, Status};
 use crate::lines::{LineForm, Lines, LocatedValues};
 use crate::nodes::Nodes;
 use crate::text::written;
+use std::cell::Cell;
 use std::fmt;
 use std::hash::{Hash, Hasher};
 use std::str::FromStr;
@@ -280,9 +281,39 @@ impl JsonPath {
         Ok(Lines::of(text, is_cut_short))
     }
 
-    /// The lines of a document that is read for them.
+    /// The lines of a document that is read for them, as far as the path can reach.
     fn lines_bytes(&self, form: LineForm, document: &[u8]) -> Result<Lines, QueryError> {
-        self.lines(&Document::parse(document)?, form, Limits::NONE)
+        let (room, position) = (document.len().saturating_add(4096), Cell::new(0));
+        let (text, is_cut_short) = written(room, |out| {
+            self.handle
+                .lines_in(document, form as u8, &Limits::NONE, out, &position)
+        })
+        .map_err(|status| QueryError::of_bytes((status, position.get())))?;
+        Ok(Lines::of(text, is_cut_short))
+    }
+
+    /// As [`count`](JsonPath::count), of a document that is read for this call.
+    ///
+    /// ```
+    /// # use jsonpath::JsonPath;
+    /// assert_eq!(JsonPath::parse("$..*")?.count_bytes(b"[1, [2, 3]]")?, 4);
+    /// # Ok::<(), Box<dyn std::error::Error>>(())
+    /// ```
+    pub fn count_bytes(&self, document: &[u8]) -> Result<usize, QueryError> {
+        self.handle.count_in(document).map_err(QueryError::of_bytes)
+    }
+
+    /// As [`exists`](JsonPath::exists), of a document that is read for this call.
+    ///
+    /// ```
+    /// # use jsonpath::JsonPath;
+    /// assert!(JsonPath::parse("$.a")?.exists_bytes(br#"{"a": null}"#)?);
+    /// # Ok::<(), Box<dyn std::error::Error>>(())
+    /// ```
+    pub fn exists_bytes(&self, document: &[u8]) -> Result<bool, QueryError> {
+        self.handle
+            .exists_in(document)
+            .map_err(QueryError::of_bytes)
     }
 
     /// The nodes that the path selects from a document that is read for this call, each as a line of compact JSON.

@@ -1,11 +1,5 @@
 -- The first of some nodes, with another after them.
-use Rattle.jsonpath_c.proofs.Words.{◌≡◌, ◌≤◌, ◌<◌, ◌+◌, ◌∙◌, ◌⊎◌, inl, inr, ℕ, Bool, false, true, Some, Result, Ok, string_bytes, List, [], ◌∷◌, ◌++◌, length, map, refl, sym, ap, subst, arith, append_assoc, append-nil, length-append, length_push, map_push, sum_by_push, Located, KeptNode, kept, Bor, IsLine, IsLineOfEach, compact_lines, Form, lines_pushed, AreFirstLines, AreFirstNodes, IsBeyond, IsNodeBeyond, all_name_bytes, name_bytes, QueryError, BoundedLines, BoundedList, AreEnough, AreWithin, FilledLines, FilledList, HasNoRoomFor, IsLeftAfter, TookLines, TookList, Limits}
-
--- a text after another, and a byte after it
-pub within : (before after text : List ℕ) (position : ℕ) → text ≡ before ++ after → position ≡ length before + 1 → (1 ≤ position) × (position ≤ length text + 1)
-within before after text position is at =
-    let longer : length text ≡ length before + length after = ap length is ∙ length-append before after in
-    (omega arith, omega arith)
+use Rattle.jsonpath_c.proofs.Words.{◌≡◌, ◌≤◌, ◌<◌, ◌+◌, ◌∙◌, ◌⊎◌, inl, inr, ℕ, Bool, false, true, Some, Result, Ok, string_bytes, List, [], ◌∷◌, ◌++◌, length, refl, sym, ap, subst, arith, append_assoc, append-nil, length-append, length_push, Located, KeptNode, Bor, IsLine, IsLineOfEach, compact_lines, Form, lines_pushed, AreFirstLines, AreFirstNodes, IsNodeBeyond, QueryError, BoundedLines, BoundedList, AreEnough, AreWithin, FilledLines, FilledList, HasNoRoomFor, TookLines, TookList, Limits}
 
 -- ---- lists within limits
 

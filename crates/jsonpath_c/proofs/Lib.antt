@@ -2,6 +2,8 @@
 -- Words: what proofs cite, from one place.
 -- Firsts: the first of some nodes, as many as limits allow.
 -- Owners: the handles, as structs of one pointer.
+-- Reached: what is known of a document, by what is read of it for a path.
 pub mod Firsts
 pub mod Owners
+pub mod Reached
 mod Words

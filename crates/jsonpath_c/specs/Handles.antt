@@ -1,6 +1,6 @@
 -- What handles hold, and what calls answer of it.
 use Rattle.std.specs.Prelude.{◌≡◌, ◌≢◌, ◌==◌, ◌≤◌, ◌<◌, ◌+◌, ◌++◌, ◌⊎◌, ◌↔◌, if◌then◌else◌, ℕ, pos, Bool, true, false, List, [], ◌∷◌, Option, None, length, map, slice_get}
-use Rattle.jsonpath_c.specs.Words.{float_zero, sum_by, MatchOption, chars, Data, view, path_rule, path_tree, with_rule_of, CallsByPattern, Selects, FunctionSet, builtin_functions, first_places, Located, Step, by_name, by_position, at, normal, pointer, KeptNode, kept, location_of, NodeInfo, Null, False, True, Integer, Unsigned, Double, String, Array, Object, IsAccepted, IsLine, IsLineOfEach, compact_lines, Form, LocationAndValue, Location, Value}
+use Rattle.jsonpath_c.specs.Words.{float_zero, sum_by, MatchOption, chars, Data, IsUtf8, ReadsAs, is_too_deep_at, view, path_rule, path_tree, with_rule_of, CallsByPattern, Selects, FunctionSet, builtin_functions, first_places, Located, Step, by_name, by_position, at, normal, pointer, KeptNode, kept, location_of, NodeInfo, Null, False, True, Integer, Unsigned, Double, String, Array, Object, IsAccepted, IsLine, IsLineOfEach, compact_lines, Form, LocationAndValue, Location, Value}
 use Rattle.jsonpath_c.specs.Exports.{IsPut, FindsNoRoom, rule_of}
 use Rattle.jsonpath_c.specs.declared.compiled.Compiled.{Compiled}
 use Rattle.jsonpath_c.specs.declared.handle.document.Document.{Document}
@@ -42,21 +42,52 @@ HoldsPathOf text numbers handle = MatchOption handle ⊥ (λ c.
 -- ---- paths and documents
 
 -- the path selects these nodes from the document, in order
-abbrev pub SelectsFrom : Compiled → Document → List Located → Type 0
-SelectsFrom c d nodes = Selects (functions_of c) (path_tree c.path) (view d.value) nodes
+abbrev pub SelectsFrom : Compiled → Data → List Located → Type 0
+SelectsFrom c d nodes = Selects (functions_of c) (path_tree c.path) d nodes
 
 -- some call of the path goes by a pattern that `regex` reads, on the document
-abbrev pub CallsByPatternFrom : Compiled → Document → Type 0
-CallsByPatternFrom c d = CallsByPattern (functions_of c) (view d.value) (path_tree c.path)
+abbrev pub CallsByPatternFrom : Compiled → Data → Type 0
+CallsByPatternFrom c d = CallsByPattern (functions_of c) d (path_tree c.path)
+
+-- whether there are nodes, as 1 or 0
+abbrev pub TellsSome : ℕ → List Located → Type 0
+TellsSome some nodes = ((some ≡ 1) × (nodes ≢ [])) ⊎ ((some ≡ 0) × (nodes ≡ []))
 
 -- two handles hold a path and a document, from which the path selects nodes of which this holds
 abbrev pub SelectThose : Option Compiled → Option Document → (List Located → Type 0) → Type 0
-SelectThose path document Says = BothHold path document (λ c d. (nodes : List Located) × SelectsFrom c d nodes × Says nodes)
+SelectThose path document Says = BothHold path document (λ c d. (nodes : List Located) × SelectsFrom c (view d.value) nodes × Says nodes)
 
 -- A path is asked of a document: both handles are lent, and with 3 a call goes by a pattern.
 pub record IsAsked (old_path new_path : Option Compiled) (old_document new_document : Option Document) (status : ℕ) : Type 0 where
   pub lent : AreLent old_path new_path old_document new_document status
-  pub pattern_refused : status ≡ 3 → BothHold old_path old_document CallsByPatternFrom
+  pub pattern_refused : status ≡ 3 → BothHold old_path old_document (λ c d. CallsByPatternFrom c (view d.value))
+
+-- ---- paths and bytes
+
+-- a handle holds a path, and bytes read as a document, of which this holds
+abbrev pub HoldOf : Option Compiled → List ℕ → (Compiled → Data → Type 0) → Type 0
+HoldOf path bytes Says = MatchOption path ⊥ (λ c. (d : Data) × ReadsAs bytes d × Says c d)
+
+-- What is told of bytes by a status, with `position` before and after: with 2 and 9 they are no document, and where that shows;
+-- with 9 an array or an object begins there within 127 others.
+pub record TellsFault (bytes : List ℕ) (old_position new_position status : ℕ) : Type 0 where
+  pub refused : (status ≡ 2) ⊎ (status ≡ 9) → (d : Data) → ReadsAs bytes d → ⊥
+  pub too_deep : status ≡ 9 → is_too_deep_at bytes new_position ≡ true
+  pub not_too_deep : status ≡ 2 → IsUtf8 bytes → is_too_deep_at bytes new_position ≡ false
+  pub position : (status ≡ 2) ⊎ (status ≡ 9) → (1 ≤ new_position) × (new_position ≤ length bytes + 1)
+  pub kept_position : status ≢ 2 → status ≢ 9 → new_position ≡ old_position
+
+-- A path is asked of bytes: its handle is lent, of bytes that are no document the fault is told, and with 3 a call goes by a
+-- pattern on the document that they are.
+pub record IsAskedOf (old_path new_path : Option Compiled) (bytes : List ℕ) (old_position new_position status : ℕ) : Type 0 where
+  pub lent : IsLent old_path new_path status
+  pub fault : TellsFault bytes old_position new_position status
+  pub pattern_refused : status ≡ 3 → HoldOf old_path bytes CallsByPatternFrom
+
+-- with these statuses nothing is answered of the document that bytes are: they are none, memory was refused, or the path's
+-- handle is empty
+abbrev pub IsNoAnswer : ℕ → Type 0
+IsNoAnswer status = (status ≡ 2) ⊎ (status ≡ 4) ⊎ (status ≡ 7) ⊎ (status ≡ 9)
 
 -- ---- lists of nodes
 
@@ -162,7 +193,7 @@ pub record AreFirstLines (form : Form) (limits : Limits) (nodes : List Located) 
   pub cut : all ≡ false → (next : Located) × (later : List Located) × (more ≡ next ∷ later) × IsBeyond form limits shown text next
 
 -- What a call for lines answers of a path and a document, with what it was lent before and after: `out` and `size`.
-pub record AnswersLinesOf (form : Form) (limits : Limits) (c : Compiled) (d : Document) (old_out new_out : List ℕ) (old_size new_size status : ℕ) : Type 0 where
+pub record AnswersLinesOf (form : Form) (limits : Limits) (c : Compiled) (d : Data) (old_out new_out : List ℕ) (old_size new_size status : ℕ) : Type 0 where
   pub statuses : (status ≡ 0) ⊎ (status ≡ 3) ⊎ (status ≡ 4) ⊎ (status ≡ 5) ⊎ (status ≡ 8)
   pub done : status ≡ 0 → (nodes : List Located) × (text : List ℕ) × SelectsFrom c d nodes × AreFirstLines form limits nodes text true × IsPut text old_out new_out new_size
   pub cut : status ≡ 8 → (nodes : List Located) × (text : List ℕ) × SelectsFrom c d nodes × AreFirstLines form limits nodes text false × IsPut text old_out new_out new_size

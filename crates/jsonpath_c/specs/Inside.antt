@@ -1,10 +1,39 @@
 -- What contracts of private functions and proofs cite alone.
-use Rattle.std.specs.Prelude.{◌≡◌, ◌<◌, ◌≤◌, ◌+◌, ◌⊎◌, List, [], length, map, string_bytes, false}
-use Rattle.jsonpath_c.specs.Words.{Located, IsLineOfEach, compact_lines, KeptNode, kept}
-use Rattle.jsonpath_c.specs.Handles.{AreFirstLines, AreFirstNodes, all_name_bytes, name_bytes}
+use Rattle.std.specs.Prelude.{◌≡◌, ◌<◌, ◌≤◌, ◌+◌, ◌⊎◌, ℕ, List, [], ◌∷◌, Result, Ok, Err, length, map, string_bytes, true, false}
+use Rattle.jsonpath_c.specs.Words.{Data, Located, IsLineOfEach, compact_lines, KeptNode, kept, Form, Location, path_tree, IsReadFor, IsReadForPlaces}
+use Rattle.jsonpath_c.specs.Exports.{IsPut, FindsNoRoom}
+use Rattle.jsonpath_c.specs.Handles.{AreFirstLines, AreFirstNodes, SelectsFrom, all_name_bytes, name_bytes}
 use Rattle.jsonpath_c.specs.declared.bounded.BoundedLines.{BoundedLines}
 use Rattle.jsonpath_c.specs.declared.bounded_list.BoundedList.{BoundedList}
+use Rattle.jsonpath_c.specs.declared.bounded.FirstLines.{FirstLines}
+use Rattle.jsonpath_c.specs.declared.compiled.Compiled.{Compiled}
 use Rattle.jsonpath_c.specs.declared.limits.Limits.{Limits}
+
+-- the status of a step: 0 where it goes on
+abbrev pub status_of : {A : Type 0} → Result A ℕ → ℕ
+status_of (Ok a) = 0
+status_of (Err status) = status
+
+-- ---- lines
+
+-- the lines are those of what a path selects from a document, as many as the limits allow
+abbrev pub AreLinesFrom : Form → Limits → Compiled → Data → FirstLines → Type 0
+AreLinesFrom form limits c d lines =
+    (nodes : List Located) × SelectsFrom c d nodes × AreFirstLines form limits nodes (string_bytes lines.text) lines.all
+
+-- Lines are put, with what is lent before and after: `out` and `size`.
+pub record ArePut (lines : FirstLines) (old_out new_out : List ℕ) (new_size status : ℕ) : Type 0 where
+  pub statuses : (status ≡ 0) ⊎ (status ≡ 5) ⊎ (status ≡ 8)
+  pub done : status ≡ 0 → (lines.all ≡ true) × IsPut (string_bytes lines.text) old_out new_out new_size
+  pub cut : status ≡ 8 → (lines.all ≡ false) × IsPut (string_bytes lines.text) old_out new_out new_size
+  pub no_room : status ≡ 5 → FindsNoRoom (string_bytes lines.text) old_out new_size × (new_out ≡ old_out)
+
+-- ---- documents that are bytes
+
+-- what is read of bytes for lines of a path in a form: what the path can reach, and of locations alone the places
+abbrev pub IsReached : Form → Compiled → List ℕ → Data → Type 0
+IsReached Location c bytes value = IsReadForPlaces bytes (path_tree c.path ∷ []) value
+IsReached form c bytes value = IsReadFor bytes (path_tree c.path ∷ []) value
 
 -- what is left of limits has room for a node, and this is what is left after it
 abbrev pub IsLeftAfter : Located → Limits → Limits → Type 0

@@ -1,27 +1,28 @@
 //! What compiled paths select from documents that are read: lines, how many nodes, whether there is one.
 
-ghost use Rattle.std.specs.Prelude.{◌≡◌, ◌≢◌, ◌⊎◌, ◌↔◌, [], Err, IfOk, List, false, length};
-ghost use Rattle.jsonpath_c.specs.Clauses.{Located, AnswersLinesOf, AreLent, BothHold, CallsByPatternFrom, IsAsked, SelectThose, SelectsFrom, form_of};
+ghost use Rattle.std.specs.Prelude.{◌≡◌, ◌≢◌, ◌⊎◌, ◌↔◌, Err, IfOk, List, length};
+ghost use Rattle.jsonpath_c.specs.Clauses.{Located, AnswersLinesOf, AreLent, AreLinesFrom, ArePut, BothHold, CallsByPatternFrom, IsAsked, SelectThose, SelectsFrom, TellsSome, form_of, view};
 
-use crate::bounded::first_lines;
+use crate::bounded::{FirstLines, first_lines};
 use crate::compiled::Compiled;
 use crate::counted::count_of;
-use crate::handle::document::{Document, DocumentHandle};
+use crate::handle::document::DocumentHandle;
 use crate::handle::path::PathHandle;
 use crate::limits::Limits;
-use crate::output::put;
+use crate::output::{put, put_answer};
 use crate::status::{CUT_SHORT, DONE, EMPTY_HANDLE, NO_MEMORY, QUERY_REFUSED};
 use crate::walks::walk;
 use jsonpath_lines::Form;
 use nullable_box::{Handle, take_both};
+use serde_json::Value;
 use serde_json_path::QueryError;
 use serde_json_path::functions::PatternStore;
 use std::alloc::Global;
 
 /// The status of a refused query.
 pub(crate) fn query_status(e: QueryError) -> u8
-    ensures pattern { e ≡ QueryError.Pattern → result ≡ 3 }
-    ensures memory { e ≡ QueryError.Memory → result ≡ 4 }
+    ensures statuses { (result ≡ 3) ⊎ (result ≡ 4) }
+    ensures pattern { (result ≡ 3) ↔ (e ≡ QueryError.Pattern) }
 {
     match e {
         QueryError::Pattern => QUERY_REFUSED,
@@ -30,7 +31,7 @@ pub(crate) fn query_status(e: QueryError) -> u8
 }
 
 /// The form of lines that a number names.
-fn form_named(form: u8) -> Form
+pub(crate) fn form_named(form: u8) -> Form
     ensures { result ≡ form_of form }
 {
     match form {
@@ -40,30 +41,31 @@ fn form_named(form: u8) -> Form
     }
 }
 
-/// Puts the lines of what a path selects from a document, as many as the limits allow.
-fn put_lines(
+/// The lines of what a path selects from a document, as many as the limits allow.
+pub(crate) fn lines_of(
     alloc: Global,
     form: Form,
     limits: &Limits,
     path: &Compiled,
-    document: &Document,
-    out: &mut [u8],
-    size: &mut usize,
-) -> u8
-    ensures { AnswersLinesOf form limits.now path.now document.now out.old out.new
-        size.old size.new result }
+    document: &Value,
+) -> Result<FirstLines, QueryError>
+    ensures lines { IfOk result (λ lines.
+        AreLinesFrom form limits.now path.now (view document.now) lines) }
+    ensures refused { result ≡ Err QueryError.Pattern
+        → CallsByPatternFrom path.now (view document.now) }
 {
     let store = PatternStore::new();
-    let nodes = match walk(alloc, path, document, &store) {
-        Ok(nodes) => nodes,
-        Err(e) => return query_status(e),
-    };
-    match first_lines(alloc, form, limits, nodes) {
-        Err(e) => query_status(e),
-        Ok(lines) => match put(lines.text.as_str(), out, size) {
-            DONE if !lines.all => CUT_SHORT,
-            status => status,
-        },
+    let nodes = walk(alloc, path, document, &store)?;
+    first_lines(alloc, form, limits, nodes)
+}
+
+/// Puts lines. Returns the status.
+pub(crate) fn put_lines(lines: &FirstLines, out: &mut [u8], size: &mut usize) -> u8
+    ensures { ArePut lines.now out.old out.new size.new result }
+{
+    match put(lines.text.as_str(), out, size) {
+        DONE if !lines.all => CUT_SHORT,
+        status => status,
     }
 }
 
@@ -81,7 +83,8 @@ pub extern "C" fn jsonpath_lines(
     size: &mut usize,
 ) -> u8
     ensures answers { result ≢ 7 → BothHold path.old.value document.old.value (λ c d.
-        AnswersLinesOf (form_of form) limits.now c d out.old out.new size.old size.new result) }
+        AnswersLinesOf (form_of form) limits.now c (view d.value) out.old out.new size.old size.new
+        result) }
     ensures lent { AreLent path.old.value path.new.value document.old.value document.new.value
         result }
     ensures kept_out { result ≡ 7 → out.new ≡ out.old }
@@ -90,17 +93,21 @@ pub extern "C" fn jsonpath_lines(
     let Some((asked, read)) = take_both(alloc, path, document) else {
         return EMPTY_HANDLE;
     };
-    let status = put_lines(alloc, form_named(form), limits, &asked, &read, out, size);
+    let found = lines_of(alloc, form_named(form), limits, &asked, &read.value);
     path.put(alloc, asked);
     document.put(alloc, read);
-    status
+    match found {
+        Ok(lines) => put_lines(&lines, out, size),
+        Err(e) => query_status(e),
+    }
 }
 
 /// How many nodes a path selects from a document.
-fn counted(alloc: Global, path: &Compiled, document: &Document) -> Result<usize, QueryError>
+pub(crate) fn counted(alloc: Global, path: &Compiled, document: &Value) -> Result<usize, QueryError>
     ensures count { IfOk result (λ count. (nodes : List Located)
-        × SelectsFrom path.now document.now nodes × (count ≡ length nodes)) }
-    ensures refused { result ≡ Err QueryError.Pattern → CallsByPatternFrom path.now document.now }
+        × SelectsFrom path.now (view document.now) nodes × (count ≡ length nodes)) }
+    ensures refused { result ≡ Err QueryError.Pattern
+        → CallsByPatternFrom path.now (view document.now) }
 {
     let store = PatternStore::new();
     let nodes = walk(alloc, path, document, &store)?;
@@ -126,27 +133,26 @@ pub extern "C" fn jsonpath_count(
     let Some((asked, read)) = take_both(alloc, path, document) else {
         return EMPTY_HANDLE;
     };
-    let found = counted(alloc, &asked, &read);
+    let found = counted(alloc, &asked, &read.value);
     path.put(alloc, asked);
     document.put(alloc, read);
-    match found {
-        Ok(found) => {
-            *count = found;
-            DONE
-        }
-        Err(e) => query_status(e),
-    }
+    put_answer(found.map_err(query_status), count)
 }
 
-/// Whether a path selects a node from a document. It stops at the first.
-fn selects_some(alloc: Global, path: &Compiled, document: &Document) -> Result<bool, QueryError>
+/// Whether a path selects a node from a document, 1 or 0. It stops at the first.
+pub(crate) fn selects_some(
+    alloc: Global,
+    path: &Compiled,
+    document: &Value,
+) -> Result<u8, QueryError>
     ensures some { IfOk result (λ some. (nodes : List Located)
-        × SelectsFrom path.now document.now nodes × ((some ≡ false) ↔ (nodes ≡ []))) }
-    ensures refused { result ≡ Err QueryError.Pattern → CallsByPatternFrom path.now document.now }
+        × SelectsFrom path.now (view document.now) nodes × TellsSome some nodes) }
+    ensures refused { result ≡ Err QueryError.Pattern
+        → CallsByPatternFrom path.now (view document.now) }
 {
     let store = PatternStore::new();
     let mut nodes = walk(alloc, path, document, &store)?;
-    Ok(nodes.next()?.is_some())
+    Ok(u8::from(nodes.next()?.is_some()))
 }
 
 /// Tells whether a path selects a node from a document, and stops at the first: 0 with 1 or 0 in `exists`; 3 where the query is
@@ -160,7 +166,7 @@ pub extern "C" fn jsonpath_exists(
 ) -> u8
     ensures statuses { (result ≡ 0) ⊎ (result ≡ 3) ⊎ (result ≡ 4) ⊎ (result ≡ 7) }
     ensures done { result ≡ 0 → SelectThose path.old.value document.old.value
-        (λ nodes. ((exists.new ≡ 1) × (nodes ≢ [])) ⊎ ((exists.new ≡ 0) × (nodes ≡ []))) }
+        (TellsSome exists.new) }
     ensures asked { IsAsked path.old.value path.new.value document.old.value document.new.value
         result }
     ensures kept_exists { result ≢ 0 → exists.new ≡ exists.old }
@@ -168,14 +174,8 @@ pub extern "C" fn jsonpath_exists(
     let Some((asked, read)) = take_both(alloc, path, document) else {
         return EMPTY_HANDLE;
     };
-    let found = selects_some(alloc, &asked, &read);
+    let found = selects_some(alloc, &asked, &read.value);
     path.put(alloc, asked);
     document.put(alloc, read);
-    match found {
-        Ok(found) => {
-            *exists = u8::from(found);
-            DONE
-        }
-        Err(e) => query_status(e),
-    }
+    put_answer(found.map_err(query_status), exists)
 }

@@ -1,12 +1,13 @@
 //! Documents that are read once.
 
-ghost use Rattle.std.specs.Prelude.{◌≡◌, ◌≢◌, ◌≤◌, ◌⊎◌, ◌↔◌, ◌+◌, None, false, length, true};
-ghost use Rattle.jsonpath_c.specs.Words.{MatchOption, IsUtf8, Data, view, ReadsAs, is_too_deep_at};
+ghost use Rattle.std.specs.Prelude.{◌≡◌, ◌≢◌, ◌⊎◌, ◌↔◌, None, IfErr, IfOk};
+ghost use Rattle.jsonpath_c.specs.Clauses.{MatchOption, view, ReadsAs, TellsFault, status_of};
 
 use crate::handle::document::{Document, DocumentHandle};
 use crate::status::{DOCUMENT_REFUSED, DOCUMENT_TOO_DEEP, DONE, NO_MEMORY};
 use jsonpath_document::{DocumentFault, read_document};
 use nullable_box::Handle;
+use serde_json::Value;
 use std::alloc::Global;
 
 /// The status of a fault.
@@ -22,6 +23,23 @@ fn document_status(fault: DocumentFault) -> u8
     }
 }
 
+/// The document that bytes are; or tells why they are none: puts the place, and gives the status.
+pub(crate) fn document_in(alloc: Global, bytes: &[u8], position: &mut usize) -> Result<Value, u8>
+    ensures ok { IfOk result (λ value. ReadsAs bytes.now (view value)) }
+    ensures statuses { IfErr result (λ status. (status ≡ 2) ⊎ (status ≡ 4) ⊎ (status ≡ 9)) }
+    ensures fault { TellsFault bytes.now position.old position.new (status_of result) }
+{
+    let e = match read_document(alloc, bytes) {
+        Ok(value) => return Ok(value),
+        Err(e) => e,
+    };
+    let status = document_status(e.fault);
+    if status != NO_MEMORY {
+        *position = e.position;
+    }
+    Err(status)
+}
+
 /// Reads a document: 0 with the document in its handle, in the place of what was there; 2 where it is not JSON and 9 where an
 /// array or an object begins within 127 others, with the byte, from 1, where that shows; 4 without memory.
 #[unsafe(no_mangle)]
@@ -34,24 +52,12 @@ pub extern "C" fn jsonpath_document_new(
     ensures statuses { (result ≡ 0) ⊎ (result ≡ 2) ⊎ (result ≡ 4) ⊎ (result ≡ 9) }
     ensures done { result ≡ 0 → MatchOption document.new.value ⊥ (λ d.
         ReadsAs bytes.now (view d.value)) }
-    ensures refused { (result ≡ 2) ⊎ (result ≡ 9) → (d : Data) → ReadsAs bytes.now d → ⊥ }
-    ensures too_deep { result ≡ 9 → is_too_deep_at bytes.now position.new ≡ true }
-    ensures not_too_deep { result ≡ 2 → IsUtf8 bytes.now
-        → is_too_deep_at bytes.now position.new ≡ false }
-    ensures position { (result ≡ 2) ⊎ (result ≡ 9) →
-        (1 ≤ position.new) × (position.new ≤ length bytes.now + 1) }
+    ensures fault { TellsFault bytes.now position.old position.new result }
     ensures kept { result ≢ 0 → document.new.value ≡ document.old.value }
-    ensures kept_position { (result ≡ 0) ⊎ (result ≡ 4) → position.new ≡ position.old }
 {
-    let value = match read_document(alloc, bytes) {
+    let value = match document_in(alloc, bytes, position) {
         Ok(value) => value,
-        Err(e) => {
-            let status = document_status(e.fault);
-            if status != NO_MEMORY {
-                *position = e.position;
-            }
-            return status;
-        }
+        Err(status) => return status,
     };
     match Box::new(alloc, Document { value }) {
         Ok(read) => {

@@ -14,6 +14,7 @@
 mod answers;
 mod bounded;
 mod bounded_list;
+mod bytes;
 mod check;
 mod compiled;
 mod counted;
@@ -34,6 +35,7 @@ mod walks;
 ghost use Rattle.std.specs.Prelude.{◌≡◌};
 
 pub use answers::{jsonpath_count, jsonpath_exists, jsonpath_lines};
+pub use bytes::{jsonpath_count_in, jsonpath_exists_in, jsonpath_lines_in};
 pub use check::{jsonpath_check, jsonpath_hint, jsonpath_message};
 pub use compiled::Compiled;
 pub use documents::{jsonpath_document_free, jsonpath_document_new};

@@ -1,11 +1,11 @@
 //! Lists of selected nodes.
 
 ghost use Rattle.std.specs.Prelude.{◌≡◌, ◌≢◌, ◌⊎◌, List, None, Err, IfOk, length, true, false};
-ghost use Rattle.jsonpath_c.specs.Clauses.{MatchOption, Located, known_of, AreFirstNodes, CallsByPatternFrom, HasNode, HoldsFirst, IsAsked, IsLent, IsPast, SelectThose, SelectsFrom, asked_of, told_of};
+ghost use Rattle.jsonpath_c.specs.Clauses.{MatchOption, Located, known_of, AreFirstNodes, CallsByPatternFrom, HasNode, HoldsFirst, IsAsked, IsLent, IsPast, SelectThose, SelectsFrom, asked_of, told_of, view};
 
 use crate::answers::query_status;
 use crate::compiled::Compiled;
-use crate::handle::document::{Document, DocumentHandle};
+use crate::handle::document::DocumentHandle;
 use crate::handle::nodes::{Nodes, NodesHandle};
 use crate::handle::path::PathHandle;
 use crate::limits::Limits;
@@ -15,6 +15,7 @@ use crate::selected::{FirstNodes, first_nodes, first_unique_nodes};
 use crate::status::{CUT_SHORT, DONE, EMPTY_HANDLE, NO_MEMORY, NO_SUCH_NODE};
 use crate::walks::walk;
 use nullable_box::{Handle, take_both};
+use serde_json::Value;
 use serde_json_path::QueryError;
 use serde_json_path::functions::PatternStore;
 use std::alloc::Global;
@@ -24,14 +25,15 @@ use std::alloc::Global;
 fn selected(
     alloc: Global,
     path: &Compiled,
-    document: &Document,
+    document: &Value,
     unique: u8,
     limits: &Limits,
 ) -> Result<FirstNodes, QueryError>
     ensures nodes { IfOk result (λ first. (nodes : List Located)
-        × SelectsFrom path.now document.now nodes
+        × SelectsFrom path.now (view document.now) nodes
         × AreFirstNodes limits.now (asked_of unique nodes) first.nodes first.all) }
-    ensures refused { result ≡ Err QueryError.Pattern → CallsByPatternFrom path.now document.now }
+    ensures refused { result ≡ Err QueryError.Pattern
+        → CallsByPatternFrom path.now (view document.now) }
 {
     let store = PatternStore::new();
     let nodes = walk(alloc, path, document, &store)?;
@@ -65,7 +67,7 @@ pub extern "C" fn jsonpath_select(
     let Some((asked, read)) = take_both(alloc, path, document) else {
         return EMPTY_HANDLE;
     };
-    let found = selected(alloc, &asked, &read, unique, limits);
+    let found = selected(alloc, &asked, &read.value, unique, limits);
     path.put(alloc, asked);
     document.put(alloc, read);
     let first = match found {

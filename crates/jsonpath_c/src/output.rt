@@ -1,6 +1,6 @@
-//! A text in what the caller lends.
+//! Answers in what the caller lends.
 
-ghost use Rattle.std.specs.Prelude.{◌≡◌, ◌⊎◌};
+ghost use Rattle.std.specs.Prelude.{◌≡◌, ◌⊎◌, IfErr, IfOk};
 ghost use Rattle.jsonpath_c.specs.Exports.{IsPut, FindsNoRoom};
 
 use crate::status::{DONE, NO_ROOM};
@@ -18,4 +18,18 @@ pub(crate) fn put(text: &str, out: &mut [u8], size: &mut usize) -> u8
     }
     out[..bytes.len()].copy_from_slice(bytes);
     DONE
+}
+
+/// Puts an answer, or nothing where there is a status instead. Returns the status.
+pub(crate) fn put_answer<T: Copy>(found: Result<T, u8>, out: &mut T) -> u8
+    ensures done { IfOk found (λ answer. (result ≡ 0) × (out.new ≡ answer)) }
+    ensures none { IfErr found (λ status. (result ≡ status) × (out.new ≡ out.old)) }
+{
+    match found {
+        Ok(answer) => {
+            *out = answer;
+            DONE
+        }
+        Err(status) => status,
+    }
 }

@@ -43,8 +43,14 @@ fn documents_that_are_no_json() {
         let error = Document::parse(bytes).unwrap_err();
         assert_eq!(error, DocumentError::NotJson { position }, "{bytes:?}");
         assert_eq!(error.position(), Some(position), "{bytes:?}");
-        let refused = path("$").query_bytes(bytes).unwrap_err();
-        assert_eq!(refused, QueryError::Document(error), "{bytes:?}");
+        let refused = QueryError::Document(error);
+        assert_eq!(
+            path("$").query_bytes(bytes).unwrap_err(),
+            refused,
+            "{bytes:?}"
+        );
+        assert_eq!(path("$").count_bytes(bytes), Err(refused), "{bytes:?}");
+        assert_eq!(path("$").exists_bytes(bytes), Err(refused), "{bytes:?}");
         assert_eq!(
             path("$").report_bytes(bytes).unwrap_err().to_string(),
             format!("at position {position}, not JSON")
@@ -190,6 +196,8 @@ fn patterns() {
         large.report_bytes(br#"["a"]"#).unwrap_err().to_string(),
         "pattern refused"
     );
+    assert_eq!(large.count_bytes(br#"["a"]"#), Err(QueryError::Pattern));
+    assert_eq!(large.exists_bytes(br#"["a"]"#), Err(QueryError::Pattern));
     assert!(large.query_bytes(b"[1]").unwrap().is_empty());
     let broken = path("$[?!match(@, '(')]");
     assert_eq!(broken.query_bytes(br#"["a",5]"#).unwrap().len(), 2);

@@ -111,8 +111,7 @@ const ROWS: &[(&str, &str, &str)] = &[
 ];
 
 /// Holds the one-shot forms of an answer to its lines.
-fn selects_from_bytes(path: &JsonPath, document: &str, lines: &str, wanted: &[(&str, &str)]) {
-    let document = document.as_bytes();
+fn selects_from_bytes(path: &JsonPath, document: &[u8], lines: &str, wanted: &[(&str, &str)]) {
     assert_eq!(path.report_bytes(document).unwrap(), lines, "{path}");
     let located = path.query_located_bytes(document).unwrap();
     let pairs: Vec<(&str, &str)> = located
@@ -128,6 +127,12 @@ fn selects_from_bytes(path: &JsonPath, document: &str, lines: &str, wanted: &[(&
     assert_eq!(lengths, [wanted.len(); 3], "{path}");
     let empty = [values.is_empty(), located.is_empty(), locations.is_empty()];
     assert_eq!(empty, [wanted.is_empty(); 3], "{path}");
+    assert_eq!(path.count_bytes(document), Ok(wanted.len()), "{path}");
+    assert_eq!(
+        path.exists_bytes(document),
+        Ok(!wanted.is_empty()),
+        "{path}"
+    );
 }
 
 /// Holds what a path selects from a document that was read to the same lines.
@@ -161,7 +166,10 @@ pub fn pairs_of(lines: &str) -> Vec<(&str, &str)> {
 fn selects(path: &str, document: &str, lines: &str) {
     let parsed = JsonPath::parse(path).unwrap();
     let wanted = pairs_of(lines);
-    selects_from_bytes(&parsed, document, lines, &wanted);
+    selects_from_bytes(&parsed, document.as_bytes(), lines, &wanted);
+    // Long documents are read for the path, and shorter ones whole.
+    let long = format!("{document}{:1024}", "");
+    selects_from_bytes(&parsed, long.as_bytes(), lines, &wanted);
     let document = Document::parse(document.as_bytes()).unwrap();
     selects_from_document(&parsed, &document, &wanted);
     let printed = JsonPath::parse(&parsed.to_string()).unwrap();
