@@ -108,6 +108,14 @@ fn paths_text<I: Inputs, W: Write, E: Write>(
     }
 }
 
+/// Whether an input of a name can be read: a folder can be opened, but not read.
+fn is_file<I: Inputs>(name: &str, inputs: &mut I) -> bool {
+    match inputs.open(name) {
+        Ok(mut input) => input.read(&mut [0]).is_ok(),
+        Err(_) => false,
+    }
+}
+
 /// Tells that the path comes first, where a file's name stands in its place.
 fn tell_order<I: Inputs, W: Write, E: Write>(
     alloc: Global,
@@ -116,7 +124,7 @@ fn tell_order<I: Inputs, W: Write, E: Write>(
     streams: &mut Streams<'_, W, E>,
 ) -> Result<(), Stop> {
     if let Some(text) = texts.first() {
-        if *text != "-" && inputs.open(*text).is_ok() {
+        if *text != "-" && is_file(*text, inputs) {
             let message = format!(in alloc; "jpq: {text} is a file: the path comes first\n")?;
             streams.tell(message.as_str());
         }
