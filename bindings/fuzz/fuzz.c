@@ -267,18 +267,18 @@ static uint8_t compile(struct text text, uint8_t numbers, jsonpath_path **path, 
     return status;
 }
 
-/* Compiles a text that must be a path. */
-static jsonpath_path *compiled(struct text text) {
+/* Compiles a text that must be a path by a rule for numbers. */
+static jsonpath_path *compiled(struct text text, uint8_t numbers) {
     struct jsonpath_refusal refusal;
     jsonpath_path *path = NULL;
-    HOLD(compile(text, JSONPATH_WHOLE_NUMBERS, &path, &refusal) == JSONPATH_DONE && path != NULL);
+    HOLD(compile(text, numbers, &path, &refusal) == JSONPATH_DONE && path != NULL);
     return path;
 }
 
 /* Compiles the path of the document's root. */
 static jsonpath_path *compiled_root(void) {
     uint8_t root = '$';
-    return compiled((struct text){&root, 1});
+    return compiled((struct text){&root, 1}, JSONPATH_WHOLE_NUMBERS);
 }
 
 /* Holds the calls on a path's text to what compiling it answered. */
@@ -297,13 +297,13 @@ static void check_text(struct text text, uint8_t numbers, uint8_t status, struct
     free(hint.bytes);
 }
 
-/* A text that is refused leaves an empty handle empty, and a full one as it was. */
-static void check_refused(struct text text, uint8_t status, jsonpath_path **path) {
+/* A text that is refused by a rule for numbers leaves an empty handle empty, and a full one as it was. */
+static void check_refused(struct text text, uint8_t numbers, uint8_t status, jsonpath_path **path) {
     struct jsonpath_refusal refusal;
     HOLD(*path == NULL);
     hold_refused(write_path, &(struct question){.path = path}, JSONPATH_EMPTY_HANDLE);
     jsonpath_path *kept = compiled_root(), *before = kept;
-    HOLD(compile(text, JSONPATH_ALL_NUMBERS, &kept, &refusal) == status && kept == before);
+    HOLD(compile(text, numbers, &kept, &refusal) == status && kept == before);
     struct text printed = answer_of(write_path, &(struct question){.path = &kept});
     HOLD(printed.length == 1 && printed.bytes[0] == '$');
     free(printed.bytes);
@@ -311,11 +311,11 @@ static void check_refused(struct text text, uint8_t status, jsonpath_path **path
     HOLD(kept == NULL);
 }
 
-/* What a path prints compiles to an equal path, which prints the same. */
-static void check_printed(jsonpath_path **path) {
+/* What a path prints compiles by its rule for numbers to an equal path, which prints the same. */
+static void check_printed(jsonpath_path **path, uint8_t numbers) {
     uint8_t equal = MARK;
     struct text printed = answer_of(write_path, &(struct question){.path = path});
-    jsonpath_path *again = compiled(printed);
+    jsonpath_path *again = compiled(printed, numbers);
     HOLD(jsonpath_path_equals(path, &again, &equal) == JSONPATH_DONE && equal == 1);
     HOLD(jsonpath_path_equals(&again, path, &equal) == JSONPATH_DONE && equal == 1);
     struct text printed_again = answer_of(write_path, &(struct question){.path = &again});
@@ -351,7 +351,7 @@ static struct jsonpath_node node_of(const struct question *asked) {
 
 /* A location is a path that selects one node, the same. */
 static void check_alone(const struct question *asked, struct text location, struct text json) {
-    jsonpath_path *path = compiled(location);
+    jsonpath_path *path = compiled(location, JSONPATH_WHOLE_NUMBERS);
     jsonpath_nodes *nodes = NULL;
     size_t count;
     struct question alone = {.path = &path, .document = asked->document, .nodes = &nodes};
@@ -653,12 +653,12 @@ static void check_path(struct question asked, uint8_t numbers) {
     check_text(asked.path_text, numbers, status, refusal);
     if (status == JSONPATH_PATH_REFUSED) show_refusal(asked.path_text, refusal);
     if (status != JSONPATH_DONE) {
-        check_refused(asked.path_text, status, &path);
+        check_refused(asked.path_text, numbers, status, &path);
         hold_refused(write_report, &asked, status);
         hold_refused(write_lines_in, &asked, JSONPATH_EMPTY_HANDLE);
         return;
     }
-    check_printed(&path);
+    check_printed(&path, numbers);
     if (*asked.document == NULL) {
         check_no_document(asked);
     } else {
