@@ -14,7 +14,8 @@
  *
  * What the caller must keep to; nothing checks it:
  *   - A pointer is not null, also where its length is 0, and the memory behind it is valid for that length. What a call may
- *     write (`out`, `length`, `refusal`, `position`) overlaps nothing else that the call is handed, and no other thread uses it meanwhile.
+ *     write (`out`, `length`, `refusal`, `position`) overlaps nothing else that the call is handed, and no other thread uses it
+ *     meanwhile.
  *   - A variable of a handle is NULL at first, is changed by these calls alone, and is not copied: what two variables hold would
  *     be freed twice. A call uses a handle as if it wrote it: no other thread uses it meanwhile, and one call is not handed the
  *     same variable twice. Between calls a handle may go from one thread to another, with what orders their memory.

@@ -78,11 +78,15 @@ fn main(rt: HostRuntime) -> ExitCode {
     let mut inputs = MachineInputs { rt: &rt };
     let mut out = rt.stdout();
     let mut err = rt.stderr();
-    let (no_color, is_forced) = (
-        is_set(&rt, "NO_COLOR", ""),
-        is_set(&rt, "CLICOLOR_FORCE", "0"),
-    );
-    let terminal = takes_colors(out.is_terminal(), is_dumb(&rt), no_color, is_forced);
+    let (is_terminal, is_forced) = (out.is_terminal(), is_set(&rt, "CLICOLOR_FORCE", "0"));
+    // The other variables are looked for only where they count.
+    let terminal = (is_terminal || is_forced)
+        && takes_colors(
+            is_terminal,
+            is_dumb(&rt),
+            is_set(&rt, "NO_COLOR", ""),
+            is_forced,
+        );
     let status = run(
         rt.alloc(),
         &words,
