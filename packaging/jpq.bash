@@ -7,9 +7,10 @@ _jpq() {
         before=${COMP_WORDS[COMP_CWORD - 2]}
     fi
     local options="
-        -v --values -r --raw -l --locations -p --pointers -j --json -c --count -q --quiet --pretty -0 --null
-        -u --unique -L --lines --strict --check --whole-numbers -s --silent -h --help -V --version -e
-        --expression -f --from-file -n --max --color
+        -v --values -r --raw -l --locations -p --pointers -j --json --tsv --csv -c --count -q --quiet
+        --header --pretty --tab --ascii -0 --null --total -u --unique -L --lines --line-number
+        --with-filename --no-filename --no-path-number --strict --check --whole-numbers -s --silent -h
+        --help -V --version -e --expression -f --from-file --let --indent -n --max -m --max-all --color
     "
     COMPREPLY=()
     case $before in
@@ -17,7 +18,7 @@ _jpq() {
             mapfile -t COMPREPLY < <(compgen -W 'auto always never' -- "$word")
             return
             ;;
-        -e|--expression|-n|--max)
+        -e|--expression|--indent|-n|--max|-m|--max-all|--let)
             return
             ;;
     esac

@@ -13,7 +13,7 @@ use jpq_program::colours::takes_colors;
 use jpq_program::inputs::Inputs;
 use jpq_program::run::run;
 use std::fs::File;
-use std::io::{IsTerminal, Read, Stdin};
+use std::io::{IsTerminal, Read, Stdin, Write};
 use std::process::ExitCode;
 use std::{env, io};
 
@@ -50,14 +50,19 @@ impl Inputs for MachineInputs<'_> {
     }
 }
 
-/// The words of the command line, the program's name first, or none if they cannot be read.
-fn words(rt: &HostRuntime) -> Vec<String> {
-    match env::args(rt) {
-        Ok(args) => args
-            .collect(rt.alloc())
-            .unwrap_or_else(|_| Vec::new(rt.alloc())),
-        Err(_) => Vec::new(rt.alloc()),
-    }
+/// The words of the command line, the program's name first.
+fn words(rt: &HostRuntime) -> io::Result<Vec<String>> {
+    Ok(env::args(rt)?.collect(rt.alloc())?)
+}
+
+/// Tells why the words can't be read: one is not UTF-8, or memory is refused. Gives the exit status.
+fn refuse_words<E: Write>(e: &io::Error, err: &mut E) -> u8 {
+    let (text, status) = match e.kind() {
+        io::ErrorKind::InvalidData => ("jpq: a word of the command line is not UTF-8\n", 64),
+        _ => ("jpq: no memory\n", 2),
+    };
+    let _ = err.write_all(text.as_bytes());
+    status
 }
 
 /// Whether the environment has a variable whose value is not empty and not this one.
@@ -74,10 +79,13 @@ fn is_dumb(rt: &HostRuntime) -> bool {
 }
 
 fn main(rt: HostRuntime) -> ExitCode {
-    let words = words(&rt);
+    let mut err = rt.stderr();
+    let words = match words(&rt) {
+        Ok(words) => words,
+        Err(e) => return ExitCode::from(refuse_words(&e, &mut err)),
+    };
     let mut inputs = MachineInputs { rt: &rt };
     let mut out = rt.stdout();
-    let mut err = rt.stderr();
     let (is_terminal, is_forced) = (out.is_terminal(), is_set(&rt, "CLICOLOR_FORCE", "0"));
     // The other variables are looked for only where they count.
     let terminal = (is_terminal || is_forced)

@@ -1,5 +1,5 @@
 -- What is answered, by what was found or by what `clap` says.
-use Rattle.jpq_options.proofs.Words.{arith, common_steps, ◌≡◌, ◌∙◌, ◌⊎◌, ◌&&◌, Bool, true, false, not, cond, List, [], ◌∷◌, map, Option, Some, is_some, option_map, refl, sym, ap, subst, Result, IfOk, IsErr, filter, Bor, length-map, is_empty, App, IsAmong, Kinds, Row, Text, fault_of, is_simple, is_simple_and_free, matches_of, ValueParser, ArgumentConflict, OutOfMemory, jpq, IsRequestOf, AreOptions, IsRefusal, IsTold, checks_file, form_of_row, forms, given_forms, has_two, is_given, lacks_lines, lacks_path, misuse_by, misuse_in, texts, Form, AllocError, ErrorKind, clap_on_literals, Options, Request}
+use Rattle.jpq_options.proofs.Words.{arith, common_steps, ◌≡◌, ◌∙◌, ◌⊎◌, ◌&&◌, Bool, true, false, not, cond, List, [], ◌∷◌, map, Option, Some, is_some, option_map, refl, sym, ap, subst, Result, IfOk, IsErr, filter, Bor, length-map, first_form, is_empty, App, IsAmong, Kinds, Row, Text, fault_of, is_simple, is_simple_and_free, matches_of, ValueParser, ArgumentConflict, OutOfMemory, jpq, IsRequestOf, AreOptions, IsRefusal, IsTold, texts, form_of_row, forms, given_forms, has_two, misuse_by, misuse_in, Shown, AllocError, ErrorKind, clap_on_literals, Options, Request}
 
 -- ---- forms
 
@@ -7,25 +7,23 @@ map-filter : {X Y : Type 0} (h : X → Y) (q : Y → Bool) (xs : List X) → map
 map-filter h q [] = refl
 map-filter h q (x ∷ xs) = grind (arith, common_steps, (map-filter h q xs))
 
-pub given_are : (rows : List Row) (all given slice : List (Bor Text × Form)) → slice ≡ given → given ≡ filter (λ f. is_given f.0.now rows) all → map form_of_row all ≡ forms
+pub given_are : (rows : List Row) (all given slice : List (Bor Text × Shown)) → slice ≡ given → given ≡ filter (λ f. is_given f.0.now rows) all → map form_of_row all ≡ forms
     → map form_of_row slice ≡ given_forms forms rows
 given_are rows all given slice same is are =
     ap (map form_of_row) (same ∙ is) ∙ map-filter form_of_row (λ f. is_given f.0 rows) all ∙ ap (λ fs. given_forms fs rows) are
 
 -- ---- misuse
 
-empty_texts : (xs : List (Bor Text)) → is_empty xs ≡ is_empty (texts xs)
+pub empty_texts : (xs : List (Bor Text)) → is_empty xs ≡ is_empty (texts xs)
 empty_texts xs = simp length-map
 
-some_text : (o : Option (Bor Text)) → is_some o ≡ is_some (option_map (λ s. s.now) o)
-some_text o = grind (arith, common_steps)
-
-pub misuse_is : (rows : List Row) (shown : Form) (o : Options) → AreOptions rows shown o → has_two (given_forms forms rows) ≡ false
-    → misuse_by (is_empty o.paths.items && not (is_some o.paths_file)) (o.check && not (is_empty o.files.items)) (o.strict && not o.lines) ≡ misuse_in rows
-misuse_is rows shown o are one = grind (arith, common_steps, is_some, empty_texts, some_text)
-
 pub two_forms : (rows : List Row) → has_two (given_forms forms rows) ≡ true → Some ArgumentConflict ≡ misuse_in rows
-two_forms rows two = sym (ap (λ b. cond b (Some ArgumentConflict) (misuse_by (lacks_path rows) (checks_file rows) (lacks_lines rows))) two)
+two_forms rows two = sym (ap (λ b. cond b (Some ArgumentConflict) (misuse_by (first_form (given_forms forms rows)) rows)) two)
+
+pub one_form : (rows : List Row) (shown : Shown) → has_two (given_forms forms rows) ≡ false → shown ≡ first_form (given_forms forms rows)
+    → misuse_by shown rows ≡ misuse_in rows
+one_form rows shown one is = ap (λ s. misuse_by s rows) is
+    ∙ sym (ap (λ b. cond b (Some ArgumentConflict) (misuse_by (first_form (given_forms forms rows)) rows)) one)
 
 pub refusal : (rows : List Row) (kind : ErrorKind) (a : Request) → Some kind ≡ misuse_in rows → IsRefusal kind a → IsRequestOf [] rows a
 refusal rows kind a is r = grind (arith, common_steps)

@@ -2,10 +2,10 @@
 -- Answered: what is answered, by what was found or by what `clap` says.
 -- Commands: what `clap` reads of a command as it is built.
 -- Found: what the getters of `clap` give, by rows.
--- Returns: a line without the carriage return at its end.
+-- Pairs: pairs of options in order.
 -- Words: the words of definitions and lemmas, from one place.
 pub mod Answered
 pub mod Commands
 pub mod Found
-pub mod Returns
+pub mod Pairs
 mod Words

@@ -1,6 +1,6 @@
 -- What the words of `jpq` ask for.
 use Rattle.std.specs.Prelude.{◌≡◌, ◌⊎◌, ◌++◌, ◌&&◌, ◌||◌, not, ℕ, Bool, true, false, if◌then◌else◌, List, [], ◌∷◌, map, codes, find, Option, Some, None, is_some, option_map, option_and_then, unwrap_or}
-use Rattle.std.specs.List.{filter}
+use Rattle.std.specs.List.{filter, list_any}
 use Rattle.std.specs.Str.{bytes_eq}
 use Rattle.std.specs.Borrow.{Bor}
 use Rattle.std.specs.Str.Parse.{ParsesUnsigned, ExplainsUnsignedError, HasUnsignedDigitsIfOk}
@@ -11,6 +11,7 @@ use Rattle.clap.specs.declared.error.kind.ErrorKind.{ErrorKind}
 use Rattle.clap.specs.declared.error.kind.ErrorKind.TheVariants.{ArgumentConflict, DisplayHelp, DisplayVersion, MissingRequiredArgument}
 use Rattle.clap.specs.declared.parser.matches.ValueSource.{ValueSource}
 use Rattle.clap.specs.declared.parser.matches.ValueSource.TheVariants.{CommandLine}
+use Rattle.jpq_options.specs.Pairs.{conflicts, is_given, is_given_so, needs, values_of}
 use Rattle.jpq_options.specs.Table.{IsColorParser, jpq}
 use Rattle.jsonpath_lines.specs.declared.forms.Form.{Form}
 use Rattle.jsonpath_lines.specs.declared.forms.Layout.{Layout}
@@ -22,22 +23,11 @@ use Rattle.jpq_options.specs.declared.options.Color.TheVariants.{Auto, Always, N
 use Rattle.jpq_options.specs.declared.options.Options.{Options}
 use Rattle.jpq_options.specs.declared.options.Request.{Request}
 use Rattle.jpq_options.specs.declared.options.Request.TheVariants.{Run, Print, WrongUse}
-use Rattle.jpq_options.specs.declared.options.Misuse.{Misuse}
-use Rattle.jpq_options.specs.declared.options.Misuse.TheVariants.{TwoForms, NoPath, CheckOfFile, StrictWithoutLines}
+use Rattle.jpq_options.specs.declared.options.Shown.{Shown}
+use Rattle.jpq_options.specs.declared.options.Shown.TheVariants.{Nodes, Tsv, Csv}
+use Rattle.jpq_options.specs.declared.misuse.Misuse.{Misuse}
+use Rattle.jpq_options.specs.declared.misuse.Misuse.TheVariants.{Together, Without, NoPath, CheckOfFile}
 use Rattle.jsonpath_lines.specs.declared.forms.Form.TheVariants as form
-
--- ---- what was found, a row for each argument
-
-abbrev pub is_of_words : Option ValueSource → Bool
-is_of_words (Some CommandLine) = true
-is_of_words _ = false
-
--- the words have the argument
-abbrev pub is_given : Text → List Row → Bool
-is_given id rows = is_of_words (option_and_then (λ r. r.source) (find (λ r. bytes_eq r.id id) rows))
-
-abbrev pub values_of : Text → List Row → List Text
-values_of id rows = unwrap_or (all_of id rows) []
 
 -- ---- the paths and the files
 
@@ -56,31 +46,37 @@ files_of rows =
 
 -- ---- the form
 
--- the options of which one may be used, and the form that each asks for
-abbrev pub forms : List (Text × Form)
-forms = (codes "values", form.Value) ∷ (codes "raw", form.Raw) ∷ (codes "locations", form.Location)
-    ∷ (codes "pointers", form.Pointer) ∷ (codes "json", form.Json) ∷ (codes "count", form.Count)
-    ∷ (codes "quiet", form.Nothing) ∷ []
+-- the options of which one may be used, and what each asks to show
+abbrev pub forms : List (Text × Shown)
+forms = (codes "values", Nodes form.Value) ∷ (codes "raw", Nodes form.Raw)
+    ∷ (codes "locations", Nodes form.Location) ∷ (codes "pointers", Nodes form.Pointer)
+    ∷ (codes "json", Nodes form.Json) ∷ (codes "tsv", Tsv) ∷ (codes "csv", Csv)
+    ∷ (codes "count", Nodes form.Count) ∷ (codes "quiet", Nodes form.Nothing) ∷ []
 
 -- a row of the code's table
-abbrev pub form_of_row : Bor Text × Form → Text × Form
+abbrev pub form_of_row : Bor Text × Shown → Text × Shown
 form_of_row f = (f.0.now, f.1)
 
-abbrev pub given_forms : List (Text × Form) → List Row → List (Text × Form)
+abbrev pub given_forms : List (Text × Shown) → List Row → List (Text × Shown)
 given_forms all rows = filter (λ f. is_given f.0 rows) all
 
-abbrev pub first_form : List (Text × Form) → Form
-first_form [] = form.LocationAndValue
+abbrev pub first_form : List (Text × Shown) → Shown
+first_form [] = Nodes form.LocationAndValue
 first_form (f ∷ fs) = f.1
 
-abbrev pub has_two : List (Text × Form) → Bool
+abbrev pub has_two : List (Text × Shown) → Bool
 has_two (f ∷ g ∷ fs) = true
 has_two _ = false
 
 -- ---- the other options
 
+-- some option asks for indented values
+abbrev pub is_indented : List Row → Bool
+is_indented rows =
+    is_given (codes "pretty") rows || (is_given (codes "indent") rows || is_given (codes "tab") rows)
+
 abbrev pub layout_of : Bool → Layout
-layout_of pretty = if pretty then Pretty else Compact
+layout_of indented = if indented then Pretty else Compact
 
 abbrev pub end_of : Bool → LineEnd
 end_of null = if null then Nul else LineFeed
@@ -101,17 +97,28 @@ IsNumberIn (Some word) most =
 abbrev pub texts : List (Bor Text) → List Text
 texts = map (λ s. s.now)
 
--- The options are those that the rows ask for, in this form.
-pub record AreOptions (rows : List Row) (shown : Form) (o : Options) : Type 0 where
+-- The options are those that the rows ask for, and this is shown.
+pub record AreOptions (rows : List Row) (shown : Shown) (o : Options) : Type 0 where
   pub paths : texts o.paths.items ≡ paths_of rows
-  pub paths_file : option_map (λ s. s.now) o.paths_file ≡ first_of (codes "from-file") rows
+  pub paths_files : texts o.paths_files.items ≡ values_of (codes "from-file") rows
+  pub bindings : texts o.bindings.items ≡ values_of (codes "let") rows
   pub files : texts o.files.items ≡ files_of rows
-  pub form : o.form ≡ shown
-  pub layout : o.layout ≡ layout_of (is_given (codes "pretty") rows)
+  pub shown : o.shown ≡ shown
+  pub header : o.header ≡ is_given (codes "header") rows
+  pub layout : o.layout ≡ layout_of (is_indented rows)
+  pub indent : IsNumberIn (one_of (codes "indent") rows) o.indent
+  pub tab : o.tab ≡ is_given (codes "tab") rows
+  pub ascii : o.ascii ≡ is_given (codes "ascii") rows
   pub end : o.end ≡ end_of (is_given (codes "null") rows)
   pub most : IsNumberIn (one_of (codes "max") rows) o.most
+  pub most_of_all : IsNumberIn (one_of (codes "max-all") rows) o.most_of_all
+  pub total : o.total ≡ is_given (codes "total") rows
   pub unique : o.unique ≡ is_given (codes "unique") rows
   pub lines : o.lines ≡ is_given (codes "lines") rows
+  pub line_number : o.line_number ≡ is_given (codes "line-number") rows
+  pub with_filename : o.with_filename ≡ is_given (codes "with-filename") rows
+  pub no_filename : o.no_filename ≡ is_given (codes "no-filename") rows
+  pub no_path_number : o.no_path_number ≡ is_given (codes "no-path-number") rows
   pub strict : o.strict ≡ is_given (codes "strict") rows
   pub check : o.check ≡ is_given (codes "check") rows
   pub whole_numbers : o.whole_numbers ≡ is_given (codes "whole-numbers") rows
@@ -121,33 +128,41 @@ pub record AreOptions (rows : List Row) (shown : Form) (o : Options) : Type 0 wh
 -- ---- wrong use
 
 abbrev pub lacks_path : List Row → Bool
-lacks_path rows = is_empty (paths_of rows) && not (is_some (first_of (codes "from-file") rows))
+lacks_path rows = is_empty (paths_of rows) && is_empty (values_of (codes "from-file") rows)
 
 abbrev pub checks_file : List Row → Bool
 checks_file rows = is_given (codes "check") rows && not (is_empty (files_of rows))
 
-abbrev pub lacks_lines : List Row → Bool
-lacks_lines rows = is_given (codes "strict") rows && not (is_given (codes "lines") rows)
+-- what is shown is a table
+abbrev pub is_table : Shown → Bool
+is_table (Nodes form) = false
+is_table _ = true
+
+-- the paths are to be the first row of what is no table
+abbrev pub lacks_table : Shown → List Row → Bool
+lacks_table shown rows = is_given (codes "header") rows && not (is_table shown)
 
 abbrev pub kind_of_misuse : Misuse → ErrorKind
-kind_of_misuse (TwoForms one other) = ArgumentConflict
+kind_of_misuse (Together one other) = ArgumentConflict
+kind_of_misuse (Without other) = MissingRequiredArgument
 kind_of_misuse NoPath = MissingRequiredArgument
 kind_of_misuse CheckOfFile = ArgumentConflict
-kind_of_misuse StrictWithoutLines = MissingRequiredArgument
 
--- the kind of what is wrong where each option alone is right: no path, a document where none is read, or
--- lines that are held to be JSON where no line is read alone
-abbrev pub misuse_by : (has_no_path has_file_to_check has_no_lines : Bool) → Option ErrorKind
-misuse_by has_no_path has_file_to_check has_no_lines =
-    if has_no_path then Some MissingRequiredArgument
-    else if has_file_to_check then Some ArgumentConflict
-    else if has_no_lines then Some MissingRequiredArgument
+-- the kind of what is wrong where each option alone is right: no path, a document where none is read, options that may not be
+-- used together, or one without that which it needs
+abbrev pub misuse_by : Shown → List Row → Option ErrorKind
+misuse_by shown rows =
+    if lacks_path rows then Some MissingRequiredArgument
+    else if checks_file rows then Some ArgumentConflict
+    else if list_any (is_given_so true rows) conflicts then Some ArgumentConflict
+    else if list_any (is_given_so false rows) needs then Some MissingRequiredArgument
+    else if lacks_table shown rows then Some MissingRequiredArgument
     else None
 
 -- the same, and two forms before all else
 abbrev pub misuse_in : List Row → Option ErrorKind
 misuse_in rows = if has_two (given_forms forms rows) then Some ArgumentConflict
-    else misuse_by (lacks_path rows) (checks_file rows) (lacks_lines rows)
+    else misuse_by (first_form (given_forms forms rows)) rows
 
 -- ---- the answer
 

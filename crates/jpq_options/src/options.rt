@@ -1,20 +1,19 @@
 //! The words of `jpq`: the table of its options, and what a command line asks for.
 
-ghost use Rattle.std.specs.Prelude.{◌≡◌, ◌&&◌, [], IfErr, IfOk, IsErr, codes, false, fold, is_some};
-ghost use Rattle.std.specs.Prelude.{map, not, option_map, true};
-ghost use Rattle.std.specs.List.{filter};
-ghost use Rattle.std.specs.Str.Lines.{strip_carriage_return};
-ghost use Rattle.clap.specs.Walk.{is_empty};
+ghost use Rattle.std.specs.Prelude.{◌≡◌, [], IfErr, IfOk, IsErr, codes, false, fold, is_some};
+ghost use Rattle.std.specs.Prelude.{map, option_map, true};
+ghost use Rattle.std.specs.List.{filter, list_any};
 ghost use Rattle.clap.specs.Words.{app_of, found_of, kind_of, rows_of, rule_of, with_rule};
 ghost use Rattle.clap.specs.declared.builder.value_parser.ValueParser.{ValueParser as parser};
 ghost use Rattle.jpq_options.specs.Table.{IsColorParser, jpq, rule_of_setting, setting_of};
 ghost use Rattle.jpq_options.specs.Table.{settings};
 ghost use Rattle.jpq_options.specs.Options.{IsRequestOf, AreOptions, AsksFor, IsRefusal, IsTold};
 ghost use Rattle.jpq_options.specs.Options.{color_in, end_of, files_of, first_form, form_of_row};
-ghost use Rattle.jpq_options.specs.Options.{forms, has_two, is_given, kind_of_misuse, layout_of};
-ghost use Rattle.jpq_options.specs.Options.{misuse_by, paths_of, texts, values_of};
-ghost use Rattle.jpq_options.specs.Paths.{is_path_line, paths_in_text};
+ghost use Rattle.jpq_options.specs.Options.{forms, has_two, is_indented, is_table, kind_of_misuse};
+ghost use Rattle.jpq_options.specs.Options.{layout_of, misuse_by, paths_of, texts};
+ghost use Rattle.jpq_options.specs.Pairs.{is_given, is_given_so, pair_of_row, values_of};
 
+use crate::misuse::{Misuse, conflicts, needs, with_own_tip};
 use clap::builder::ValueParser;
 use clap::error::ErrorKind;
 use clap::parser::ValueSource;
@@ -22,7 +21,6 @@ use clap::{Arg, ArgAction, ArgMatches, Command, Error, value_parser};
 use jsonpath_lines::{Form, Layout, LineEnd};
 use std::alloc::{AllocError, Global};
 use std::convert::AsStr;
-use std::fmt;
 
 /// When lines have colours.
 #[derive(Clone, Copy, Debug, PartialEq, Eq)]
@@ -35,27 +33,60 @@ pub enum Color {
     Never,
 }
 
+/// What is shown of what the paths select.
+#[derive(Clone, Copy, Debug, PartialEq, Eq)]
+pub enum Shown {
+    /// The nodes, in a form.
+    Nodes(Form),
+    /// A row for each document, with the first node of each path in a cell, and tabs between the cells.
+    Tsv,
+    /// The same, with commas between the cells.
+    Csv,
+}
+
 /// What a command line asks the program to do. The texts are words of the command line.
 #[derive(Debug, Drop)]
 pub struct Options<'a> {
     /// The paths that the words have, in order.
     pub paths: Vec<&'a str>,
-    /// The file of further paths.
-    pub paths_file: Option<&'a str>,
+    /// The files of further paths, in order.
+    pub paths_files: Vec<&'a str>,
+    /// Names and their values, with `=` between.
+    pub bindings: Vec<&'a str>,
     /// The files of documents, in order. Where there is none, standard input is read; `-` stands for it too.
     pub files: Vec<&'a str>,
-    /// What is shown of each node.
-    pub form: Form,
+    /// What is shown.
+    pub shown: Shown,
+    /// Whether the paths are the first row of a table.
+    pub header: bool,
     /// How values are laid out.
     pub layout: Layout,
+    /// By how many spaces a level is indented, where that is said.
+    pub indent: Option<u64>,
+    /// Whether a level is indented by a tab.
+    pub tab: bool,
+    /// Whether characters above U+007F are escaped.
+    pub ascii: bool,
     /// What ends a line.
     pub end: LineEnd,
-    /// How many nodes are shown at most.
+    /// How many nodes of a document are shown at most, for each path.
     pub most: Option<u64>,
+    /// How many nodes of all documents are shown at most.
+    pub most_of_all: Option<u64>,
+    /// Whether the sum of all counts is shown alone.
+    pub total: bool,
     /// Whether each location is shown once.
     pub unique: bool,
     /// Whether each line of an input is a document.
     pub lines: bool,
+    /// Whether what is shown begins with the number of its document's line.
+    pub line_number: bool,
+    /// Whether what is shown begins with the file's name, also where there is one file.
+    pub with_filename: bool,
+    /// Whether it doesn't, also where there are several.
+    pub no_filename: bool,
+    /// Whether what is shown doesn't begin with the path's number, also where there are several paths.
+    pub no_path_number: bool,
     /// Whether a line that is no JSON ends the run.
     pub strict: bool,
     /// Whether paths are checked and no document is read.
@@ -86,8 +117,10 @@ enum Takes {
     Nothing,
     /// A path. The option may be used several times.
     Path,
-    /// A file's name.
+    /// A file's name. The option may be used several times.
     File,
+    /// A name and a value, with `=` between. The option may be used several times.
+    Binding,
     /// A number from 0 to 2^64-1.
     Number,
     /// One of [`WHEN`].
@@ -112,19 +145,31 @@ macro_rules! options {
 }
 
 /// The options, in the order of the help.
-static OPTIONS: [OptionRow; 19] = options! {
+static OPTIONS: [OptionRow; 32] = options! {
     "values", Some('v'), Nothing => "Print values alone";
     "raw", Some('r'), Nothing => "Print values alone, and strings without quotes";
     "locations", Some('l'), Nothing => "Print normalised paths alone";
     "pointers", Some('p'), Nothing => "Print JSON pointers (RFC 6901) alone";
-    "json", Some('j'), Nothing => "Print one JSON array of objects with a path and a value";
+    "json", Some('j'), Nothing => "Print a JSON array for each document, of objects with a path and a value";
+    "tsv", None, Nothing => "Print a row for each document: the first node of each path, and tabs between";
+    "csv", None, Nothing => "Print such a row with commas between";
     "count", Some('c'), Nothing => "Print how many nodes are selected";
     "quiet", Some('q'), Nothing => "Print nothing";
-    "pretty", None, Nothing => "Indent values";
+    "header", None, Nothing => "With --tsv or --csv, print the paths as the first row";
+    "pretty", None, Nothing => "Indent values by two spaces a level";
+    "indent", None, Number => "Indent values by N spaces a level";
+    "tab", None, Nothing => "Indent values by a tab a level";
+    "ascii", None, Nothing => "Escape characters above U+007F in JSON and in normalised paths";
     "null", Some('0'), Nothing => "End lines by a NUL in place of a line feed";
     "max", Some('n'), Number => "Print at most N nodes of a document for each path";
+    "max-all", Some('m'), Number => "Print at most N nodes of all documents";
+    "total", None, Nothing => "With --count, print the sum of all counts alone";
     "unique", Some('u'), Nothing => "Print each location once";
     "lines", Some('L'), Nothing => "Read each line as a document (NDJSON)";
+    "line-number", None, Nothing => "With --lines, print the number of the line before what is printed of it";
+    "with-filename", None, Nothing => "Print the file's name before what is printed of it, also of one file";
+    "no-filename", None, Nothing => "Print no file's name, also with several files";
+    "no-path-number", None, Nothing => "Print no path's number, also with several paths";
     "strict", None, Nothing => "With --lines, stop at a line that is not JSON";
     "check", None, Nothing => "Read no document, and print each path in its canonical form";
     "whole-numbers", None, Nothing => "Let a number that is not held as an integer equal nothing";
@@ -132,17 +177,20 @@ static OPTIONS: [OptionRow; 19] = options! {
     "color", None, When => "When to use colours";
     "expression", Some('e'), Path => "Select by this path; may be used several times";
     "from-file", Some('f'), File => "Select by the paths of a file, one on each line; '#' begins a comment";
+    "let", None, Binding => "Let the text '$NAME' in a filter stand for VALUE; may be used several times";
 };
 
-/// The options of which one may be used, and the form that each asks for.
-static FORMS: [(&'static str, Form); 7] = [
-    ("values", Form::Value),
-    ("raw", Form::Raw),
-    ("locations", Form::Location),
-    ("pointers", Form::Pointer),
-    ("json", Form::Json),
-    ("count", Form::Count),
-    ("quiet", Form::Nothing),
+/// The options of which one may be used, and what each asks to show.
+static FORMS: [(&'static str, Shown); 9] = [
+    ("values", Shown::Nodes(Form::Value)),
+    ("raw", Shown::Nodes(Form::Raw)),
+    ("locations", Shown::Nodes(Form::Location)),
+    ("pointers", Shown::Nodes(Form::Pointer)),
+    ("json", Shown::Nodes(Form::Json)),
+    ("tsv", Shown::Tsv),
+    ("csv", Shown::Csv),
+    ("count", Shown::Nodes(Form::Count)),
+    ("quiet", Shown::Nodes(Form::Nothing)),
 ];
 
 /// What `--color` takes.
@@ -171,7 +219,7 @@ fn option_rows() -> &'static [OptionRow]
 }
 
 /// The table of forms.
-fn form_rows() -> &'static [(&'static str, Form)]
+fn form_rows() -> &'static [(&'static str, Shown)]
     ensures { map form_of_row result.now ≡ forms }
 {
     &FORMS
@@ -196,7 +244,8 @@ fn argument<'a>(alloc: Global, row: &OptionRow, colors: ValueParser<'a>) -> Arg<
     match row.takes {
         Takes::Nothing => argument.action(ArgAction::SetTrue),
         Takes::Path => argument.action(ArgAction::Append).value_name("PATH"),
-        Takes::File => argument.action(ArgAction::Set).value_name("FILE"),
+        Takes::File => argument.action(ArgAction::Append).value_name("FILE"),
+        Takes::Binding => argument.action(ArgAction::Append).value_name("NAME=VALUE"),
         Takes::Number => argument
             .action(ArgAction::Set)
             .value_name("N")
@@ -242,55 +291,10 @@ pub fn command<'a>(alloc: Global) -> Result<Command<'a>, AllocError>
         .about(ABOUT)
         .override_usage(USAGE)
         .after_help(STATUSES)
+        .args_override_self(true)
         .arg(path)?
         .arg(file)?;
     with_options(alloc, command, option_rows(), color_parser())
-}
-
-/// How options are used that may not be used so, though `clap` reads each.
-#[derive(Clone, Copy, Debug)]
-enum Misuse {
-    /// Two forms are asked for.
-    TwoForms(&'static str, &'static str),
-    /// There is no path.
-    NoPath,
-    /// A document is named where none is read.
-    CheckOfFile,
-    /// Lines are held to be JSON where no line is read as a document.
-    StrictWithoutLines,
-}
-
-impl Misuse {
-    /// The kind that `clap` has for it.
-    fn kind(self) -> ErrorKind
-        ensures { result ≡ kind_of_misuse self }
-    {
-        match self {
-            Misuse::TwoForms(_, _) => ErrorKind::ArgumentConflict,
-            Misuse::NoPath => ErrorKind::MissingRequiredArgument,
-            Misuse::CheckOfFile => ErrorKind::ArgumentConflict,
-            Misuse::StrictWithoutLines => ErrorKind::MissingRequiredArgument,
-        }
-    }
-}
-
-impl fmt::Display for Misuse {
-    fn fmt<W: fmt::Write>(&self, f: &mut fmt::Formatter<W>) -> fmt::Result {
-        match self {
-            Misuse::TwoForms(one, other) => {
-                write!(f, "the argument '--{one}' cannot be used with '--{other}'")
-            }
-            Misuse::NoPath => f.write_str(
-                "the following required arguments were not provided:\n  <PATH>",
-            ),
-            Misuse::CheckOfFile => f.write_str(
-                "the argument '--check' cannot be used with '[FILE]...'",
-            ),
-            Misuse::StrictWithoutLines => {
-                f.write_str("the following required arguments were not provided:\n  --lines")
-            }
-        }
-    }
 }
 
 /// Whether the words have an option.
@@ -338,8 +342,8 @@ fn paths_and_files<'a>(
 fn forms_given(
     alloc: Global,
     matches: &ArgMatches<'_>,
-    all: &[(&'static str, Form)],
-) -> Result<Vec<(&'static str, Form)>, AllocError>
+    all: &[(&'static str, Shown)],
+) -> Result<Vec<(&'static str, Shown)>, AllocError>
     ensures { IfOk result (λ v. v.items
         ≡ filter (λ f. is_given f.0.now (rows_of (found_of matches.now))) all.now) }
 {
@@ -352,11 +356,18 @@ fn forms_given(
     Ok(given)
 }
 
-/// How values are laid out, indented or not.
-fn layout_of(is_pretty: bool) -> Layout
-    ensures { result ≡ layout_of is_pretty }
+/// Whether some option asks for indented values.
+fn is_indented(matches: &ArgMatches<'_>) -> bool
+    ensures { result ≡ is_indented (rows_of (found_of matches.now)) }
 {
-    if is_pretty {
+    is_given(matches, "pretty") || is_given(matches, "indent") || is_given(matches, "tab")
+}
+
+/// How values are laid out, indented or not.
+fn layout_of(is_indented: bool) -> Layout
+    ensures { result ≡ layout_of is_indented }
+{
+    if is_indented {
         Layout::Pretty
     } else {
         Layout::Compact
@@ -389,21 +400,32 @@ fn color_in(word: Option<&str>) -> Color
 fn options_of<'a>(
     alloc: Global,
     matches: &ArgMatches<'a>,
-    form: Form,
+    shown: Shown,
 ) -> Result<Options<'a>, AllocError>
-    ensures { IfOk result (AreOptions (rows_of (found_of matches.now)) form) }
+    ensures { IfOk result (AreOptions (rows_of (found_of matches.now)) shown) }
 {
     let (paths, files) = paths_and_files(alloc, matches)?;
     Ok(Options {
         paths,
-        paths_file: matches.get_str("from-file"),
+        paths_files: values(alloc, matches, "from-file")?,
+        bindings: values(alloc, matches, "let")?,
         files,
-        form,
-        layout: layout_of(is_given(matches, "pretty")),
+        shown,
+        header: is_given(matches, "header"),
+        layout: layout_of(is_indented(matches)),
+        indent: matches.get_one("indent"),
+        tab: is_given(matches, "tab"),
+        ascii: is_given(matches, "ascii"),
         end: end_of(is_given(matches, "null")),
         most: matches.get_one("max"),
+        most_of_all: matches.get_one("max-all"),
+        total: is_given(matches, "total"),
         unique: is_given(matches, "unique"),
         lines: is_given(matches, "lines"),
+        line_number: is_given(matches, "line-number"),
+        with_filename: is_given(matches, "with-filename"),
+        no_filename: is_given(matches, "no-filename"),
+        no_path_number: is_given(matches, "no-path-number"),
         strict: is_given(matches, "strict"),
         check: is_given(matches, "check"),
         whole_numbers: is_given(matches, "whole-numbers"),
@@ -412,35 +434,64 @@ fn options_of<'a>(
     })
 }
 
-/// The form that is asked for, by the rows of the table of forms that are. It fails where there are two.
-fn form_of(given: &[(&'static str, Form)]) -> Result<Form, Misuse>
-    ensures ok { IfOk result (λ form. (has_two (map form_of_row given.now) ≡ false)
-        × (form ≡ first_form (map form_of_row given.now))) }
+/// What is asked to be shown, by the rows of the table of forms that are given. It fails where there are two.
+fn form_of(given: &[(&'static str, Shown)]) -> Result<Shown, Misuse>
+    ensures ok { IfOk result (λ shown. (has_two (map form_of_row given.now) ≡ false)
+        × (shown ≡ first_form (map form_of_row given.now))) }
     ensures two { IfErr result (λ misuse. (has_two (map form_of_row given.now) ≡ true)
         × (kind_of_misuse misuse ≡ ErrorKind.ArgumentConflict)) }
 {
     match given {
-        [] => Ok(Form::LocationAndValue),
-        [(_, form)] => Ok(*form),
-        [(one, _), (other, _), ..] => Err(Misuse::TwoForms(one, other)),
+        [] => Ok(Shown::Nodes(Form::LocationAndValue)),
+        [(_, shown)] => Ok(*shown),
+        [(one, _), (other, _), ..] => Err(Misuse::Together(one, other)),
     }
 }
 
-/// How the options are used wrongly, each form apart.
-fn misuse_of(options: &Options<'_>) -> Option<Misuse>
-    ensures { option_map kind_of_misuse result
-        ≡ misuse_by (is_empty options.now.paths.items && not (is_some options.now.paths_file))
-        (options.now.check && not (is_empty options.now.files.items))
-        (options.now.strict && not options.now.lines) }
+/// Whether a table is shown.
+fn is_table(shown: Shown) -> bool
+    ensures { result ≡ is_table shown }
 {
-    if options.paths.is_empty() && options.paths_file.is_none() {
+    matches!(shown, Shown::Tsv | Shown::Csv)
+}
+
+/// A pair of options of the table that are both given, or of which the first is given alone.
+fn first_pair(
+    matches: &ArgMatches<'_>,
+    pairs: &[(&'static str, &'static str)],
+    both: bool,
+) -> Option<(&'static str, &'static str)>
+    ensures { is_some result ≡ list_any
+        (is_given_so both (rows_of (found_of matches.now))) (map pair_of_row pairs.now) }
+{
+    for pair in pairs {
+        if is_given(matches, pair.0) && is_given(matches, pair.1) == both {
+            return Some(*pair);
+        }
+    }
+    None
+}
+
+/// How the options are used wrongly, each form apart.
+fn misuse_of(matches: &ArgMatches<'_>, options: &Options<'_>) -> Option<Misuse>
+    requires { AreOptions (rows_of (found_of matches.now)) options.now.shown options.now }
+    ensures { option_map kind_of_misuse result ≡ misuse_by options.now.shown
+        (rows_of (found_of matches.now)) }
+{
+    if options.paths.is_empty() && options.paths_files.is_empty() {
         return Some(Misuse::NoPath);
     }
     if options.check && !options.files.is_empty() {
         return Some(Misuse::CheckOfFile);
     }
-    if options.strict && !options.lines {
-        return Some(Misuse::StrictWithoutLines);
+    if let Some((one, other)) = first_pair(matches, conflicts(), true) {
+        return Some(Misuse::Together(one, other));
+    }
+    if let Some((_, other)) = first_pair(matches, needs(), false) {
+        return Some(Misuse::Without(other));
+    }
+    if options.header && !is_table(options.shown) {
+        return Some(Misuse::Without("tsv"));
     }
     None
 }
@@ -468,7 +519,10 @@ fn reported<'a>(alloc: Global, error: &Error) -> Result<Request<'a>, AllocError>
         ErrorKind::DisplayHelp | ErrorKind::DisplayVersion => {
             Ok(Request::Print(format!(in alloc; "{error}")?))
         }
-        kind => Ok(Request::WrongUse(kind, format!(in alloc; "{error}")?)),
+        kind => {
+            let text = format!(in alloc; "{error}")?;
+            Ok(Request::WrongUse(kind, with_own_tip(alloc, text.as_str())?))
+        }
     }
 }
 
@@ -481,12 +535,12 @@ fn asked_of<'a>(
     ensures { IfOk result (IsRequestOf [] (rows_of (found_of matches.now))) }
 {
     let given = forms_given(alloc, matches, form_rows())?;
-    let form = match form_of(given.as_slice()) {
-        Ok(form) => form,
+    let shown = match form_of(given.as_slice()) {
+        Ok(shown) => shown,
         Err(misuse) => return refused(alloc, command, misuse),
     };
-    let options = options_of(alloc, matches, form)?;
-    match misuse_of(&options) {
+    let options = options_of(alloc, matches, shown)?;
+    match misuse_of(matches, &options) {
         None => Ok(Request::Run(options)),
         Some(misuse) => refused(alloc, command, misuse),
     }
@@ -510,34 +564,4 @@ pub fn read<'a, S: AsStr>(alloc: Global, words: &'a [S]) -> Result<Request<'a>, 
         Ok(matches) => asked_of(alloc, command, &matches),
         Err(error) => reported(alloc, &error),
     }
-}
-
-/// A line without the one carriage return at its end.
-fn without_return(line: &str) -> &str
-    ensures { result.now ≡ strip_carriage_return line.now }
-{
-    line.strip_suffix('\r').unwrap_or(line)
-}
-
-/// Whether a line is a path: it is neither empty nor a comment.
-fn is_path_line(line: &str) -> bool
-    ensures { result ≡ is_path_line line.now }
-{
-    !line.is_empty() && !line.starts_with('#')
-}
-
-/// The paths in a file's text, in order: its lines that are neither empty nor begin with `#`. A carriage return at the end
-/// of a line is not of the line. It fails where memory is refused.
-///
-/// ```text
-/// paths_in(alloc, "# books\n$.book\n\n$..price\n")
-/// gives $.book and $..price
-/// ```
-pub fn paths_in<'a>(alloc: Global, text: &'a str) -> Result<Vec<&'a str>, AllocError>
-    ensures { IfOk result (λ paths. texts paths.items ≡ paths_in_text text.now) }
-{
-    text.split('\n')
-        .map(without_return)
-        .filter(|line| is_path_line(line))
-        .collect(alloc)
 }

@@ -1,3 +1,1 @@
--- Lemmas; the folders have the proofs of functions.
--- Counts: whether a node is chosen, by how many are.
-pub mod Counts
+-- The folders have the proofs of functions.

@@ -1,144 +1,43 @@
-//! The documents, what is shown of each, and what is reported.
+//! The documents of the inputs, and what is told of those that are none.
 
-use crate::answers::push_answer;
-use crate::colours::push_colored;
+use crate::answering::Answering;
 use crate::encodings::{encoding_of, without_mark};
 use crate::inputs::Inputs;
-use crate::paths::AskedPath;
+use crate::source::{Source, shown_name};
 use crate::streams::{Stop, Streams};
 use jsonpath_document::{DocumentError, read_document};
-use jsonpath_lines::{Form, Output};
 use serde_json::Value;
-use serde_json_path::functions::CachedPatterns;
-use serde_json_path::{DocumentReader, QueryError};
-use std::alloc::{AllocError, Global};
+use serde_json_path::DocumentReader;
+use std::alloc::Global;
 use std::io;
 use std::io::{BufRead, BufReader, Read, Write};
 use std::mem::forget;
 
-/// What is asked of each document.
+/// How documents are read.
 #[derive(Drop)]
-pub(crate) struct Answering<'a> {
+pub(crate) struct Documents<'a> {
     pub(crate) alloc: Global,
-    pub(crate) paths: &'a [AskedPath],
-    pub(crate) functions: CachedPatterns<'a>,
+    /// What is asked of each.
+    pub(crate) answering: Answering<'a>,
     /// Reads of a document what the paths can reach. There is none for many paths, or if memory for it was refused.
     pub(crate) reader: Option<DocumentReader<'a>>,
-    pub(crate) output: Output,
-    /// Whether lines begin with the file's name.
-    pub(crate) names_files: bool,
     /// Whether each line of an input is a document.
     pub(crate) lines: bool,
     /// Whether there is one document alone. The run ends after it, so it is not freed piece by piece.
     pub(crate) is_only: bool,
     /// Whether a document that is refused ends the run.
     pub(crate) strict: bool,
-    /// Whether lines have colours.
-    pub(crate) colored: bool,
 }
 
 /// How many lines of an input that are no documents are told, each by itself.
 const TOLD_LINES: usize = 10;
 
-/// The name of an input, as messages and lines begin with it.
-fn shown_name(name: &str) -> &str {
-    if name == "-" { "standard input" } else { name }
+/// Whether a line is an opening bracket or brace alone, as indented documents begin.
+fn opens_alone(line: &[u8]) -> bool {
+    matches!(without_mark(line).trim_ascii(), b"[" | b"{")
 }
 
-impl Answering<'_> {
-    /// What each line of a path's answer begins with: the file's name if there are several, then the path's number if there
-    /// are several, and a tab after each.
-    fn head(&self, name: &str, number: usize) -> Result<String, AllocError> {
-        let mut head = String::new(self.alloc);
-        if self.names_files {
-            write!(head, "{}\t", shown_name(name))?;
-        }
-        if self.paths.len() > 1 {
-            write!(head, "{number}\t")?;
-        }
-        Ok(head)
-    }
-
-    /// The answer of a path, in colours where they are wanted, and whether a node was chosen.
-    fn answer_of(
-        &self,
-        path: &AskedPath,
-        head: &str,
-        document: &Value,
-    ) -> Result<(String, bool), QueryError> {
-        let mut plain = String::new(self.alloc);
-        let selected = push_answer(
-            self.alloc,
-            &self.output,
-            head,
-            &path.path,
-            &self.functions,
-            document,
-            &mut plain,
-        )?;
-        if !self.colored {
-            return Ok((plain, selected));
-        }
-        let mut text = String::new(self.alloc);
-        push_colored(
-            self.alloc,
-            &mut text,
-            plain.as_str(),
-            head,
-            self.output.form,
-        )?;
-        Ok((text, selected))
-    }
-
-    /// The answer of a path of which a pattern was refused, on the whole document, so that what is told is true of that.
-    fn answer_whole_of(
-        &self,
-        path: &AskedPath,
-        head: &str,
-        bytes: &[u8],
-    ) -> Result<(String, bool), QueryError> {
-        match read_document(self.alloc, bytes) {
-            Ok(document) => self.answer_of(path, head, &document),
-            Err(_) => Err(QueryError::Memory),
-        }
-    }
-
-    /// Answers a document, or what of it the paths can reach: writes what each path selects, and tells what is refused.
-    fn answer<W: Write, E: Write>(
-        &self,
-        name: &str,
-        bytes: &[u8],
-        document: &Value,
-        streams: &mut Streams<'_, W, E>,
-    ) -> Result<(), Stop> {
-        let mut answers = Vec::new(self.alloc);
-        for (index, path) in self.paths.iter().enumerate() {
-            let head = self.head(name, index.saturating_add(1))?;
-            let answer = match self.answer_of(path, head.as_str(), document) {
-                Err(QueryError::Pattern) => self.answer_whole_of(path, head.as_str(), bytes),
-                answer => answer,
-            };
-            match answer {
-                Ok((text, selected)) => {
-                    streams.outcome.selected = streams.outcome.selected || selected;
-                    answers.push(text)?;
-                }
-                Err(e) => {
-                    let name = shown_name(name);
-                    let message = format!(in self.alloc;
-                        "jpq: {name}: the query is refused: {e}\n"
-                    )?;
-                    streams.tell_refusal(message.as_str());
-                }
-            }
-        }
-        streams.write(answers.as_slice())?;
-        if self.output.form == Form::Nothing && streams.outcome.selected {
-            return Err(Stop::Found);
-        }
-        Ok(())
-    }
-
+impl Documents<'_> {
     /// The document of some bytes, or what of it the paths can reach.
     fn document(&self, bytes: &[u8]) -> Result<Value, DocumentError> {
         if let Some(reader) = &self.reader {
@@ -149,18 +48,16 @@ impl Answering<'_> {
         read_document(self.alloc, bytes)
     }
 
-    /// Answers the document of some bytes, or tells why they are none. `line` is the number of their first line in the input,
-    /// from 1.
+    /// Answers the document of some bytes, or tells why they are none.
     fn answer_bytes<W: Write, E: Write>(
         &self,
-        name: &str,
-        line: usize,
+        source: Source<'_>,
         bytes: &[u8],
         streams: &mut Streams<'_, W, E>,
     ) -> Result<(), Stop> {
         let e = match self.document(bytes) {
             Ok(document) => {
-                let answered = self.answer(name, bytes, &document, streams);
+                let answered = self.answering.answer(source, bytes, &document, streams);
                 if self.is_only {
                     forget(document);
                 }
@@ -168,14 +65,13 @@ impl Answering<'_> {
             }
             Err(e) => e,
         };
-        self.refuse_document(name, line, bytes, e, streams)
+        self.refuse_document(source, bytes, e, streams)
     }
 
     /// Tells why bytes are no document. Of an input's lines the first ten are told, and the rest are counted.
     fn refuse_document<W: Write, E: Write>(
         &self,
-        name: &str,
-        line: usize,
+        source: Source<'_>,
         bytes: &[u8],
         e: DocumentError,
         streams: &mut Streams<'_, W, E>,
@@ -183,8 +79,8 @@ impl Answering<'_> {
         streams.outcome.refused = true;
         streams.refused_documents = streams.refused_documents.saturating_add(1);
         if streams.refused_documents <= TOLD_LINES {
-            let name = shown_name(name);
-            let line = e.line.saturating_add(line.saturating_sub(1));
+            let name = shown_name(source.name);
+            let line = e.line.saturating_add(source.line.saturating_sub(1));
             let e = DocumentError { line, ..e };
             let message = match encoding_of(bytes) {
                 Some(encoding) => format!(in self.alloc; "jpq: {name}: {encoding}\n")?,
@@ -228,6 +124,22 @@ impl Answering<'_> {
         Ok(())
     }
 
+    /// Tells that an input is one document in many lines, where each line should be one.
+    fn refuse_many_lines<W: Write, E: Write>(
+        &self,
+        name: &str,
+        streams: &mut Streams<'_, W, E>,
+    ) -> Result<(), Stop> {
+        let name = shown_name(name);
+        streams.tell_refusal(format!(in self.alloc;
+            "jpq: {name}: line 1 is only the beginning of a document (is it one document? leave out -L)\n"
+        )?.as_str());
+        if self.strict {
+            return Err(Stop::Refused);
+        }
+        Ok(())
+    }
+
     /// Answers an input that is one document.
     fn answer_whole<I: Read + Drop, W: Write, E: Write>(
         &self,
@@ -237,7 +149,7 @@ impl Answering<'_> {
     ) -> Result<(), Stop> {
         let mut bytes = Vec::new(self.alloc);
         match input.read_to_end(&mut bytes) {
-            Ok(_) => self.answer_bytes(name, 1, without_mark(&bytes), streams),
+            Ok(_) => self.answer_bytes(Source { name, line: 1 }, without_mark(&bytes), streams),
             Err(e) => self.refuse_input(name, &e, streams),
         }
     }
@@ -245,8 +157,7 @@ impl Answering<'_> {
     /// Answers a line of an input, or passes over it if it is blank.
     fn answer_line<W: Write, E: Write>(
         &self,
-        name: &str,
-        number: usize,
+        source: Source<'_>,
         line: &[u8],
         streams: &mut Streams<'_, W, E>,
     ) -> Result<(), Stop> {
@@ -254,7 +165,7 @@ impl Answering<'_> {
             return Ok(());
         }
         let document = line.strip_suffix(b"\n").unwrap_or(line);
-        self.answer_bytes(name, number, without_mark(document), streams)
+        self.answer_bytes(source, without_mark(document), streams)
     }
 
     /// Answers an input of which each line is a document. One line is held at a time.
@@ -272,7 +183,10 @@ impl Answering<'_> {
             line.clear();
             match reader.read_until(b'\n', &mut line) {
                 Ok(0) => return self.tell_more_lines(name, streams),
-                Ok(_) => self.answer_line(name, number, &line, streams)?,
+                Ok(_) if number == 1 && opens_alone(&line) => {
+                    return self.refuse_many_lines(name, streams);
+                }
+                Ok(_) => self.answer_line(Source { name, line: number }, &line, streams)?,
                 Err(e) => return self.refuse_input(name, &e, streams),
             }
         }

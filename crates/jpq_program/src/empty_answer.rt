@@ -1,17 +1,29 @@
 //! Why an answer may be empty, as the path's tree shows.
 
-ghost use Rattle.std.specs.Prelude.{ℕ, ◌≤◌, length};
-ghost use Rattle.serde_json_path_syntax.specs.Words.{NamesBelow, nodes_in, parts_bound};
+ghost use Rattle.std.specs.Prelude.{ℕ, ◌<◌, ◌≤◌, length};
+ghost use Rattle.serde_json_path_syntax.specs.Words.{NamesBelow, nodes_in, number_of, parts_bound};
 
-use serde_json_path_syntax::{Basic, Checked, Node, Operand, Part, Segment, Selector};
+use serde_json_path_syntax::{
+    Basic, Checked, Node, Operand, Part, QueryKind, Segment, SegmentKind, Selector,
+};
 use std::slice;
 
-/// A segment that is often meant otherwise.
+/// A part of a path that is often meant otherwise.
 enum Slip {
     /// This name after a dot.
     Dotted(&'static str),
     /// This name alone in brackets.
     Quoted(&'static str),
+    /// A name alone in brackets that has a dot in it.
+    QuotedDot,
+    /// A slice whose step is 0.
+    StepZero,
+    /// A query from the root that is compared with a literal, the same for all children.
+    RootCompared,
+    /// A call of `match` or `search` whose arguments are the other way round.
+    Swapped,
+    /// A call of `match`.
+    Match,
 }
 
 /// What a path has, and what that means where nothing is selected.
@@ -32,30 +44,86 @@ const REASONS: &[(Slip, &str)] = &[
         Slip::Quoted("*"),
         "'*' in quotes is a member's name; without quotes it is every child",
     ),
+    (
+        Slip::QuotedDot,
+        "a name in quotes is one member's, with its dots; $.a.b goes down by two",
+    ),
+    (Slip::StepZero, "a slice with step 0 selects nothing"),
+    (
+        Slip::RootCompared,
+        "'$' in a filter is the whole document, the same for each child; '@' is the child",
+    ),
+    (
+        Slip::Swapped,
+        "the text comes first, then the pattern: match(@.a, 'b.*')",
+    ),
+    (
+        Slip::Match,
+        "match(@.a, 'b') wants the whole text to fit the pattern; search(@.a, 'b') a part of it",
+    ),
 ];
 
+/// The name of a segment that has this name alone in brackets.
+fn quoted_name<'t>(tree: &'t Checked, segment: &Segment) -> Option<&'t str>
+    requires { (kind : SegmentKind)
+        → NamesBelow (length (nodes_in tree.now)) (Node.Segment kind segment.now) }
+{
+    let Segment::LongHand(selectors) = segment else {
+        return None;
+    };
+    match selectors.as_slice() {
+        [selector] => match tree.node(*selector) {
+            Node::Selector(Selector::Name(own)) => Some(own.as_str()),
+            _ => None,
+        },
+        _ => None,
+    }
+}
+
 impl Slip {
-    /// Whether a node of a tree is this segment.
+    /// Whether a node of a tree is this part.
     fn is_at(&self, tree: &Checked, node: &Node) -> bool
         requires { NamesBelow (length (nodes_in tree.now)) node.now }
     {
-        let Node::Segment { segment, .. } = node else {
-            return false;
-        };
-        match (self, segment) {
-            (Slip::Dotted(name), Segment::DotName(own)) => own.as_str() == *name,
-            (Slip::Quoted(name), Segment::LongHand(selectors)) => match selectors.as_slice() {
-                [selector] => match tree.node(*selector) {
-                    Node::Selector(Selector::Name(own)) => own.as_str() == *name,
-                    _ => false,
+        match (self, node) {
+            (
+                Slip::Dotted(name),
+                Node::Segment {
+                    segment: Segment::DotName(own),
+                    ..
                 },
-                _ => false,
-            },
+            ) => { own.as_str() == *name }
+            (Slip::Quoted(name), Node::Segment { segment, .. }) => {
+                quoted_name(tree, segment).is_some_and(|own| own == *name)
+            }
+            (Slip::QuotedDot, Node::Segment { segment, .. }) => {
+                quoted_name(tree, segment).is_some_and(|own| own.contains('.'))
+            }
+            (Slip::StepZero, Node::Selector(Selector::Slice(slice))) => slice.step == Some(0),
+            (Slip::RootCompared, Node::Basic(Basic::Relation { left, right, .. })) => {
+                is_root(tree, *left) && is_literal(tree.node(*right))
+            }
+            (
+                Slip::Swapped,
+                Node::Call {
+                    name,
+                    arguments,
+                    ..
+                },
+            ) => {
+                let [text, pattern] = arguments.as_slice() else {
+                    return false;
+                };
+                takes_pattern(name.as_str())
+                    && is_literal(tree.node(*text))
+                    && matches!(tree.node(*pattern), Node::Operand(Operand::Query(_)))
+            }
+            (Slip::Match, Node::Call { name, .. }) => name.as_str() == "match",
             _ => false,
         }
     }
 
-    /// Whether this segment is one of some parts of a tree, or below them.
+    /// Whether this part is one of some parts of a tree, or below them.
     #[tactic(auto, using(serde_json_path_syntax::proofs::Tree::NamedParts::within_get))]
     fn is_below(&self, tree: &Checked, parts: &[Part]) -> bool
         requires { parts_bound parts.now ≤ length (nodes_in tree.now) }
@@ -71,8 +139,34 @@ impl Slip {
     }
 }
 
+/// Whether a function's second argument is a pattern.
+pub(crate) fn takes_pattern(name: &str) -> bool {
+    name == "match" || name == "search"
+}
+
+/// Whether a node is a literal.
+fn is_literal(node: &Node) -> bool {
+    matches!(node, Node::Operand(Operand::Literal(_)))
+}
+
+/// Whether a part of a tree is an operand that is a query from the root.
+fn is_root(tree: &Checked, part: Part) -> bool
+    requires { number_of part < length (nodes_in tree.now) }
+{
+    let Node::Operand(Operand::Query(query)) = tree.node(part) else {
+        return false;
+    };
+    matches!(
+        tree.node(*query),
+        Node::Query {
+            kind: QueryKind::Root,
+            ..
+        }
+    )
+}
+
 /// The parts that a node names, those of the right side of a comparison by themselves.
-fn parts_below(node: &Node) -> (&[Part], &[Part])
+pub(crate) fn parts_below(node: &Node) -> (&[Part], &[Part])
     ensures first { (n : ℕ) → NamesBelow n node.now → parts_bound result.0.now ≤ n }
     ensures second { (n : ℕ) → NamesBelow n node.now → parts_bound result.1.now ≤ n }
 {

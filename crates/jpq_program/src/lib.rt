@@ -5,7 +5,9 @@
 //! that a test may hand in its own.
 #![tactic(auto)]
 
+mod answering;
 pub mod answers;
+mod bindings;
 mod caret;
 pub mod colours;
 mod documents;
@@ -13,7 +15,11 @@ mod empty_answer;
 mod encodings;
 pub mod inputs;
 mod paths;
+mod patterns;
 mod refusal;
+mod rows;
 pub mod run;
+mod showing;
+mod source;
 mod streams;
 mod tokens;

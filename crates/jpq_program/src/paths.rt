@@ -3,80 +3,127 @@
 ghost use Rattle.serde_json_path.specs.Paths.{path_signatures};
 ghost use Rattle.serde_json_path.specs.Fitting.{FitsBuiltin, FitsBuiltin-prop};
 
+use crate::bindings::{Binding, bindings_of, with_values};
 use crate::inputs::Inputs;
 use crate::refusal::push_refusal;
 use crate::streams::{Stop, Streams};
-use jpq_options::options::{Options, paths_in};
+use jpq_options::options::Options;
+use jpq_options::paths::path_lines;
 use serde_json_path::{JsonPath, Numbers, ParseErrorKind};
 use serde_json_path_hints::hint;
-use std::alloc::{AllocError, Global};
+use std::alloc::Global;
 use std::io::{Read, Write};
 
 /// A path that fits the built-in functions.
 #[derive(Drop)]
 pub(crate) struct AskedPath {
     pub(crate) path: JsonPath,
+    /// The text that it was read from.
+    pub(crate) text: String,
+    /// What messages call it, unless it is the only one.
+    pub(crate) name: Option<String>,
     ghost fits: { FitsBuiltin (path_signatures path) } by { FitsBuiltin-prop (path_signatures path) },
 }
 
 /// How paths are read.
-#[derive(Clone, Copy, Drop)]
-struct PathReading {
+#[derive(Drop)]
+struct PathReading<'a> {
     alloc: Global,
-    /// Whether there are several paths, so that messages give its number.
-    several: bool,
+    /// What stands for names in paths.
+    bindings: Vec<Binding<'a>>,
+    /// The numbers of those that some path has.
+    used: Vec<usize>,
     /// Whether a refusal has a hint.
     hints: bool,
     /// The rule for numbers, by which paths are read and compare.
     numbers: Numbers,
 }
 
-impl PathReading {
-    /// What a path is called where it is refused: `the path`, or its number among several.
-    fn name(self, number: usize) -> Result<String, AllocError> {
-        if self.several {
-            format!(in self.alloc; "path {number}")
-        } else {
-            String::from_str(self.alloc, "the path")
+impl PathReading<'_> {
+    /// A path with values for the names that it has.
+    fn with_values(&mut self, path: JsonPath) -> Result<JsonPath, ParseErrorKind> {
+        if self.bindings.is_empty() {
+            return Ok(path);
         }
+        let Ok(text) = path.to_text(self.alloc) else {
+            return Err(ParseErrorKind::NoMemory);
+        };
+        let Ok(text) = with_values(self.alloc, text.as_str(), &self.bindings, &mut self.used) else {
+            return Err(ParseErrorKind::NoMemory);
+        };
+        JsonPath::parse_by(self.alloc, text.as_str(), self.numbers).map_err(|e| e.kind())
     }
 
     /// Parses a path, or tells why it is none.
     fn parse<W: Write, E: Write>(
-        self,
+        &mut self,
         text: &str,
-        number: usize,
+        name: Option<String>,
         streams: &mut Streams<'_, W, E>,
     ) -> Result<Option<AskedPath>, Stop> {
         let e = match JsonPath::parse_by(self.alloc, text, self.numbers) {
-            Ok(path) => return Ok(Some(AskedPath { path })),
+            Ok(path) => {
+                let Ok(path) = self.with_values(path) else {
+                    return Err(Stop::Memory);
+                };
+                let text = String::from_str(self.alloc, text)?;
+                return Ok(Some(AskedPath { path, text, name }));
+            }
             Err(e) => e,
         };
         if e.kind() == ParseErrorKind::NoMemory {
             return Err(Stop::Memory);
         }
         let mut message = String::new(self.alloc);
-        let name = self.name(number)?;
+        let name = match &name {
+            Some(name) => name.as_str(),
+            None => "the path",
+        };
         let hint = if self.hints {
             hint(text, &e, self.numbers)
         } else {
             None
         };
-        push_refusal(&mut message, name.as_str(), text, &e, self.numbers, hint)?;
+        push_refusal(&mut message, name, text, &e, self.numbers, hint)?;
         streams.tell_refusal(message.as_str());
         Ok(None)
     }
 
-    /// Parses the paths of some texts, in order, of which the first has a number. Tells of each text that is no path.
-    fn parse_all<W: Write, E: Write>(
-        self,
+    /// Parses the paths of words. Tells of each that is no path. Of several each is called by its number.
+    fn parse_words<W: Write, E: Write>(
+        &mut self,
         texts: &[&str],
-        first: usize,
+        several: bool,
         paths: &mut Vec<AskedPath>,
         streams: &mut Streams<'_, W, E>,
     ) -> Result<(), Stop> {
         for (index, text) in texts.iter().enumerate() {
-            if let Some(path) = self.parse(*text, first.saturating_add(index), streams)? {
+            let name = if several {
+                Some(format!(in self.alloc; "path {}", index.saturating_add(1))?)
+            } else {
+                None
+            };
+            if let Some(path) = self.parse(*text, name, streams)? {
+                paths.push(path)?;
+            }
+        }
+        Ok(())
+    }
+
+    /// Parses the paths of a file's text. Each is called by the file's name and its line.
+    fn parse_file<W: Write, E: Write>(
+        &mut self,
+        file: &str,
+        text: &str,
+        paths: &mut Vec<AskedPath>,
+        streams: &mut Streams<'_, W, E>,
+    ) -> Result<(), Stop> {
+        for (index, text) in path_lines(self.alloc, text)?.iter().enumerate() {
+            if text.is_empty() {
+                continue;
+            }
+            let name = format!(in self.alloc; "{file}:{}", index.saturating_add(1))?;
+            if let Some(path) = self.parse(*text, Some(name), streams)? {
                 paths.push(path)?;
             }
         }
@@ -84,17 +131,30 @@ impl PathReading {
     }
 }
 
-/// The text of a file of paths; empty where there is no such file.
+impl PathReading<'_> {
+    /// Tells of the first binding whose name no path has.
+    fn tell_unused<W: Write, E: Write>(&self, streams: &mut Streams<'_, W, E>) -> Result<(), Stop> {
+        for (number, binding) in self.bindings.iter().enumerate() {
+            if !self.used.contains(&number) {
+                let name = binding.name;
+                streams.tell(format!(in self.alloc;
+                    "jpq: --let {name}: no path has the text '${name}' in a filter\n"
+                )?.as_str());
+                return Err(Stop::WrongUse);
+            }
+        }
+        Ok(())
+    }
+}
+
+/// The text of a file of paths.
 fn paths_text<I: Inputs, W: Write, E: Write>(
     alloc: Global,
-    name: Option<&str>,
+    name: &str,
     inputs: &mut I,
     streams: &mut Streams<'_, W, E>,
 ) -> Result<String, Stop> {
     let mut text = String::new(alloc);
-    let Some(name) = name else {
-        return Ok(text);
-    };
     let read = match inputs.open(name) {
         Ok(mut input) => input.read_to_string(&mut text),
         Err(e) => Err(e),
@@ -141,26 +201,40 @@ fn numbers_of(options: &Options<'_>) -> Numbers {
     }
 }
 
-/// The paths that are asked for: those of the words, then those of the file.
+/// The paths that are asked for: those of the words, then those of the files.
 pub(crate) fn asked_paths<I: Inputs, W: Write, E: Write>(
     alloc: Global,
     options: &Options<'_>,
     inputs: &mut I,
     streams: &mut Streams<'_, W, E>,
 ) -> Result<Vec<AskedPath>, Stop> {
-    let text = paths_text(alloc, options.paths_file, inputs, streams)?;
-    let lines = paths_in(alloc, text.as_str())?;
-    let in_words = options.paths.len();
-    let reading = PathReading {
+    let bindings = match bindings_of(alloc, &options.bindings)? {
+        Ok(bindings) => bindings,
+        Err(word) => {
+            let message = format!(in alloc;
+                "jpq: --let {word}: a name, '=' and a value are wanted\n"
+            )?;
+            streams.tell(message.as_str());
+            return Err(Stop::WrongUse);
+        }
+    };
+    let mut reading = PathReading {
         alloc,
-        several: in_words.saturating_add(lines.len()) > 1,
+        bindings,
+        used: Vec::new(alloc),
         hints: !options.silent,
         numbers: numbers_of(options),
     };
+    let several = options.paths.len() > 1 || !options.paths_files.is_empty();
     let mut paths = Vec::new(alloc);
-    reading.parse_all(&options.paths, 1, &mut paths, streams)?;
-    reading.parse_all(&lines, in_words.saturating_add(1), &mut paths, streams)?;
+    reading.parse_words(&options.paths, several, &mut paths, streams)?;
+    for file in &options.paths_files {
+        let text = paths_text(alloc, *file, inputs, streams)?;
+        let lines = text.strip_prefix('\u{feff}').unwrap_or(text.as_str());
+        reading.parse_file(*file, lines, &mut paths, streams)?;
+    }
     if !streams.outcome.refused {
+        reading.tell_unused(streams)?;
         return Ok(paths);
     }
     if reading.hints {

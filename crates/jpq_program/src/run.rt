@@ -1,36 +1,57 @@
 //! The program over its inputs and two writers.
 
-ghost use Rattle.std.specs.Prelude.{◌≡◌, ◌≤◌, ◌⊎◌, Err, map, string_bytes};
+ghost use Rattle.std.specs.Prelude.{◌≡◌, ◌≤◌, ◌⊎◌, Err, map, string_bytes, true};
 ghost use Rattle.jpq_options.specs.Options.{AsksFor};
 ghost use Rattle.jpq_options.specs.declared.options.Request as input;
 ghost use Rattle.jpq_program.specs.Query.{IsStatusOf};
 
-use crate::documents::Answering;
+use crate::answering::Answering;
+use crate::documents::Documents;
 use crate::empty_answer::reason_of;
 use crate::inputs::Inputs;
 use crate::paths::{AskedPath, asked_paths};
+use crate::patterns::no_pattern;
+use crate::showing::Showing;
+use crate::source::Heads;
 use crate::streams::{OUTPUT_FAILED, REFUSED, SELECTED, Stop, Streams, WRONG_USE};
-use jpq_options::options::{Color, Options, Request, read};
+use jpq_options::options::{Color, Options, Request, Shown, read};
 use jsonpath_lines::{Form, Output};
+use serde_json::Value;
 use serde_json_path::DocumentReader;
 use serde_json_path::functions::{CachedPatterns, PatternStore};
 use serde_json_path_syntax::Checked;
-use std::alloc::Global;
+use std::alloc::{AllocError, Global};
 use std::io::Write;
-use std::slice;
 
 /// Writes each path in its canonical form.
 fn check<W: Write, E: Write>(
+    paths: &[AskedPath],
+    streams: &mut Streams<'_, W, E>,
+) -> Result<(), Stop> {
+    for path in paths {
+        write!(streams.pending, "{}\n", path.path)?;
+    }
+    streams.outcome.selected = true;
+    streams.write()
+}
+
+/// Tells of the first pattern in paths that is none.
+fn hint_at_patterns<W: Write, E: Write>(
     alloc: Global,
     paths: &[AskedPath],
     streams: &mut Streams<'_, W, E>,
 ) -> Result<(), Stop> {
-    let mut text = String::new(alloc);
     for path in paths {
-        write!(text, "{}\n", path.path)?;
+        let tree = path.path.tree();
+        if let Some(pattern) = no_pattern(alloc, tree, tree.segments())? {
+            let pattern = Value::String(String::from_str(alloc, pattern)?);
+            streams.tell(format!(in alloc;
+                "jpq: no pattern, so nothing fits it: {pattern}\n"
+            )?.as_str());
+            return Ok(());
+        }
     }
-    streams.outcome.selected = true;
-    streams.write(slice::from_ref(&text))
+    Ok(())
 }
 
 /// Tells why nothing may have been selected, where a path shows it.
@@ -48,14 +69,44 @@ fn hint_at_nothing<W: Write, E: Write>(
     Ok(())
 }
 
-/// What is shown, and how, as the options say.
+/// What is shown of nodes, as the options say. In a table it is their texts.
 fn output_of(options: &Options<'_>) -> Output {
     Output {
-        form: options.form,
+        form: match options.shown {
+            Shown::Nodes(form) => form,
+            Shown::Tsv | Shown::Csv => Form::Raw,
+        },
         layout: options.layout,
         end: options.end,
         unique: options.unique,
         most: options.most,
+    }
+}
+
+/// What a level is indented by, where the options say another than two spaces.
+fn indent_of(alloc: Global, options: &Options<'_>) -> Result<Option<String>, AllocError> {
+    if options.tab {
+        return Ok(Some(String::from_str(alloc, "\t")?));
+    }
+    let Some(count) = options.indent else {
+        return Ok(None);
+    };
+    let mut unit = String::new(alloc);
+    for _ in 0..count {
+        unit.push(' ')?;
+    }
+    Ok(Some(unit))
+}
+
+/// What is written of where a node comes from, as the options say. A row has no more than they name.
+fn heads_of(options: &Options<'_>, paths: usize) -> Heads {
+    let is_json = options.shown == Shown::Nodes(Form::Json);
+    let is_table = matches!(options.shown, Shown::Tsv | Shown::Csv);
+    let several_files = options.files.len() > 1 && !options.no_filename && !is_table;
+    Heads {
+        file: options.with_filename || several_files,
+        line: options.line_number || (is_json && options.lines),
+        number: paths > 1 && !options.no_path_number && !is_table,
     }
 }
 
@@ -85,8 +136,29 @@ fn reader_for<'q>(alloc: Global, trees: &[&'q Checked], form: Form) -> Option<Do
     }
 }
 
-/// Answers all documents.
+/// Answers all documents of the inputs, after the first row of a table and before the sum of all counts.
 fn answer_documents<I: Inputs, W: Write, E: Write>(
+    documents: &Documents<'_>,
+    options: &Options<'_>,
+    inputs: &mut I,
+    streams: &mut Streams<'_, W, E>,
+) -> Result<(), Stop> {
+    if options.header {
+        documents.answering.write_header(streams)?;
+    }
+    let answered = if options.files.is_empty() {
+        documents.answer_all(&["-"], inputs, streams)
+    } else {
+        documents.answer_all(&options.files, inputs, streams)
+    };
+    match answered {
+        Ok(()) | Err(Stop::Enough) if options.total => documents.answering.write_total(streams),
+        answered => answered,
+    }
+}
+
+/// Answers the documents for some paths, as the options say.
+fn answer_paths<I: Inputs, W: Write, E: Write>(
     alloc: Global,
     options: &Options<'_>,
     colored: bool,
@@ -99,22 +171,32 @@ fn answer_documents<I: Inputs, W: Write, E: Write>(
     for path in paths {
         trees.push(path.path.tree())?;
     }
-    let answering = Answering {
+    let output = output_of(options);
+    let documents = Documents {
         alloc,
-        paths,
-        functions: CachedPatterns::new(alloc, &store),
-        reader: reader_for(alloc, trees.as_slice(), options.form),
-        output: output_of(options),
-        names_files: options.files.len() > 1,
+        answering: Answering {
+            alloc,
+            paths,
+            functions: CachedPatterns::new(alloc, &store),
+            shown: options.shown,
+            showing: Showing {
+                alloc,
+                output,
+                indent: indent_of(alloc, options)?,
+                ascii: options.ascii,
+                colored,
+            },
+            heads: heads_of(options, paths.len()),
+            total: options.total,
+            silent: options.silent,
+        },
+        reader: reader_for(alloc, trees.as_slice(), output.form),
         lines: options.lines,
         is_only: options.files.len() <= 1 && !options.lines,
         strict: options.strict,
-        colored,
     };
-    if options.files.is_empty() {
-        return answering.answer_all(&["-"], inputs, streams);
-    }
-    answering.answer_all(&options.files, inputs, streams)
+    streams.left = options.most_of_all;
+    answer_documents(&documents, options, inputs, streams)
 }
 
 /// Runs with options: reads the paths, then checks them or answers the documents.
@@ -126,25 +208,34 @@ fn run_with<I: Inputs, W: Write, E: Write>(
     streams: &mut Streams<'_, W, E>,
 ) -> Result<(), Stop> {
     let paths = asked_paths(alloc, options, inputs, streams)?;
-    if options.check {
-        return check(alloc, &paths, streams);
+    if !options.silent {
+        hint_at_patterns(alloc, &paths, streams)?;
     }
-    answer_documents(alloc, options, colored, &paths, inputs, streams)?;
+    if options.check {
+        return check(&paths, streams);
+    }
+    answer_paths(alloc, options, colored, &paths, inputs, streams)?;
     if streams.outcome.selected || streams.outcome.refused || options.silent {
         return Ok(());
     }
     hint_at_nothing(alloc, &paths, streams)
 }
 
-/// The exit status of a run that ended so; tells what ended it.
-fn exit_status<W: Write, E: Write>(ended: Result<(), Stop>, streams: &mut Streams<'_, W, E>) -> u8
-    ensures few { result ≤ 3 }
+/// The exit status of a run that ended so; tells what ended it. `binds` says whether values are bound to names, which alone may turn
+/// out to be wrong use once paths are read.
+fn exit_status<W: Write, E: Write>(
+    ended: Result<(), Stop>,
+    binds: bool,
+    streams: &mut Streams<'_, W, E>,
+) -> u8
+    ensures few { (result ≤ 3) ⊎ ((result ≡ 64) × (binds ≡ true)) }
     ensures memory { ended ≡ Err Stop.Memory → result ≡ 2 }
 {
     match ended {
-        Ok(()) | Err(Stop::ReaderGone) => streams.outcome.status(),
+        Ok(()) | Err(Stop::ReaderGone | Stop::Enough) => streams.outcome.status(),
         Err(Stop::Found) => SELECTED,
-        Err(Stop::Refused) => REFUSED,
+        Err(Stop::WrongUse) if binds => WRONG_USE,
+        Err(Stop::Refused | Stop::WrongUse) => REFUSED,
         Err(Stop::Memory) => {
             streams.tell("jpq: no memory\n");
             REFUSED
@@ -167,7 +258,8 @@ fn exit_status<W: Write, E: Write>(ended: Result<(), Stop>, streams: &mut Stream
 /// | 3 | the output failed |
 /// | 64 | the words were used wrongly |
 ///
-/// Lines of a document are written when all of them are made. A reader that goes away ends the run without a message.
+/// Lines are written as they are found, in pieces of some 64 kB, and at the end of each document. A reader that goes away ends the
+/// run without a message.
 pub fn run<I: Inputs, W: Write, E: Write>(
     alloc: Global,
     words: &[String],
@@ -180,21 +272,23 @@ pub fn run<I: Inputs, W: Write, E: Write>(
     ensures status { ((asked : input.Request) × AsksFor (map string_bytes words.now) asked
         × IsStatusOf asked result) ⊎ (result ≡ 2) }
 {
-    let mut streams = Streams::new(out, err);
-    let ended = match read(alloc, words) {
+    let mut streams = Streams::new(alloc, out, err);
+    match read(alloc, words) {
         Ok(Request::Run(options)) => {
             let colored = is_colored(&options, terminal);
-            run_with(alloc, &options, colored, inputs, &mut streams)
+            let ended = run_with(alloc, &options, colored, inputs, &mut streams);
+            exit_status(ended, !options.bindings.is_empty(), &mut streams)
         }
         Ok(Request::Print(text)) => {
             streams.outcome.selected = true;
-            streams.write(slice::from_ref(&text))
+            streams.pending = text;
+            let ended = streams.write();
+            exit_status(ended, false, &mut streams)
         }
         Ok(Request::WrongUse(_, text)) => {
             streams.tell(text.as_str());
-            return WRONG_USE;
+            WRONG_USE
         }
-        Err(_) => Err(Stop::Memory),
-    };
-    exit_status(ended, &mut streams)
+        Err(_) => exit_status(Err(Stop::Memory), false, &mut streams),
+    }
 }

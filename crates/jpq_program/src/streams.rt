@@ -2,7 +2,7 @@
 
 ghost use Rattle.std.specs.Prelude.{◌≤◌};
 
-use std::alloc::{AllocError, AllocFailed};
+use std::alloc::{AllocError, AllocFailed, Global};
 use std::io;
 use std::io::Write;
 
@@ -48,8 +48,12 @@ pub(crate) enum Stop {
     ReaderGone,
     /// What can't be done without was refused, and that was reported.
     Refused,
+    /// The words were used wrongly, and that was reported.
+    WrongUse,
     /// Something was selected, and nothing is shown.
     Found,
+    /// As many nodes were shown as are wanted of all documents.
+    Enough,
     /// Memory was refused.
     Memory,
 }
@@ -76,49 +80,73 @@ impl<T: Drop> From<AllocFailed<T>> for Stop {
     }
 }
 
+/// Why a run ends where writing fails so.
+fn stop_of(e: io::Error) -> Stop {
+    if e.kind() == io::ErrorKind::BrokenPipe {
+        Stop::ReaderGone
+    } else {
+        Stop::OutputFailed
+    }
+}
+
+/// How many bytes are held, at least, before they are written.
+const FULL: usize = 65_536;
+
 /// Where lines are written and faults are reported, and what became of the documents.
 #[derive(Drop)]
 pub(crate) struct Streams<'a, W, E> {
-    pub(crate) out: &'a mut W,
-    pub(crate) err: &'a mut E,
+    out: &'a mut W,
+    err: &'a mut E,
+    /// What is to be written.
+    pub(crate) pending: String,
     pub(crate) outcome: Outcome,
     /// How many documents of the input at hand were refused.
     pub(crate) refused_documents: usize,
+    /// How many nodes of all documents may still be shown; any number where it is `None`.
+    pub(crate) left: Option<u64>,
+    /// How many nodes were counted.
+    pub(crate) total: u64,
+    /// Whether it was told that of several nodes of a path a table has the first.
+    pub(crate) told_several: bool,
 }
 
 impl<'a, W: Write, E: Write> Streams<'a, W, E> {
     /// Before any document.
-    pub(crate) fn new(out: &'a mut W, err: &'a mut E) -> Streams<'a, W, E> {
-        let outcome = Outcome {
-            selected: false,
-            refused: false,
-        };
+    pub(crate) fn new(alloc: Global, out: &'a mut W, err: &'a mut E) -> Streams<'a, W, E> {
         Streams {
             out,
             err,
-            outcome,
+            pending: String::new(alloc),
+            outcome: Outcome {
+                selected: false,
+                refused: false,
+            },
             refused_documents: 0,
+            left: None,
+            total: 0,
+            told_several: false,
         }
     }
 
-    /// Writes texts, one after the other, and flushes them.
-    fn put(&mut self, texts: &[String]) -> io::Result<()> {
-        for text in texts {
-            self.out.write_all(text.as_bytes())?;
-        }
-        self.out.flush()
+    /// Writes what is pending.
+    fn put(&mut self) -> io::Result<()> {
+        self.out.write_all(self.pending.as_bytes())?;
+        self.pending.clear();
+        Ok(())
     }
 
-    /// Writes texts and flushes them, so that a pipe sees them at once.
-    pub(crate) fn write(&mut self, texts: &[String]) -> Result<(), Stop> {
-        if texts.iter().all(|text| text.is_empty()) {
+    /// Writes what is pending if that is much, so that the texts of many nodes are not held at once.
+    pub(crate) fn write_if_full(&mut self) -> Result<(), Stop> {
+        if self.pending.len() < FULL {
             return Ok(());
         }
-        match self.put(texts) {
-            Ok(()) => Ok(()),
-            Err(e) if e.kind() == io::ErrorKind::BrokenPipe => Err(Stop::ReaderGone),
-            Err(_) => Err(Stop::OutputFailed),
-        }
+        self.put().map_err(stop_of)
+    }
+
+    /// Writes what is pending and flushes it, so that a pipe sees it at once.
+    pub(crate) fn write(&mut self) -> Result<(), Stop> {
+        self.put().map_err(stop_of)?;
+        self.out.flush().map_err(stop_of)
     }
 
     /// Writes a message on standard error, as far as it can be written.

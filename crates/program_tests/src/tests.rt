@@ -16,3 +16,4 @@ mod refusals;
 mod refused_memory;
 mod reported_documents;
 mod reports;
+mod streamed;

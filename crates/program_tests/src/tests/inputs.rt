@@ -20,6 +20,8 @@ const FILES: &[(&str, &str)] = &[
     ("two.json", r#"{"a":2}"#),
     ("bad.json", "{\"a\":1,}"),
     ("paths", "# paths of a file\n$.a\n\n$.b\r\n"),
+    ("more", "$.*"),
+    ("wrong", "$.a\n$.\n"),
 ];
 
 /// Files that are not UTF-8.

@@ -1,28 +1,32 @@
-//! The paths in a file's text.
+//! The paths in the lines of a file.
 
-use jpq_options::options::paths_in;
+use jpq_options::paths::path_lines;
 use std::alloc::Global;
 use std::test::Fail;
 use test_rows::{Came, hold_rows};
 
-/// A file's text, and the paths in it, each in angle brackets.
+/// A file's text, and the path in each of its lines, in angle brackets.
 const PATHS: &[&str] = &[
-    " -> ",
-    "\n -> ",
+    " -> <>",
+    "\n -> <><>",
     "$.a -> <$.a>",
-    "$.a\n -> <$.a>",
+    "$.a\n -> <$.a><>",
     "$.a\n$.b -> <$.a><$.b>",
-    "# books\n$.a\n\n#\n$.b\n\n -> <$.a><$.b>",
-    "$.a\r\n\r\n# none\r\n$.b\r -> <$.a><$.b>",
-    "$.a\r\r\n -> <$.a\r>",
-    "$.a # b\n #c -> <$.a # b>< #c>",
-    "$['\u{e9}#']\n -> <$['\u{e9}#']>",
+    "# books\n$.a\n\n#\n$.b -> <><$.a><><><$.b>",
+    "$.a\r\n\r\n# none\r\n$.b\r -> <$.a><><><$.b>",
+    "$.a\r\r\n -> <$.a><>",
+    "\t $.a  \n \n -> <$.a><><>",
+    "$.a # b\n #c -> <$.a><>",
+    "$.a\t#b\n$.a#b -> <$.a><$.a#b>",
+    "$['\u{e9} #'] # '\n$[\" #\"]#\n -> <$['\u{e9} #']><$[\" #\"]#><>",
+    r#"$['\' #'] # x -> <$['\' #']>"#,
+    r#"$["' #"] # x -> <$["' #"]>"#,
 ];
 
-/// The paths in a text.
+/// The paths in the lines of a text.
 fn found(alloc: Global, given: &str) -> Came {
     let mut text = String::new(alloc);
-    for path in &paths_in(alloc, given)? {
+    for path in &path_lines(alloc, given)? {
         write!(&mut text, "<{path}>")?;
     }
     Ok(text)

@@ -3,7 +3,8 @@
 
 use crate::tests::inputs::run_line;
 use crate::tests::options::{of_asked, words_of};
-use jpq_options::options::{command, paths_in, read};
+use jpq_options::options::{command, read};
+use jpq_options::paths::path_lines;
 use jsonpath_document::{DocumentFault, read_document};
 use std::alloc::Global;
 use std::test::Fail;
@@ -45,7 +46,7 @@ const PATHS: &[&str] = &["$.a\n# none\n$.b\n -> $.a$.b"];
 
 #[test]
 fn paths_in_a_file(rt: HostRuntime) -> Result<(), Fail> {
-    hold_answers(&rt, PATHS, |alloc, given| match paths_in(alloc, given) {
+    hold_answers(&rt, PATHS, |alloc, given| match path_lines(alloc, given) {
         Ok(paths) => Ok(Some(paths.as_slice().concat(alloc)?)),
         Err(_) => Ok(None),
     })

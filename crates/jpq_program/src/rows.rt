@@ -1,0 +1,120 @@
+//! Tables: a row for each document, with a cell for each path.
+
+use csv::{Terminator, WriterBuilder};
+use jsonpath_lines::{Form, LineEnd, Output, push_line};
+use serde_json_path::{LocatedNode, QueryError, Sink, Taken};
+use std::alloc::{AllocError, Global};
+use std::str::from_utf8;
+
+/// What stands between the cells of a row.
+#[derive(Clone, Copy, Debug, PartialEq, Eq)]
+pub(crate) enum Separator {
+    /// A tab. Tabs, line feeds, carriage returns and backslashes in a cell are escaped by a backslash.
+    Tab,
+    /// A comma. Cells with commas, quotes or line ends are quoted (RFC 4180).
+    Comma,
+}
+
+/// The first node of a walk, as the text of a cell, and whether there are more.
+#[derive(Drop)]
+pub(crate) struct FirstNode {
+    pub(crate) alloc: Global,
+    pub(crate) cell: Option<String>,
+    pub(crate) has_more: bool,
+}
+
+/// A node's text in a cell: of a string its own text, of any other value its JSON.
+fn cell_of(alloc: Global, node: &LocatedNode<'_>) -> Result<String, AllocError> {
+    let mut cell = String::new(alloc);
+    push_line(
+        alloc,
+        &Output::compact_lines(Form::Raw),
+        "",
+        &mut cell,
+        node,
+    )?;
+    cell.pop();
+    Ok(cell)
+}
+
+impl<'b> Sink<'b> for FirstNode {
+    ghost use Rattle.std.specs.Prelude.{◌≡◌, true};
+
+    ghost took = { λ _ _ _. true ≡ true };
+
+    ghost filled = { λ _ _ _. true ≡ true };
+
+    fn take(&mut self, node: LocatedNode<'b>) -> Result<Taken<'b>, QueryError> {
+        if self.cell.is_some() {
+            self.has_more = true;
+            return Ok(Taken::Enough);
+        }
+        self.cell = Some(cell_of(self.alloc, &node)?);
+        Ok(Taken::More(node.into_steps()))
+    }
+}
+
+/// Appends a cell of a row whose cells are parted by tabs.
+fn push_escaped(to: &mut String, cell: &str) -> Result<(), AllocError> {
+    for c in cell.chars() {
+        match c {
+            '\t' => to.push_str("\\t")?,
+            '\n' => to.push_str("\\n")?,
+            '\r' => to.push_str("\\r")?,
+            '\\' => to.push_str("\\\\")?,
+            _ => to.push(c)?,
+        }
+    }
+    Ok(())
+}
+
+/// Appends a row whose cells are parted by tabs, but for its end.
+fn push_tabbed(to: &mut String, cells: &[String]) -> Result<(), AllocError> {
+    for (index, cell) in cells.iter().enumerate() {
+        if index > 0 {
+            to.push('\t')?;
+        }
+        push_escaped(to, cell.as_str())?;
+    }
+    Ok(())
+}
+
+/// A row whose cells are parted by commas, ended by a byte.
+fn comma_row(alloc: Global, cells: &[String], end: u8) -> Result<Vec<u8>, csv::Error> {
+    let mut writer = WriterBuilder::new()
+        .terminator(Terminator::Any(end))
+        .from_writer(Vec::new(alloc));
+    for cell in cells {
+        writer.write_field(cell.as_bytes())?;
+    }
+    writer.end_record()?;
+    writer.flush()?;
+    writer.into_inner().map_err(|e| e.into_error())
+}
+
+/// Appends a row of cells and its end.
+pub(crate) fn push_row(
+    alloc: Global,
+    to: &mut String,
+    separator: Separator,
+    end: LineEnd,
+    cells: &[String],
+) -> Result<(), AllocError> {
+    let (end, byte) = match end {
+        LineEnd::LineFeed => ('\n', b'\n'),
+        LineEnd::Nul => ('\0', b'\0'),
+    };
+    match separator {
+        Separator::Tab => {
+            push_tabbed(to, cells)?;
+            to.push(end)
+        }
+        Separator::Comma => {
+            // What it writes to is a vector, so that only memory can be refused.
+            let Ok(row) = comma_row(alloc, cells, byte) else {
+                return Err(AllocError);
+            };
+            to.push_str(from_utf8(&row).unwrap_or(""))
+        }
+    }
+}
