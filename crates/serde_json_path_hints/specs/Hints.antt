@@ -9,7 +9,7 @@ use Rattle.serde_json_path_parser.specs.declared.error.ParseErrorKind.TheVariant
 use Rattle.serde_json_path_hints.specs.declared.condition.Condition.{Condition}
 use Rattle.serde_json_path_hints.specs.declared.slips.calls.TheConstants.{FUNCTION, NUMBER_OF_ARGUMENTS, ARGUMENT, RESULT}
 use Rattle.serde_json_path_hints.specs.declared.slips.expressions.TheConstants.{EXPRESSION, COMPARED_QUERY, NESTING}
-use Rattle.serde_json_path_hints.specs.declared.slips.operands.TheConstants.{CLOSING_PARENTHESIS, AFTER_LITERAL, AFTER_OPERAND}
+use Rattle.serde_json_path_hints.specs.declared.slips.operands.TheConstants.{CLOSING_PARENTHESIS, AFTER_LITERAL, WORD_AFTER_OPERAND, AFTER_OPERAND}
 use Rattle.serde_json_path_hints.specs.declared.slips.paths.TheConstants.{ROOT, MEMBER_NAME, AFTER_PATH}
 use Rattle.serde_json_path_hints.specs.declared.slips.selectors.TheConstants.{SELECTOR, CLOSING_BRACKET, INTEGER}
 use Rattle.serde_json_path_hints.specs.declared.slips.texts.TheConstants.{ENDING_QUOTE, ESCAPE, CONTROL_CHARACTER, DIGIT, DOUBLE, EXPONENT, FRACTION, NUMBER}
@@ -45,10 +45,10 @@ slips_of rule ExpectedRoot = ROOT.now
 slips_of rule BadMemberName = MEMBER_NAME.now
 slips_of rule TextAfterPath = AFTER_PATH.now
 slips_of rule ExpectedSelector = SELECTOR.now
-slips_of rule ExpectedClosingBracket = CLOSING_BRACKET.now ++ AFTER_OPERAND.now
+slips_of rule ExpectedClosingBracket = CLOSING_BRACKET.now ++ (WORD_AFTER_OPERAND.now ++ AFTER_OPERAND.now)
 slips_of rule IntegerOutOfRange = INTEGER.now
-slips_of rule ExpectedClosingParenthesis = CLOSING_PARENTHESIS.now ++ AFTER_OPERAND.now
-slips_of rule ExpectedComparisonOperator = AFTER_LITERAL.now ++ AFTER_OPERAND.now
+slips_of rule ExpectedClosingParenthesis = CLOSING_PARENTHESIS.now ++ (WORD_AFTER_OPERAND.now ++ AFTER_OPERAND.now)
+slips_of rule ExpectedComparisonOperator = AFTER_LITERAL.now ++ (WORD_AFTER_OPERAND.now ++ AFTER_OPERAND.now)
 slips_of rule ExpectedExpression = EXPRESSION.now
 slips_of rule NonSingularQuery = COMPARED_QUERY.now
 slips_of rule NestedTooDeep = NESTING.now

@@ -1,7 +1,7 @@
 //! What the text on one side of a place may be like.
 
 ghost use Rattle.std.specs.Prelude.{◌≡◌};
-ghost use Rattle.serde_json_path_hints.specs.Conditions.{is_name_start, is_name_byte, holds, word_of, is_met};
+ghost use Rattle.serde_json_path_hints.specs.Conditions.{is_name_start, is_name_byte, holds, word_of, is_call, is_met};
 ghost use Rattle.serde_json_path_hints.specs.Inside.Lent.{condition_of};
 
 use crate::near::is_one_letter_away;
@@ -14,6 +14,8 @@ pub(crate) enum Condition<Texts> {
     Any,
     /// It is empty.
     Empty,
+    /// It is one of these.
+    Is(Texts),
     /// It starts with one of these.
     Starts(Texts),
     /// It ends with one of these.
@@ -24,6 +26,8 @@ pub(crate) enum Condition<Texts> {
     Word(Texts),
     /// Its word is one letter away from one of these.
     Near(Texts),
+    /// It starts as a member name does, and `(` follows its word.
+    Call,
     /// It starts as a member name does.
     Name,
     /// It starts with a dash, and then as a member name does.
@@ -64,6 +68,14 @@ fn word(text: &[u8]) -> &[u8]
     text
 }
 
+/// Whether a text starts as a member name does, and `(` follows its word.
+fn is_call(text: &[u8]) -> bool
+    ensures { result ≡ is_call text.now }
+{
+    let after = text.get(word(text).len()..).unwrap_or(&[]);
+    text.first().is_some_and(|byte| is_name_start(*byte)) && after.first() == Some(&b'(')
+}
+
 /// Whether a part is somewhere in a text. Nothing is in an empty one.
 fn holds(text: &[u8], part: &[u8]) -> bool
     ensures { result ≡ holds text.now part.now }
@@ -88,6 +100,7 @@ pub(crate) fn is_met(condition: &Side, text: &[u8]) -> bool
     match condition {
         Condition::Any => true,
         Condition::Empty => text.is_empty(),
+        Condition::Is(wholes) => wholes.iter().any(|whole| text == whole.as_bytes()),
         Condition::Starts(starts) => {
             starts
                 .iter()
@@ -107,6 +120,7 @@ pub(crate) fn is_met(condition: &Side, text: &[u8]) -> bool
                 .iter()
                 .any(|name| is_one_letter_away(own, name.as_bytes()))
         }
+        Condition::Call => is_call(text),
         Condition::Name => text.first().is_some_and(|byte| is_name_start(*byte)),
         Condition::Dashed => match text {
             [b'-', byte, ..] => is_name_start(*byte),

@@ -25,9 +25,12 @@ pub fn hint(text: &str, e: &ParseError, numbers: Numbers) -> Option<&'static str
         ≡ hint_of (numbers_view numbers) (kind_of e.now) (position_of e.now) text.now }
 {
     let (before, ahead) = sides(text.as_bytes(), e.position());
-    let (own, shared) = slips_of(e.kind(), numbers);
-    match first_there(own, before, ahead) {
+    let (own, words, signs) = slips_of(e.kind(), numbers);
+    if let Some(hint) = first_there(own, before, ahead) {
+        return Some(hint);
+    }
+    match first_there(words, before, ahead) {
         Some(hint) => Some(hint),
-        None => first_there(shared, before, ahead),
+        None => first_there(signs, before, ahead),
     }
 }

@@ -18,6 +18,9 @@ pub(crate) const FUNCTION: &[Slip] = slips! {
     Any, Word(&["matches", "regex", "test", "like"])
         => "`match(@.a, 'b.*')`, or `search` for a part of the text";
     Any, Word(&["exists", "has", "defined"]) => "`[?@.a]`: a query alone tests that there is a node";
+    Any, Word(&["empty", "is_empty"]) => "`length(@.a) == 0`";
+    Any, Word(&["typeof", "type"]) => "there are no types in paths, but `@.a >= ''` holds of texts alone";
+    Any, Any => "the RFC's functions are `length`, `count`, `match`, `search` and `value`";
 };
 
 /// At a call with too many or too few arguments.

@@ -1,6 +1,6 @@
 //! Slips in filters, where an expression should start, and at comparisons.
 
-use crate::condition::Condition::{Any, Empty, Ends, Name, Starts, Word};
+use crate::condition::Condition::{Any, Call, Empty, Ends, Name, Starts, Word};
 use crate::slip::Slip;
 
 /// Where an expression is expected.
@@ -12,9 +12,15 @@ pub(crate) const EXPRESSION: &[Slip] = slips! {
     Any, Word(&["not"]) => "`!`";
     Any, Word(&["undefined", "nil", "none"]) => "`null`";
     Any, Word(&["true", "false", "null"]) => "`true`, `false` or `null` in small letters";
-    Any, Word(&["length", "count", "match", "search", "value"])
-        => "`length(@.a)`: small letters, no blank before `(`";
+    Any, Word(&["nan", "infinity"]) => "JSON has no NaN and no infinity";
+    Any, Word(&["length", "count", "value"]) => "`length(@.a)`: small letters, no blank before `(`";
+    Any, Word(&["match", "search"]) => "`search(@.a, 'x')`: small letters, `(` right after the name";
+    Any, Word(&["startswith"]) => "`match(@.a, 'x.*')`";
+    Any, Word(&["endswith"]) => "`match(@.a, '.*x')`";
+    Any, Word(&["typeof"]) => "there are no types in paths, but `@.a >= ''` holds of texts alone";
+    Any, Call => "the RFC's functions are `length`, `count`, `match`, `search` and `value`";
     Any, Starts(&["“", "”", "‘", "’", "`"]) => "straight quotes, as in `'a'`";
+    Any, Starts(&["\\\"", "\\'"]) => "`'a'`: no backslash before a quote";
     Ends(&[","]), Starts(&["/", "^", "[", ".", "*"]) => "`match(@.a, 'b.*')`: a pattern is quoted";
     Any, Starts(&["/"]) => "`match(@.a, 'b.*')`: a pattern is quoted";
     Any, Starts(&["[", "{"]) => "no array or object here: compare the parts, as `@[0] == 1`";
@@ -42,5 +48,5 @@ pub(crate) const COMPARED_QUERY: &[Slip] = slips! {
 
 /// Where the nesting is too deep.
 pub(crate) const NESTING: &[Slip] = slips! {
-    Any, Any => "128 filters, parentheses and calls in one another at most";
+    Any, Any => "fewer filters, parentheses and calls in one another";
 };

@@ -7,7 +7,8 @@ use crate::slip::Slip;
 pub(crate) const ENDING_QUOTE: &[Slip] = slips! {
     Ends(&["\\']", "\\\"]"]), Any => "`\\\\` for a backslash before the ending quote";
     Ends(&["']", "\"]"]), Any => "the same quote at both ends";
-    Any, Any => "the ending quote";
+    Ends(&["]"]), Any => "the quote again before `]`";
+    Any, Any => "the quote again, and `]`";
 };
 
 /// At a bad escape.
@@ -26,17 +27,17 @@ pub(crate) const CONTROL_CHARACTER: &[Slip] = slips! {
 
 /// By whole numbers, at a number with an exponent, or without digits after the point.
 pub(crate) const EXPONENT: &[Slip] = slips! {
-    Any, Any => "`1000` for `1e3`, `1` for `1.`";
+    Any, Any => "`1000` for 1e3, `1` for 1.";
 };
 
 /// By all numbers, at a number without digits after the point or in the exponent.
 pub(crate) const DIGIT: &[Slip] = slips! {
-    Any, Any => "`1` for `1.`, and digits after an `e`";
+    Any, Any => "`1` for 1., and digits after an `e`";
 };
 
 /// At a number with a long fraction.
 pub(crate) const FRACTION: &[Slip] = slips! {
-    Any, Any => "at most nine digits after the point";
+    Any, Any => "fewer digits, or a path that takes all numbers";
 };
 
 /// By whole numbers, at a number that is out of range.

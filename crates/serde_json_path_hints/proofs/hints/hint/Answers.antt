@@ -20,35 +20,11 @@ first_of_both : (before ahead : List ℕ) (own shared : List Slip)
 first_of_both before ahead own shared = grind (arith, common_steps, option_map, find-append, mapped)
 
 -- what is read of the error and of the text is the error's and the text
-hint_is : (rule : Numbers) (kind read_kind : ParseErrorKind) (position read_position : ℕ) (text bytes : List ℕ) (own shared : List Slip)
+hint_is : (rule : Numbers) (kind read_kind : ParseErrorKind) (position read_position : ℕ) (text bytes : List ℕ) (own words signs : List Slip)
     → (before ahead : List ℕ) → read_kind ≡ kind → read_position ≡ position → bytes ≡ text
     → before ≡ before_place read_position bytes → ahead ≡ ahead_of_place read_position bytes
-    → own ++ shared ≡ slips_of rule read_kind
-    → option_or (first_hint before ahead own) (first_hint before ahead shared) ≡ hint_of rule kind position text
-hint_is rule kind read_kind position read_position text bytes own shared before ahead k p t is_before is_ahead are_slips =
+    → own ++ (words ++ signs) ≡ slips_of rule read_kind
+    → option_or (first_hint before ahead own) (option_or (first_hint before ahead words) (first_hint before ahead signs))
+    ≡ hint_of rule kind position text
+hint_is rule kind read_kind position read_position text bytes own words signs before ahead k p t is_before is_ahead are_slips =
     grind (arith, common_steps, first_of_both)
-
-pub returns-in-Some : goal.returns-in-Some
-returns-in-Some c =
-    let own = map slip_of c.slips_of.result.0.now in
-    let shared = map slip_of c.slips_of.result.1.now in
-    let before = c.sides.result.0.now in
-    let ahead = c.sides.result.1.now in
-    let found : first_hint before ahead own ≡ Some c.in-Some.hint.now =
-    sym c.first_there.ensures ∙ ap (option_map (λ s. s.now)) c.in-Some.is in
-    sym (ap (λ o. option_or o (first_hint before ahead shared)) found)
-    ∙ hint_is _ _ _ _ _ _ _ own shared before ahead c.kind.ensures c.position.ensures c.as_bytes.ensures.value
-    c.sides.ensures.before c.sides.ensures.ahead c.slips_of.ensures
-
-pub returns-in-None : goal.returns-in-None
-returns-in-None c =
-    let own = map slip_of c.slips_of.result.0.now in
-    let shared = map slip_of c.slips_of.result.1.now in
-    let before = c.sides.result.0.now in
-    let ahead = c.sides.result.1.now in
-    let none : first_hint before ahead own ≡ None =
-    sym c.first_there.ensures ∙ ap (option_map (λ s. s.now)) c.in-None.is in
-    c.first_there-in-None.ensures
-    ∙ sym (ap (λ o. option_or o (first_hint before ahead shared)) none)
-    ∙ hint_is _ _ _ _ _ _ _ own shared before ahead c.kind.ensures c.position.ensures c.as_bytes.ensures.value
-    c.sides.ensures.before c.sides.ensures.ahead c.slips_of.ensures
