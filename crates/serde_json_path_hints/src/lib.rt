@@ -17,5 +17,7 @@ mod hints;
 mod near;
 mod slip;
 mod slips;
+#[cfg(test)]
+mod tests;
 
 pub use hints::hint;
