@@ -131,12 +131,12 @@ const LITERALS: &[(&str, ParseErrorKind, &str)] = &[
     (
         "1.5e3",
         ExponentOrEmptyFraction,
-        "`1000` for `1e3`, `1` for `1.`",
+        "`1000` for 1e3, `1` for 1.",
     ),
     (
         "0.0000000001",
         FractionTooLong,
-        "at most nine digits after the point",
+        "fewer digits, or a path that takes all numbers",
     ),
     (
         "18446744073709551616",

@@ -24,14 +24,16 @@ const REFUSALS: &[&str] = &[
     "$[a] -> 3 ~ expected a selector (a name in quotes, an index, a slice, '*' or '?'), found 'a' ~ write `['a']`: a name in brackets is quoted",
     "$[?@.a + 1 == 2] -> 8 ~ expected closing ']', found '+' ~ there is no arithmetic in paths",
     "$[?length(@.*) > 1] -> 11 ~ an argument of the wrong type ~ write `count(@.*)`: `length` takes one value",
-    "/a/b -> 1 ~ a path begins with '$', found '/' ~ write `$.a.b` for the JSON pointer or XPath `/a/b`",
-    "$[?@ == 1.] -> 9 ~ a number has digits after its point, and in its exponent ~ write `1` for `1.`, and digits after an `e`",
+    "/a/b -> 1 ~ a path begins with '$', found '/' ~ write `$.a.b` for the JSON pointer or XPath /a/b",
+    "$[?@ == 1.] -> 9 ~ a number has digits after its point, and in its exponent ~ write `1` for 1., and digits after an `e`",
     "$[?@ == 1e400] -> 9 ~ numbers go to 1.7976931348623157e308 ~ a number of at most 1.7976931348623157e308",
+    "$[?first(@.*) == 4] -> 4 ~ no such function, found 'first' ~ the RFC's functions are `length`, `count`, `match`, `search` and `value`",
+    "$/a/b -> 2 ~ the path ends before this, found '/' ~ write `$.a.b`: dots for slashes",
     "$[?lenght(@.a) > 1] -> 4 ~ no such function, found 'lenght' ~ write `length`",
     "$[?@.a == @.b.*] -> 11 ~ this path may select several nodes, so it can't be compared ~ a query of one node, or a filter within: `@..[?@.a == 1]`",
     "$[?length(@.a)] -> 4 ~ the function's result doesn't fit here ~ a comparison, as in `length(@.a) > 0`",
     "$[?match(@.a, 'b') == true] -> 4 ~ the function's result doesn't fit here ~ write `match(@.a, 'b.*')` alone: it is a test already",
-    "$['a -> 3 ~ the string that begins here has no ending quote ~ the ending quote",
+    "$['a -> 3 ~ the string that begins here has no ending quote ~ the quote again, and `]`",
 ];
 
 /// What is told of a refused path. Fails where its status is not 2, or something is written.

@@ -1,5 +1,5 @@
 -- `any` is true if a text passes the test, and its texts are those of the condition.
-use Rattle.std.proofs.Common.{◌≡◌, ℕ, Bool, ◌||◌, nat_eq, bytes_eq, List, [], ◌∷◌, map, refl, sym, ap, ◌∙◌, Bor, rules, tests}
+use Rattle.std.proofs.Common.{◌≡◌, ℕ, Bool, ◌||◌, nat_eq, List, [], ◌∷◌, map, refl, sym, ap, ◌∙◌, Bor, rules, tests}
 use Rattle.std.specs.List.{list_any, starts_with, ends_with}
 use Rattle.std.specs.Str.{str_eq_ignore_ascii_case}
 use Rattle.std.proofs.lemmas.Iterator.{YieldsList-from_slice}
@@ -19,17 +19,11 @@ met : (text : List ℕ) (test : List ℕ → Bool) (texts : LentTexts) {own read
     → is_met (condition_of read) text ≡ list_any (λ t. test t.now) (map text_of texts.now) → answer ≡ list_any (λ t. test t.now) texts.now → answer ≡ is_met (condition_of own) text
 met text test texts is means any = any ∙ any_now test texts.now ∙ sym (ap (λ s. is_met (condition_of s) text) is ∙ means)
 
-pub returns-in-Is : goal.returns-in-Is
-returns-in-Is c =
-    let test : List ℕ → Bool = bytes_eq c.args.text.now in
-    met c.args.text.now test c.in-Is.wholes c.in-Is.is refl
-    (any_from_yields_List (λ text. test text.now) _ _ _ c.any.ensures.ran (YieldsList-from_slice c.in-Is.wholes.now cc) (λ x b q k. search (rules, tests)))
-
 pub returns-in-Starts : goal.returns-in-Starts
 returns-in-Starts c =
     let test : List ℕ → Bool = starts_with nat_eq c.args.text.now in
     met c.args.text.now test c.in-Starts.starts c.in-Starts.is refl
-    (any_from_yields_List (λ text. test text.now) _ _ _ c.any-in-Starts.ensures.ran (YieldsList-from_slice c.in-Starts.starts.now cc) (λ x b q k. search (rules, tests)))
+    (any_from_yields_List (λ text. test text.now) _ _ _ c.any.ensures.ran (YieldsList-from_slice c.in-Starts.starts.now cc) (λ x b q k. search (rules, tests)))
 
 pub returns-in-Ends : goal.returns-in-Ends
 returns-in-Ends c =
