@@ -4,7 +4,7 @@ use Rattle.std.specs.List.{list_any, starts_with, ends_with}
 use Rattle.std.specs.Str.{str_eq_ignore_ascii_case}
 use Rattle.std.specs.Char.{is_ascii_alphabetic, is_ascii_digit}
 use Rattle.serde_json_path_hints.specs.declared.condition.Condition.{Condition}
-use Rattle.serde_json_path_hints.specs.declared.condition.Condition.TheVariants.{Any, Empty, Is, Starts, Ends, Holds, Word, Near, Call, Name, Dashed, Digit, EndsInName, EndsInLetter, EndsInDigit}
+use Rattle.serde_json_path_hints.specs.declared.condition.Condition.TheVariants.{Any, Empty, Starts, Ends, Holds, Word, Near, Call, Name, Dashed, Digit, EndsInName, EndsInLetter, EndsInDigit}
 
 -- ---- bytes and words
 
@@ -70,7 +70,6 @@ Texts = record { now : List Text }
 abbrev pub is_met : Condition Texts → List ℕ → Bool
 is_met Any text = true
 is_met Empty text = length text == 0
-is_met (Is wholes) text = list_any (λ whole. bytes_eq text whole.now) wholes.now
 is_met (Starts starts) text = list_any (λ start. starts_with nat_eq text start.now) starts.now
 is_met (Ends ends) text = list_any (λ end. ends_with nat_eq text end.now) ends.now
 is_met (Holds parts) text = list_any (λ part. holds text part.now) parts.now

@@ -14,8 +14,6 @@ pub(crate) enum Condition<Texts> {
     Any,
     /// It is empty.
     Empty,
-    /// It is one of these.
-    Is(Texts),
     /// It starts with one of these.
     Starts(Texts),
     /// It ends with one of these.
@@ -100,7 +98,6 @@ pub(crate) fn is_met(condition: &Side, text: &[u8]) -> bool
     match condition {
         Condition::Any => true,
         Condition::Empty => text.is_empty(),
-        Condition::Is(wholes) => wholes.iter().any(|whole| text == whole.as_bytes()),
         Condition::Starts(starts) => {
             starts
                 .iter()

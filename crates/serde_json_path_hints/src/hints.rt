@@ -5,7 +5,7 @@ ghost use Rattle.serde_json_path_parser.specs.Errors.{kind_of, position_of};
 ghost use Rattle.serde_json_path_functions.specs.Terms.{numbers_view};
 ghost use Rattle.serde_json_path_hints.specs.Hints.{hint_of};
 
-use crate::slip::{first_there, sides};
+use crate::slip::{first_of_two, first_there, sides};
 use crate::slips::slips_of;
 use serde_json_path_functions::Numbers;
 use serde_json_path_parser::ParseError;
@@ -26,11 +26,8 @@ pub fn hint(text: &str, e: &ParseError, numbers: Numbers) -> Option<&'static str
 {
     let (before, ahead) = sides(text.as_bytes(), e.position());
     let (own, words, signs) = slips_of(e.kind(), numbers);
-    if let Some(hint) = first_there(own, before, ahead) {
-        return Some(hint);
-    }
-    match first_there(words, before, ahead) {
+    match first_there(own, before, ahead) {
         Some(hint) => Some(hint),
-        None => first_there(signs, before, ahead),
+        None => first_of_two(words, signs, before, ahead),
     }
 }

@@ -1,6 +1,6 @@
 //! A slip, and the first of several that is there.
 
-ghost use Rattle.std.specs.Prelude.{◌≡◌, option_map, map};
+ghost use Rattle.std.specs.Prelude.{◌≡◌, ◌++◌, option_map, map};
 ghost use Rattle.serde_json_path_hints.specs.Hints.{is_there, first_hint, before_place, ahead_of_place};
 ghost use Rattle.serde_json_path_hints.specs.Inside.Lent.{slip_of};
 
@@ -32,6 +32,22 @@ pub(crate) fn first_there(
         }
     }
     None
+}
+
+/// The hint of the first slip that is there, in one table or else in another.
+pub(crate) fn first_of_two(
+    slips: &'static [Slip],
+    others: &'static [Slip],
+    before: &[u8],
+    ahead: &[u8],
+) -> Option<&'static str>
+    ensures { option_map (λ s. s.now) result
+        ≡ first_hint before.now ahead.now (map slip_of slips.now ++ map slip_of others.now) }
+{
+    match first_there(slips, before, ahead) {
+        Some(hint) => Some(hint),
+        None => first_there(others, before, ahead),
+    }
 }
 
 /// The text before a place and the text from it on, both without the blanks beside the place. Positions count from 1.

@@ -2,7 +2,7 @@
 use Rattle.std.specs.Prelude.{ℕ, List, map}
 use Rattle.std.specs.Borrow.{Bor}
 use Rattle.serde_json_path_hints.specs.declared.condition.Condition.{Condition}
-use Rattle.serde_json_path_hints.specs.declared.condition.Condition.TheVariants.{Any, Empty, Is, Starts, Ends, Holds, Word, Near, Call, Name, Dashed, Digit, EndsInName, EndsInLetter, EndsInDigit}
+use Rattle.serde_json_path_hints.specs.declared.condition.Condition.TheVariants.{Any, Empty, Starts, Ends, Holds, Word, Near, Call, Name, Dashed, Digit, EndsInName, EndsInLetter, EndsInDigit}
 use Rattle.serde_json_path_hints.specs.Conditions.{Text, Texts}
 use Rattle.serde_json_path_hints.specs.Hints.{Slip}
 
@@ -18,7 +18,6 @@ texts_of texts = record { now = map text_of texts.now }
 abbrev pub condition_of : Condition LentTexts → Condition Texts
 condition_of Any = Any
 condition_of Empty = Empty
-condition_of (Is wholes) = Is (texts_of wholes)
 condition_of (Starts starts) = Starts (texts_of starts)
 condition_of (Ends ends) = Ends (texts_of ends)
 condition_of (Holds parts) = Holds (texts_of parts)

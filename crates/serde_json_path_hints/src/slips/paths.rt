@@ -1,15 +1,13 @@
 //! Slips at the root, at names after dots, and after the path.
 
 use crate::condition::Condition::{
-    Any, Dashed, Digit, Empty, Ends, EndsInName, Holds, Is, Name, Starts, Word,
+    Any, Dashed, Digit, Empty, Ends, EndsInName, Holds, Name, Starts, Word,
 };
 use crate::slip::Slip;
 
 /// Where `$` is expected.
 pub(crate) const ROOT: &[Slip] = slips! {
     Any, Empty => "`$` for the whole document";
-    Any, Is(&["."]) => "`$` for the whole document";
-    Any, Is(&[".."]) => "`$..*` for every depth";
     Any, Starts(&["$"]) => "no blank before `$`";
     Any, Starts(&["# ", "// "]) => "there are no comments in paths";
     Any, Starts(&["//"]) => "`$..a` for the XPath //a";
@@ -25,6 +23,8 @@ pub(crate) const ROOT: &[Slip] = slips! {
     Any, Holds(&[" | ", "|."]) => "`$.a.b`: there are no pipes in paths";
     Any, Holds(&["\\."]) => "`$['a.b']`: such a name is quoted in brackets";
     Any, Holds(&[".io/", ".com/", ".org/", ".net/"]) => "`$['a.io/b']`: such a name is quoted in brackets";
+    Any, Ends(&[".."]) => "`$..*` for every depth";
+    Any, Ends(&["."]) => "`$`, and no dot at the end";
     Any, Starts(&[".[]"]) => "`$[*]` for all";
     Any, Starts(&[".["]) => "`$[0]`: no dot before a bracket";
     Any, Starts(&[".", "["]) => "`$` before it, as in `$.a` or `$[0]`";

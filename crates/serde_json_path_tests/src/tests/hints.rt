@@ -55,7 +55,7 @@ const HINTS: &[&str] = &[
     "$.a//b -> TextAfterPath 4 ~ `$.a..b`: dots for slashes",
     "$.a->b -> TextAfterPath 4 ~ `$.a.b`: a dot for ->",
     "$[0]->b -> TextAfterPath 5 ~ `$.a.b`: a dot for ->",
-    ". -> ExpectedRoot 1 ~ `$` for the whole document",
+    ". -> ExpectedRoot 1 ~ `$`, and no dot at the end",
     ".. -> ExpectedRoot 1 ~ `$..*` for every depth",
     ".[] -> ExpectedRoot 1 ~ `$[*]` for all",
     ".[0] -> ExpectedRoot 1 ~ `$[0]`: no dot before a bracket",
