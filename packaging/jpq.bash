@@ -10,7 +10,7 @@ _jpq() {
         -v --values -r --raw -l --locations -p --pointers -j --json --tsv --csv -c --count -q --quiet
         --header --pretty --tab --ascii -0 --null --total -u --unique -L --lines --line-number
         --with-filename --no-filename --no-path-number --strict --check --whole-numbers -s --silent -h
-        --help -V --version -e --expression -f --from-file --let --indent -n --max -m --max-all --color
+        --help -V --version -e --expression -f --from-file --let -n --max -m --max-all --indent --color
     "
     COMPREPLY=()
     case $before in
@@ -18,7 +18,7 @@ _jpq() {
             mapfile -t COMPREPLY < <(compgen -W 'auto always never' -- "$word")
             return
             ;;
-        -e|--expression|--indent|-n|--max|-m|--max-all|--let)
+        -e|--expression|-n|--max|-m|--max-all|--indent|--let)
             return
             ;;
     esac

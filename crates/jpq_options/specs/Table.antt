@@ -6,7 +6,7 @@ use Rattle.clap.specs.Simple.{new_shape}
 use Rattle.clap.specs.declared.builder.action.ArgAction.TheVariants.{Set, Append, SetTrue}
 use Rattle.clap.specs.declared.builder.value_parser.ValueParser.{ValueParser}
 use Rattle.jpq_options.specs.declared.options.Takes.{Takes}
-use Rattle.jpq_options.specs.declared.options.Takes.TheVariants.{Nothing, Path, File, Binding, Number, When}
+use Rattle.jpq_options.specs.declared.options.Takes.TheVariants.{Nothing, Path, File, Binding, Number, Width, When}
 use Rattle.jpq_options.specs.declared.options.OptionRow.{OptionRow}
 use Rattle.clap.specs.declared.builder.value_parser.ValueParser.TheVariants as parser
 
@@ -33,7 +33,7 @@ settings =
     ∷ setting (codes "quiet") (Some 113) Nothing
     ∷ setting (codes "header") None Nothing
     ∷ setting (codes "pretty") None Nothing
-    ∷ setting (codes "indent") None Number
+    ∷ setting (codes "indent") None Width
     ∷ setting (codes "tab") None Nothing
     ∷ setting (codes "ascii") None Nothing
     ∷ setting (codes "null") (Some 48) Nothing
@@ -69,6 +69,8 @@ taking colors File r = record r { action = Some Append; value_names = 1 }
 taking colors Binding r = record r { action = Some Append; value_names = 1 }
 taking colors Number r =
     record r { action = Some Set; value_names = 1; parser = Some (parser.Unsigned 0 (2 ^ 64 - 1)) }
+taking colors Width r =
+    record r { action = Some Set; value_names = 1; parser = Some (parser.Unsigned 0 16) }
 taking colors When r = record r {
   action = Some Set;
   value_names = 1;

@@ -123,6 +123,8 @@ enum Takes {
     Binding,
     /// A number from 0 to 2^64-1.
     Number,
+    /// A number from 0 to 16.
+    Width,
     /// One of [`WHEN`].
     When,
 }
@@ -157,7 +159,7 @@ static OPTIONS: [OptionRow; 32] = options! {
     "quiet", Some('q'), Nothing => "Print nothing";
     "header", None, Nothing => "With --tsv or --csv, print the paths as the first row";
     "pretty", None, Nothing => "Indent values by two spaces a level";
-    "indent", None, Number => "Indent values by N spaces a level";
+    "indent", None, Width => "Indent values by N spaces a level, from 0 to 16";
     "tab", None, Nothing => "Indent values by a tab a level";
     "ascii", None, Nothing => "Escape characters above U+007F in JSON and in normalised paths";
     "null", Some('0'), Nothing => "End lines by a NUL in place of a line feed";
@@ -250,6 +252,10 @@ fn argument<'a>(alloc: Global, row: &OptionRow, colors: ValueParser<'a>) -> Arg<
             .action(ArgAction::Set)
             .value_name("N")
             .value_parser(value_parser!(u64)),
+        Takes::Width => argument
+            .action(ArgAction::Set)
+            .value_name("N")
+            .value_parser(ValueParser::Unsigned(0, 16)),
         Takes::When => argument
             .action(ArgAction::Set)
             .value_name("WHEN")

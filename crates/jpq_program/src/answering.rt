@@ -1,5 +1,7 @@
 //! What is written of a document.
 
+ghost use Rattle.std.specs.Prelude.{◌≡◌, IfErr};
+
 use crate::answers::push_answer;
 use crate::paths::AskedPath;
 use crate::rows::{FirstNode, Separator, push_row};
@@ -49,7 +51,9 @@ struct Written<'a, 's, W, E> {
 impl<W: Write, E: Write> Written<'_, '_, W, E> {
     /// Appends what is shown of a node.
     #[inline(always)]
-    fn push(&mut self, node: &LocatedNode<'_>) -> Result<(), QueryError> {
+    fn push(&mut self, node: &LocatedNode<'_>) -> Result<(), QueryError>
+        ensures { IfErr result (λ e. e ≡ QueryError.Memory) }
+    {
         let pending = &mut self.streams.pending;
         if self.showing.output.form == Form::Json {
             self.showing
@@ -68,7 +72,9 @@ impl<W: Write, E: Write> Written<'_, '_, W, E> {
 
     /// Takes a node. Says whether more are wanted.
     #[inline(always)]
-    fn take_node(&mut self, node: &LocatedNode<'_>) -> Result<bool, QueryError> {
+    fn take_node(&mut self, node: &LocatedNode<'_>) -> Result<bool, QueryError>
+        ensures { IfErr result (λ e. e ≡ QueryError.Memory) }
+    {
         self.push(node)?;
         // A walk that gave one node in each nanosecond would take 584 years to come to the error.
         self.count = self.count.checked_add(1).ok_or(QueryError::Memory)?;
