@@ -1,6 +1,6 @@
 -- The first slip of all that are there is the first of the kind's own, or else the first of those that it shares.
 use Rattle.std.proofs.lemmas.Grind.{common_steps}
-use Rattle.std.proofs.Common.{◌≡◌, arith, ℕ, List, ◌++◌, map, Option, Some, None, option_map, sym, ap, ◌∙◌}
+use Rattle.std.proofs.Common.{◌≡◌, arith, ℕ, List, ◌++◌, map, Some, None, option_map, sym, ap, ◌∙◌}
 use Rattle.std.specs.Option.{option_or}
 use Rattle.serde_json_path_functions.specs.Functions.{Numbers}
 use Rattle.serde_json_path_parser.specs.declared.error.ParseErrorKind.{ParseErrorKind}

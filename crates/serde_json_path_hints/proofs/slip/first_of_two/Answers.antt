@@ -1,5 +1,5 @@
 -- What the first table has goes before what the second has.
-use Rattle.std.proofs.Common.{◌≡◌, map, Option, Some, None, option_map, sym, ap, ◌∙◌}
+use Rattle.std.proofs.Common.{◌≡◌, map, Some, None, option_map, sym, ap, ◌∙◌}
 use Rattle.std.specs.Option.{option_or}
 use Rattle.serde_json_path_hints.specs.Hints.{first_hint}
 use Rattle.serde_json_path_hints.specs.Inside.Lent.{slip_of}
