@@ -9,7 +9,7 @@
 //! streams.
 #![tactic(auto)]
 
-use jpq_program::colours::takes_colors;
+use jpq_program::colours::{Colours, takes_colors};
 use jpq_program::inputs::Inputs;
 use jpq_program::run::run;
 use std::fs::File;
@@ -88,20 +88,16 @@ fn main(rt: HostRuntime) -> ExitCode {
     let mut out = rt.stdout();
     let (is_terminal, is_forced) = (out.is_terminal(), is_set(&rt, "CLICOLOR_FORCE", "0"));
     // The other variables are looked for only where they count.
-    let terminal = (is_terminal || is_forced)
+    let taken = (is_terminal || is_forced)
         && takes_colors(
             is_terminal,
             is_dumb(&rt),
             is_set(&rt, "NO_COLOR", ""),
             is_forced,
         );
-    let status = run(
-        rt.alloc(),
-        &words,
-        terminal,
-        &mut inputs,
-        &mut out,
-        &mut err,
-    );
+    let palette = env::var(&rt, "JPQ_COLORS").ok();
+    let palette = palette.as_ref().map(|text| text.as_str());
+    let colours = Colours { taken, palette };
+    let status = run(rt.alloc(), &words, colours, &mut inputs, &mut out, &mut err);
     ExitCode::from(status)
 }

@@ -3,6 +3,7 @@
 ghost use Rattle.std.specs.Prelude.{◌≡◌, IfErr};
 
 use crate::answers::push_answer;
+use crate::inexact::inexact_number;
 use crate::paths::AskedPath;
 use crate::rows::{FirstNode, Separator, push_row};
 use crate::showing::{Showing, end_of};
@@ -24,7 +25,7 @@ pub(crate) struct Answering<'a> {
     pub(crate) paths: &'a [AskedPath],
     pub(crate) functions: CachedPatterns<'a>,
     pub(crate) shown: Shown,
-    pub(crate) showing: Showing,
+    pub(crate) showing: Showing<'a>,
     pub(crate) heads: Heads,
     /// Whether the sum of all counts is shown alone.
     pub(crate) total: bool,
@@ -35,7 +36,7 @@ pub(crate) struct Answering<'a> {
 /// The nodes of a path as they are written.
 #[derive(Drop)]
 struct Written<'a, 's, W, E> {
-    showing: &'a Showing,
+    showing: &'a Showing<'a>,
     streams: &'a mut Streams<'s, W, E>,
     /// What each line, or the members of each object, begin with.
     head: &'a str,
@@ -360,7 +361,7 @@ impl Answering<'_> {
         }
         match first.cell {
             Some(cell) => {
-                streams.outcome.selected = true;
+                self.keep_count(1, streams);
                 Ok(cell)
             }
             None => Ok(String::new(self.alloc)),
@@ -422,6 +423,35 @@ impl Answering<'_> {
         streams.write()
     }
 
+    /// Whether values are shown of nodes.
+    fn shows_values(&self) -> bool {
+        use Form::{Count, Location, Nothing, Pointer};
+        !matches!(
+            self.shown,
+            Shown::Nodes(Count | Location | Nothing | Pointer)
+        )
+    }
+
+    /// Tells, once for a run, of a number in a document that has more digits than are kept.
+    fn tell_inexact<W: Write, E: Write>(
+        &self,
+        source: Source<'_>,
+        bytes: &[u8],
+        streams: &mut Streams<'_, W, E>,
+    ) -> Result<(), Stop> {
+        if streams.told_inexact || self.silent {
+            return Ok(());
+        }
+        if let Some(number) = inexact_number(bytes) {
+            streams.told_inexact = true;
+            let name = shown_name(source.name);
+            streams.tell(format!(in self.alloc;
+                "jpq: {name}: {number} is held as the double next to it\n"
+            )?.as_str());
+        }
+        Ok(())
+    }
+
     /// Answers a document, or what of it the paths can reach: writes what is shown of it, and tells what is refused.
     pub(crate) fn answer<W: Write, E: Write>(
         &self,
@@ -430,6 +460,7 @@ impl Answering<'_> {
         document: &Value,
         streams: &mut Streams<'_, W, E>,
     ) -> Result<(), Stop> {
+        let before = streams.total;
         match (separator_of(self.shown), self.showing.output.form) {
             (Some(separator), _) => self.answer_row(separator, source, bytes, document, streams)?,
             (None, Form::Count | Form::Nothing) => {
@@ -439,6 +470,9 @@ impl Answering<'_> {
         }
         if !streams.pending.is_empty() {
             streams.write()?;
+        }
+        if streams.total > before && self.shows_values() {
+            self.tell_inexact(source, bytes, streams)?;
         }
         if self.shown == Shown::Nodes(Form::Nothing) && streams.outcome.selected {
             return Err(Stop::Found);

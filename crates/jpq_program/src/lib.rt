@@ -13,6 +13,7 @@ pub mod colours;
 mod documents;
 mod empty_answer;
 mod encodings;
+mod inexact;
 pub mod inputs;
 mod paths;
 mod patterns;

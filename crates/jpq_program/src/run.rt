@@ -6,6 +6,7 @@ ghost use Rattle.jpq_options.specs.declared.options.Request as input;
 ghost use Rattle.jpq_program.specs.Query.{IsStatusOf};
 
 use crate::answering::Answering;
+use crate::colours::{Colours, Palette};
 use crate::documents::Documents;
 use crate::empty_answer::reason_of;
 use crate::inputs::Inputs;
@@ -110,13 +111,26 @@ fn heads_of(options: &Options<'_>, paths: usize) -> Heads {
     }
 }
 
-/// Whether lines have colours, as the options say.
-fn is_colored(options: &Options<'_>, is_terminal: bool) -> bool {
+/// Whether lines have colours, as the options or else the environment say.
+fn is_colored(options: &Options<'_>, colours: Colours<'_>) -> bool {
     match options.color {
         Color::Always => true,
         Color::Never => false,
-        Color::Auto => is_terminal,
+        Color::Auto => colours.taken,
     }
+}
+
+/// The palette of lines with colours. Tells where the environment has none that can be read.
+fn palette_of<'a, W: Write, E: Write>(
+    colours: Colours<'a>,
+    silent: bool,
+    streams: &mut Streams<'_, W, E>,
+) -> Option<Palette<'a>> {
+    let palette = Palette::of(colours.palette?);
+    if palette.is_none() && !silent {
+        streams.tell("jpq: JPQ_COLORS is not in jq's form, as 0;90:0;37:0;37:0;36:0;32\n");
+    }
+    palette
 }
 
 /// For more paths than these documents are read whole: to see what each can reach takes longer.
@@ -161,7 +175,7 @@ fn answer_documents<I: Inputs, W: Write, E: Write>(
 fn answer_paths<I: Inputs, W: Write, E: Write>(
     alloc: Global,
     options: &Options<'_>,
-    colored: bool,
+    colours: Colours<'_>,
     paths: &[AskedPath],
     inputs: &mut I,
     streams: &mut Streams<'_, W, E>,
@@ -172,6 +186,12 @@ fn answer_paths<I: Inputs, W: Write, E: Write>(
         trees.push(path.path.tree())?;
     }
     let output = output_of(options);
+    let colored = is_colored(options, colours);
+    let palette = if colored {
+        palette_of(colours, options.silent, streams)
+    } else {
+        None
+    };
     let documents = Documents {
         alloc,
         answering: Answering {
@@ -185,6 +205,7 @@ fn answer_paths<I: Inputs, W: Write, E: Write>(
                 indent: indent_of(alloc, options)?,
                 ascii: options.ascii,
                 colored,
+                palette,
             },
             heads: heads_of(options, paths.len()),
             total: options.total,
@@ -203,7 +224,7 @@ fn answer_paths<I: Inputs, W: Write, E: Write>(
 fn run_with<I: Inputs, W: Write, E: Write>(
     alloc: Global,
     options: &Options<'_>,
-    colored: bool,
+    colours: Colours<'_>,
     inputs: &mut I,
     streams: &mut Streams<'_, W, E>,
 ) -> Result<(), Stop> {
@@ -214,7 +235,7 @@ fn run_with<I: Inputs, W: Write, E: Write>(
     if options.check {
         return check(&paths, streams);
     }
-    answer_paths(alloc, options, colored, &paths, inputs, streams)?;
+    answer_paths(alloc, options, colours, &paths, inputs, streams)?;
     if streams.outcome.selected || streams.outcome.refused || options.silent {
         return Ok(());
     }
@@ -247,8 +268,8 @@ fn exit_status<W: Write, E: Write>(
     }
 }
 
-/// The program: `jpq [OPTIONS] PATH [FILE]...`. The first word is the program's name; `terminal` says whether the output takes
-/// colours, as most terminals do. Returns the exit status:
+/// The program: `jpq [OPTIONS] PATH [FILE]...`. The first word is the program's name; `colours` is what the environment says
+/// of them. Returns the exit status:
 ///
 /// | Status | When |
 /// |---|---|
@@ -263,7 +284,7 @@ fn exit_status<W: Write, E: Write>(
 pub fn run<I: Inputs, W: Write, E: Write>(
     alloc: Global,
     words: &[String],
-    terminal: bool,
+    colours: Colours<'_>,
     inputs: &mut I,
     out: &mut W,
     err: &mut E,
@@ -275,8 +296,7 @@ pub fn run<I: Inputs, W: Write, E: Write>(
     let mut streams = Streams::new(alloc, out, err);
     match read(alloc, words) {
         Ok(Request::Run(options)) => {
-            let colored = is_colored(&options, terminal);
-            let ended = run_with(alloc, &options, colored, inputs, &mut streams);
+            let ended = run_with(alloc, &options, colours, inputs, &mut streams);
             exit_status(ended, !options.bindings.is_empty(), &mut streams)
         }
         Ok(Request::Print(text)) => {

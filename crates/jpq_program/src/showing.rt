@@ -1,5 +1,6 @@
 //! How nodes are shown: their lines and their objects, indented, escaped and coloured.
 
+use crate::colours::{Palette, recolored};
 use jsonpath_lines::{Form, Layout, LineEnd, Output, colored, push_line};
 use serde_json::Value;
 use serde_json_path::LocatedNode;
@@ -7,7 +8,7 @@ use std::alloc::{AllocError, Global};
 
 /// How nodes are shown.
 #[derive(Drop)]
-pub(crate) struct Showing {
+pub(crate) struct Showing<'a> {
     pub(crate) alloc: Global,
     pub(crate) output: Output,
     /// What a level is indented by, where that is not two spaces.
@@ -16,6 +17,8 @@ pub(crate) struct Showing {
     pub(crate) ascii: bool,
     /// Whether lines have colours.
     pub(crate) colored: bool,
+    /// Which ones, where they are not the usual ones.
+    pub(crate) palette: Option<Palette<'a>>,
 }
 
 /// What ends a line.
@@ -74,7 +77,7 @@ fn put_after_lines(alloc: Global, json: &str, more: &str) -> Result<String, Allo
     Ok(text)
 }
 
-impl Showing {
+impl Showing<'_> {
     /// Whether lines are shown as they are made.
     fn is_plain(&self) -> bool {
         self.indent.is_none() && !self.ascii && !self.colored
@@ -102,11 +105,16 @@ impl Showing {
 
     /// Appends a text in colours, if they are wanted.
     fn push_colored(&self, to: &mut String, text: &str) -> Result<(), AllocError> {
-        if self.colored {
-            let text = colored(self.alloc, text, self.output.form)?;
-            return to.push_str(text.as_str());
+        if !self.colored {
+            return to.push_str(text);
         }
-        to.push_str(text)
+        let text = colored(self.alloc, text, self.output.form)?;
+        match &self.palette {
+            Some(palette) => {
+                to.push_str(recolored(self.alloc, text.as_str(), palette)?.as_str())
+            }
+            None => to.push_str(text.as_str()),
+        }
     }
 
     /// Appends a node's line after a head.

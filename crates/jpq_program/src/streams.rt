@@ -106,6 +106,8 @@ pub(crate) struct Streams<'a, W, E> {
     pub(crate) left: Option<u64>,
     /// How many nodes were counted.
     pub(crate) total: u64,
+    /// Whether it was told of a number that has more digits than are kept.
+    pub(crate) told_inexact: bool,
     /// Whether it was told that of several nodes of a path a table has the first.
     pub(crate) told_several: bool,
 }
@@ -124,6 +126,7 @@ impl<'a, W: Write, E: Write> Streams<'a, W, E> {
             refused_documents: 0,
             left: None,
             total: 0,
+            told_inexact: false,
             told_several: false,
         }
     }

@@ -1,7 +1,9 @@
 //! Lines in colours.
 
 use crate::tests::forms::form;
-use jpq_program::colours::takes_colors;
+use crate::tests::inputs::{MemoryInputs, words};
+use jpq_program::colours::{Colours, takes_colors};
+use jpq_program::run::run;
 use jsonpath_lines::colored;
 use std::alloc::Global;
 use std::test::Fail;
@@ -83,4 +85,41 @@ fn takes(alloc: Global, output: &str) -> Came {
 #[test]
 fn heeds_the_environment(rt: HostRuntime) -> Result<(), Fail> {
     hold_rows(&rt, OUTPUTS, takes)
+}
+
+/// A palette, and a value in its colours, as `cat -v` shows it; or what is told of the palette before the usual colours.
+const PALETTES: &[&str] = &[
+    "0;90:1:2:3:4:5:6:7:8 -> ^[[8m$^[[0m {^[[7m\"a\"^[[0m:[^[[0;90mnull^[[0m,^[[1mfalse^[[0m,^[[2mtrue^[[0m,^[[3m1^[[0m,^[[4m\"b\"^[[0m]}",
+    ":::: -> ^[[35m$^[[0m {^[[32m\"a\"^[[0m:[^[[mnull^[[0m,^[[mfalse^[[0m,^[[mtrue^[[0m,^[[m1^[[0m,^[[m\"b\"^[[0m]}",
+    "red -> jpq: JPQ_COLORS is not in jq's form, as 0;90:0;37:0;37:0;36:0;32~^[[35m$^[[0m {^[[32m\"a\"^[[0m:[^[[33mnull^[[0m,^[[33mfalse^[[0m,^[[33mtrue^[[0m,^[[36m1^[[0m,^[[32m\"b\"^[[0m]}",
+];
+
+/// What a run tells and writes by a palette.
+fn by_palette(alloc: Global, palette: &str) -> Came {
+    let mut inputs = MemoryInputs {
+        standard: r#"{"a":[null,false,true,1,"b"]}"#,
+        fails_at: usize::MAX,
+    };
+    let mut out: Vec<u8> = Vec::new(alloc);
+    let mut err: Vec<u8> = Vec::new(alloc);
+    let words = words(alloc, "$")?;
+    let colours = Colours {
+        taken: true,
+        palette: Some(palette),
+    };
+    run(alloc, &words, colours, &mut inputs, &mut out, &mut err);
+    let (told, written) = (
+        str::from_utf8(err.as_slice())?,
+        str::from_utf8(out.as_slice())?,
+    );
+    let text = format!(in alloc; "{}{}", told.replace(alloc, "\n", "~")?, written.trim_end())?;
+    Ok(
+        text.replace(alloc, "\u{1b}", "^[")?
+            .replace(alloc, "\t", " ")?,
+    )
+}
+
+#[test]
+fn takes_a_palette(rt: HostRuntime) -> Result<(), Fail> {
+    hold_rows(&rt, PALETTES, by_palette)
 }

@@ -2,6 +2,7 @@
 
 ghost use Rattle.std.specs.Prelude.{None};
 
+use jpq_program::colours::Colours;
 use jpq_program::inputs::Inputs;
 use jpq_program::run::run;
 use std::alloc::{AllocError, Global};
@@ -85,6 +86,12 @@ impl<'a> Inputs for MemoryInputs<'a> {
     }
 }
 
+/// An output that takes no colours.
+pub(crate) const NO_COLOURS: Colours<'static> = Colours {
+    taken: false,
+    palette: None,
+};
+
 /// The words of a command line, `jpq` first. Between them are two blanks each.
 pub(crate) fn words(alloc: Global, line: &str) -> Result<Vec<String>, AllocError> {
     let mut words = Vec::new(alloc);
@@ -115,7 +122,7 @@ pub(crate) fn run_on(alloc: Global, line: &str, mut inputs: MemoryInputs<'_>) ->
     // With room for all that is written, so that each request of the run is one of the program.
     let mut out: Vec<u8> = Vec::with_capacity(alloc, 16_384)?;
     let mut err: Vec<u8> = Vec::with_capacity(alloc, 16_384)?;
-    let status = run(alloc, &words, false, &mut inputs, &mut out, &mut err);
+    let status = run(alloc, &words, NO_COLOURS, &mut inputs, &mut out, &mut err);
     Ok(Ran {
         status,
         out: String::from_str(alloc, str::from_utf8(out.as_slice())?)?,

@@ -2,7 +2,7 @@
 
 ghost use Rattle.std.specs.Prelude.{None};
 
-use crate::tests::inputs::{MemoryInputs, run_on, words};
+use crate::tests::inputs::{MemoryInputs, NO_COLOURS, run_on, words};
 use jpq_program::run::run;
 use std::alloc::Global;
 use std::io;
@@ -61,7 +61,7 @@ fn run_writing(alloc: Global, call: &str, kind: io::ErrorKind) -> Came {
     let mut inputs = MemoryInputs { standard, fails_at };
     let mut out = Writer::new(alloc, call.parse::<usize>()?, kind);
     let mut err: Vec<u8> = Vec::new(alloc);
-    let status = run(alloc, &words, false, &mut inputs, &mut out, &mut err);
+    let status = run(alloc, &words, NO_COLOURS, &mut inputs, &mut out, &mut err);
     let taken = str::from_utf8(out.taken.as_slice())?;
     let told = str::from_utf8(err.as_slice())?;
     Ok(format!(in alloc; "{status}: {taken:?} {told:?}")?)

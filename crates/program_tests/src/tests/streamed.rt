@@ -2,7 +2,7 @@
 
 ghost use Rattle.std.specs.Prelude.{None};
 
-use crate::tests::inputs::{MemoryInputs, words};
+use crate::tests::inputs::{MemoryInputs, NO_COLOURS, words};
 use jpq_program::run::run;
 use std::alloc::{AllocError, Global};
 use std::io;
@@ -58,7 +58,7 @@ fn run_in_pieces(alloc: Global, given: &str) -> Came {
     };
     let mut err: Vec<u8> = Vec::new(alloc);
     let words = words(alloc, line)?;
-    let status = run(alloc, &words, false, &mut inputs, &mut out, &mut err);
+    let status = run(alloc, &words, NO_COLOURS, &mut inputs, &mut out, &mut err);
     let told = str::from_utf8(err.as_slice())?;
     Ok(format!(in alloc; "{status}: {:?} {told:?}", out.lengths)?)
 }

@@ -1,0 +1,99 @@
+//! Numbers of a document that a double does not hold with all their digits, so that they are printed otherwise.
+
+use std::str::from_utf8;
+
+/// How many digits a double holds of any number.
+const DIGITS: usize = 17;
+
+/// Whether a byte stands in a number.
+fn is_of_number(byte: u8) -> bool {
+    byte.is_ascii_digit() || matches!(byte, b'.' | b'e' | b'E' | b'+' | b'-')
+}
+
+/// How many digits of a number count: neither zeros before the others, nor those at the end of a fraction.
+fn significant_digits(number: &str) -> usize {
+    let mantissa = number.split(['e', 'E']).next().unwrap_or(number);
+    let mantissa = if mantissa.contains('.') {
+        mantissa.trim_end_matches('0')
+    } else {
+        mantissa
+    };
+    let digits = mantissa.trim_start_matches(['-', '0', '.']);
+    digits.chars().filter(|c| c.is_ascii_digit()).count()
+}
+
+/// Whether a number of JSON has more digits than are kept.
+fn is_inexact(number: &str) -> bool {
+    if number.parse::<u64>().is_ok() || number.parse::<i64>().is_ok() {
+        return false;
+    }
+    let is_whole = !number.contains(['.', 'e', 'E']);
+    is_whole || significant_digits(number) > DIGITS
+}
+
+/// The bytes around a place that may stand in a number, and how many stand before them.
+fn number_around(bytes: &[u8], index: usize) -> (&[u8], usize) {
+    let (before, after) = bytes.split_at(index.min(bytes.len()));
+    let earlier = before
+        .iter()
+        .rev()
+        .take_while(|byte| is_of_number(**byte))
+        .count();
+    let later = after.iter().take_while(|byte| is_of_number(**byte)).count();
+    let start = index.saturating_sub(earlier);
+    let number = bytes.get(start..index.saturating_add(later));
+    (number.unwrap_or(&[]), start)
+}
+
+/// Where strings of JSON begin and end, up to a place.
+struct Strings<'a> {
+    left: &'a [u8],
+    passed: usize,
+    is_inside: bool,
+    is_escaped: bool,
+}
+
+impl Strings<'_> {
+    /// Whether a place, which is no earlier than those before, is in a string.
+    fn are_around(&mut self, place: usize) -> bool {
+        let count = place.saturating_sub(self.passed).min(self.left.len());
+        let (passed, left) = self.left.split_at(count);
+        for byte in passed {
+            if self.is_escaped {
+                self.is_escaped = false;
+            } else if *byte == b'"' {
+                self.is_inside = !self.is_inside;
+            } else {
+                self.is_escaped = self.is_inside && *byte == b'\\';
+            }
+        }
+        self.left = left;
+        self.passed = place;
+        self.is_inside
+    }
+}
+
+/// The first number of a document that has more digits than are kept. A number of so many digits has a byte in one of several
+/// places, so that most bytes are not looked at.
+pub(crate) fn inexact_number(bytes: &[u8]) -> Option<&str> {
+    let mut strings = Strings {
+        left: bytes,
+        passed: 0,
+        is_inside: false,
+        is_escaped: false,
+    };
+    for (number, chunk) in bytes.chunks(DIGITS).enumerate() {
+        let index = number.saturating_mul(DIGITS);
+        match chunk.first() {
+            Some(byte) if is_of_number(*byte) => {
+                let (token, start) = number_around(bytes, index);
+                let text = from_utf8(token).unwrap_or("");
+                if token.len() > DIGITS && is_inexact(text) && !strings.are_around(start) {
+                    return Some(text);
+                }
+            }
+            _ => {}
+        }
+    }
+    None
+}
