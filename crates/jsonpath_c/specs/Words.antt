@@ -1,5 +1,6 @@
 -- What clauses and definitions take from the crates below, from one place.
-pub use Rattle.jsonpath_document.specs.Document.{ReadsAs, is_too_deep_at}
+pub use Rattle.jsonpath_document.specs.Document.{ReadsAs}
+pub use Rattle.jsonpath_document.specs.Place.{is_too_deep_at}
 pub use Rattle.jsonpath_lines.specs.Words.{IsJsonOf, IsLine, IsLineOfEach, compact_lines}
 pub use Rattle.jsonpath_lines.specs.declared.forms.Form.TheVariants.{Location, LocationAndValue, Value}
 pub use Rattle.jsonpath_lines.specs.declared.forms.Form.{Form}

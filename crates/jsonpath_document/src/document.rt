@@ -1,15 +1,24 @@
 //! Documents from bytes, and what stands where bytes are no document.
 
 ghost use Rattle.std.specs.Prelude.{◌≡◌, ◌≢◌, ◌+◌, ◌^◌, ◌++◌, ◌<◌, ◌≤◌, ◌↔◌, ℕ, List, [], ◌∷◌, IfErr, IfOk, IfSome};
-ghost use Rattle.std.specs.Prelude.{false, length, true};
+ghost use Rattle.std.specs.Prelude.{drop, false, length, take, true};
 ghost use Rattle.std.specs.Str.{IsUtf8};
 ghost use Rattle.serde_json.specs.Data.{Data};
 ghost use Rattle.serde_json.specs.View.{view};
-ghost use Rattle.jsonpath_document.specs.Document.{ReadsAs, IsFaultIn, begins, begins_comment};
-ghost use Rattle.jsonpath_document.specs.Document.{begins_not_finite, is_continuation, is_too_deep_after};
-ghost use Rattle.jsonpath_document.specs.Document.{is_too_deep_at, levels_after, message_of, open_past};
-ghost use Rattle.jsonpath_document.specs.Document.{place_after, stands};
+ghost use Rattle.jsonpath_document.specs.Document.{IsFaultIn, IsMetAfter, IsOfString, ReadsAs, message_of};
+ghost use Rattle.jsonpath_document.specs.Document.{stands};
+ghost use Rattle.jsonpath_document.specs.Begins.{begins};
+ghost use Rattle.jsonpath_document.specs.Place.{is_continuation, is_in_string_after, is_too_deep_after};
+ghost use Rattle.jsonpath_document.specs.Place.{is_too_deep_at, place_after};
 
+use crate::begins::{
+    begins_bad_escape, begins_by, begins_comment, begins_control, begins_item, begins_leading_zero,
+    begins_lone_surrogate, begins_not_finite, begins_other_word, begins_plus_sign, begins_value,
+    begins_word, has_first_half, has_hex,
+};
+use crate::place::{
+    closes_wrongly, is_bare_point, open_levels, open_past, wants_colon, wants_comma, wants_name,
+};
 use serde_json::{Error, Value};
 use std::alloc::Global;
 use std::fmt;
@@ -34,6 +43,26 @@ pub enum DocumentFault {
     NotFinite,
     /// A comma before the end of an array or an object.
     TrailingComma,
+    /// A value or a name after a value, with no comma between them.
+    MissingComma,
+    /// Anything but a colon after a name.
+    MissingColon,
+    /// A name without quotes.
+    NameWithoutQuotes,
+    /// `true`, `false`, `null` or `none` in other letters than JSON's, as `True` or `None`.
+    OtherWord,
+    /// A number that begins with 0 and a digit, with or without a minus sign.
+    LeadingZero,
+    /// A plus sign before a number.
+    PlusSign,
+    /// A point of a number with no digit before it, or none after it.
+    BarePoint,
+    /// A control character in a string, which is not written as an escape.
+    ControlCharacter,
+    /// A backslash in a string that begins no escape.
+    BadEscape,
+    /// An escape of half a pair of surrogates, without the other half.
+    LoneSurrogate,
     /// A bracket or a brace within 127 others.
     TooDeep,
     /// A number beyond those of floats.
@@ -73,6 +102,18 @@ impl DocumentFault {
             DocumentFault::SingleQuote => "a single quote, where JSON has double quotes",
             DocumentFault::NotFinite => "NaN or Infinity, which JSON does not have",
             DocumentFault::TrailingComma => "a comma with nothing after it",
+            DocumentFault::MissingComma => "a comma is missing before this",
+            DocumentFault::MissingColon => "a colon is missing after a name",
+            DocumentFault::NameWithoutQuotes => "a name without double quotes",
+            DocumentFault::OtherWord => "a word that JSON writes as true, false or null",
+            DocumentFault::LeadingZero => "a number that begins with 0 and a digit",
+            DocumentFault::PlusSign => "a number with a plus sign before it",
+            DocumentFault::BarePoint => "a point without digits on both sides",
+            DocumentFault::ControlCharacter => {
+                "a control character in a string, where JSON has an escape as \\t"
+            }
+            DocumentFault::BadEscape => "a backslash that begins no escape of JSON",
+            DocumentFault::LoneSurrogate => "an escape of half a pair of surrogates",
             DocumentFault::TooDeep => "more than 127 levels of arrays and objects",
             DocumentFault::NumberOutOfRange => "a number that is too large",
             DocumentFault::SecondDocument => "a second document (is it NDJSON? use -L)",
@@ -143,42 +184,9 @@ fn is_continuation(byte: u8) -> bool
 /// How many arrays and objects `serde_json` takes within each other.
 const MOST_LEVELS: usize = 127;
 
-/// Whether a text begins as a comment does.
-fn begins_comment(text: &str) -> bool
-    ensures { result ≡ begins_comment text.now }
-{
-    let text = text.as_bytes();
-    text.starts_with(b"//") || text.starts_with(b"/*") || text.starts_with(b"#")
-}
-
-/// Whether a text begins by a number that JSON does not have.
-fn begins_not_finite(text: &str) -> bool
-    ensures { result ≡ begins_not_finite text.now }
-{
-    let text = text.as_bytes();
-    text.starts_with(b"NaN")
-        || text.starts_with(b"Infinity")
-        || text.starts_with(b"-Infinity")
-        || text.starts_with(b"-NaN")
-        || text.starts_with(b"+Infinity")
-        || text.starts_with(b"+NaN")
-}
-
-/// Whether a text begins by a byte.
-fn begins_by(text: &str, byte: u8) -> bool
-    ensures { result ≡ begins text.now (byte ∷ []) }
-{
-    text.as_bytes().starts_with(&[byte])
-}
-
 /// Whether a character may stand in a number.
 fn is_of_number(c: char) -> bool {
     matches!(c, '0'..='9' | '+' | '-' | '.' | 'e' | 'E')
-}
-
-/// Whether a text begins as a value does.
-fn begins_value(text: &str) -> bool {
-    text.starts_with(|c| matches!(c, '{' | '[' | '"' | '-' | '0'..='9' | 't' | 'f' | 'n'))
 }
 
 /// How many bytes stand before a line, which is numbered from 1.
@@ -204,34 +212,6 @@ fn split_at_error<'t>(text: &'t str, error: &Error) -> (&'t str, &'t str)
         Some(parts) => parts,
         None => (text, ""),
     }
-}
-
-/// What is open after a byte more: how many arrays and objects, whether a string is, and whether the next byte is escaped in it.
-fn open_past(opened: (usize, bool, bool), byte: u8) -> (usize, bool, bool)
-    requires { opened.0 + 1 < 2 ^ 64 }
-    ensures { result ≡ open_past opened byte }
-{
-    let (levels, in_string, is_escaped) = opened;
-    match byte {
-        _ if is_escaped => (levels, in_string, false),
-        b'\\' => (levels, in_string, in_string),
-        b'"' => (levels, !in_string, false),
-        _ if in_string => opened,
-        b'[' | b'{' => (levels + 1, false, false),
-        b']' | b'}' => (levels.saturating_sub(1), false, false),
-        _ => opened,
-    }
-}
-
-/// How many arrays and objects are open after some bytes of JSON.
-fn open_levels(bytes: &[u8]) -> usize
-    ensures { result ≡ levels_after bytes.now }
-{
-    let mut opened = (0usize, false, false);
-    for byte in bytes {
-        opened = open_past(opened, *byte);
-    }
-    opened.0
 }
 
 /// Whether another array or object begins after so many bytes of a text, within as many as `serde_json` takes.
@@ -272,23 +252,162 @@ fn before_bracket(text: &str) -> &str
     }
 }
 
+/// What is wrong in a string at a place in it, where so much is open.
+fn fault_in_string(opened: (usize, bool, bool), rest: &[u8]) -> Option<DocumentFault>
+    ensures open { IfSome result (λ _. (opened.1 ≡ true) × (opened.2 ≡ false)) }
+    ensures value { IfSome result (λ fault. IsOfString rest.now fault) }
+{
+    let (_, in_string, is_escaped) = opened;
+    if !in_string || is_escaped {
+        return None;
+    }
+    if begins_control(rest) {
+        return Some(DocumentFault::ControlCharacter);
+    }
+    if begins_bad_escape(rest) {
+        return Some(DocumentFault::BadEscape);
+    }
+    begins_lone_surrogate(rest).then_some(DocumentFault::LoneSurrogate)
+}
+
+/// How many bytes of a string at a place are an escape of a pair of surrogates, of which the second is no fault of its own.
+fn pair_length(opened: (usize, bool, bool), rest: &[u8]) -> usize {
+    let (_, in_string, is_escaped) = opened;
+    let is_pair = in_string && !is_escaped && has_first_half(rest, 0) && has_hex(rest, 8);
+    if is_pair { 12 } else { 0 }
+}
+
+/// What is wrong in the string that begins after so many bytes of a text, and how many bytes stand before that.
+fn string_fault(bytes: &[u8], start: usize) -> Option<(usize, DocumentFault)>
+    ensures { IfSome result (λ found. (found.0 ≤ length bytes.now)
+        × (is_in_string_after (take found.0 bytes.now) ≡ true)
+        × IsOfString (drop found.0 bytes.now) found.1) }
+{
+    let mut opened = (0usize, false, false);
+    let mut next = start;
+    for (index, byte) in bytes.iter().enumerate() {
+        let (_, rest) = bytes.split_at(index);
+        if start < index && !opened.1 {
+            return None;
+        }
+        if next <= index {
+            if let Some(fault) = fault_in_string(opened, rest) {
+                return Some((index, fault));
+            }
+        }
+        next = next.max(index.saturating_add(pair_length(opened, rest)));
+        opened = open_past(opened, *byte);
+    }
+    None
+}
+
+/// What a place has that other languages have and JSON has not.
+fn of_other_languages(rest: &str) -> Option<DocumentFault>
+    ensures { IfSome result (λ fault. ((before : List ℕ) → stands fault before rest.now ≡ true)
+        × (fault ≢ DocumentFault.NotUtf8) × (fault ≢ DocumentFault.TooDeep)) }
+{
+    if begins_comment(rest) {
+        return Some(DocumentFault::Comment);
+    }
+    if begins_by(rest, b'\'') {
+        return Some(DocumentFault::SingleQuote);
+    }
+    begins_not_finite(rest).then_some(DocumentFault::NotFinite)
+}
+
+/// The text before the word that a text ends by, blanks apart.
+fn word_start(text: &str) -> &str {
+    text.trim_end().trim_end_matches(is_of_word)
+}
+
+/// Whether a character may stand in a word or a number.
+fn is_of_word(c: char) -> bool {
+    is_of_number(c) || c.is_alphanumeric() || c == '_' || c == '$'
+}
+
+/// A name without quotes that stands in a text after some text.
+fn name_without_quotes<'t>(text: &'t str, before: &'t str) -> Option<(&'t str, DocumentFault)>
+    ensures { IfSome result (λ met. IsMetAfter text.now met.0.now met.1) }
+{
+    let name = text.strip_prefix(before)?;
+    let may_be = begins_word(name.as_bytes()) && before.trim_end().ends_with(['{', ',']);
+    let is_name = may_be && wants_name(before);
+    is_name.then_some((before, DocumentFault::NameWithoutQuotes))
+}
+
+/// What is wrong with the name that a text ends by or that follows it.
+fn name_fault<'t>(text: &'t str, before: &'t str) -> Option<(&'t str, DocumentFault)>
+    ensures { IfSome result (λ met. IsMetAfter text.now met.0.now met.1) }
+{
+    if let Some(met) = name_without_quotes(text, word_start(before)) {
+        return Some(met);
+    }
+    if let Some(met) = name_without_quotes(text, before) {
+        return Some(met);
+    }
+    let after = text.strip_prefix(before)?;
+    let may_be = before.trim_end().ends_with('"') && !begins_by(after, b':');
+    let lacks_colon = may_be && wants_colon(before);
+    lacks_colon.then_some((before, DocumentFault::MissingColon))
+}
+
+/// What a place has where a value has its place.
+fn value_fault<'t>(text: &'t str, before: &'t str, rest: &str) -> Option<(&'t str, DocumentFault)>
+    requires { text.now ≡ before.now ++ rest.now }
+    ensures { IfSome result (λ met. IsMetAfter text.now met.0.now met.1) }
+{
+    if begins_other_word(rest) {
+        return Some((before, DocumentFault::OtherWord));
+    }
+    if begins_leading_zero(rest) {
+        return Some((before, DocumentFault::LeadingZero));
+    }
+    if begins_plus_sign(rest) {
+        return Some((before, DocumentFault::PlusSign));
+    }
+    let point = rest.trim_start_matches(|c| matches!(c, '-' | '0'..='9'));
+    let before = text.strip_suffix(point)?;
+    is_bare_point(before, point).then_some((before, DocumentFault::BarePoint))
+}
+
+/// What a place in a document has, by the rules of arrays, objects, numbers and strings.
+fn met_inside<'t>(text: &'t str, before: &'t str, rest: &str) -> Option<(&'t str, DocumentFault)>
+    requires { text.now ≡ before.now ++ rest.now }
+    ensures { IfSome result (λ met. IsMetAfter text.now met.0.now met.1) }
+{
+    // Of a name with a comma after it `serde_json` tells the place after the comma.
+    let front = before_comma(before).unwrap_or(before);
+    if let Some(met) = name_fault(text, front) {
+        return Some(met);
+    }
+    if let Some(met) = name_fault(text, before) {
+        return Some(met);
+    }
+    if begins_item(rest) && wants_comma(before) && !closes_wrongly(before) {
+        return Some((before, DocumentFault::MissingComma));
+    }
+    if let Some(met) = value_fault(text, before, rest) {
+        return Some(met);
+    }
+    let (index, fault) = string_fault(text.as_bytes(), before.len())?;
+    let (before, _) = text.split_at_checked(index)?;
+    Some((before, fault))
+}
+
+/// The text before the blanks and the comma that a text ends by.
+fn value_end(text: &str) -> &str {
+    let text = text.trim_end();
+    text.strip_suffix(',').unwrap_or(text).trim_end()
+}
+
 /// What a fault says of a place in a text, by what stands before it and from there on, and the text before that. How deep
 /// the place is, is not looked at.
 fn met<'t>(text: &'t str, before: &'t str, rest: &str) -> (&'t str, DocumentFault)
     requires { text.now ≡ before.now ++ rest.now }
-    ensures stands { (after : List ℕ) × (text.now ≡ result.0.now ++ after)
-        × (stands result.1 after ≡ true) }
-    ensures utf8 { result.1 ≢ DocumentFault.NotUtf8 }
-    ensures depth { result.1 ≢ DocumentFault.TooDeep }
+    ensures { IsMetAfter text.now result.0.now result.1 }
 {
-    if begins_comment(rest) {
-        return (before, DocumentFault::Comment);
-    }
-    if begins_by(rest, b'\'') {
-        return (before, DocumentFault::SingleQuote);
-    }
-    if begins_not_finite(rest) {
-        return (before, DocumentFault::NotFinite);
+    if let Some(fault) = of_other_languages(rest) {
+        return (before, fault);
     }
     if begins_by(rest, b']') || begins_by(rest, b'}') {
         if let Some(before) = before_comma(before) {
@@ -298,10 +417,16 @@ fn met<'t>(text: &'t str, before: &'t str, rest: &str) -> (&'t str, DocumentFaul
     if let Some(before) = before_large_number(text, before) {
         return (before, DocumentFault::NumberOutOfRange);
     }
-    if open_levels(before.as_bytes()) == 0 && begins_value(rest) && !before.trim().is_empty() {
+    if let Some(before) = before_large_number(text, value_end(before)) {
+        return (before, DocumentFault::NumberOutOfRange);
+    }
+    if begins_value(rest) && !before.trim().is_empty() && open_levels(before.as_bytes()) == 0 {
         return (before, DocumentFault::SecondDocument);
     }
-    (before, DocumentFault::NotJson)
+    match met_inside(text, before, rest) {
+        Some(met) => met,
+        None => (before, DocumentFault::NotJson),
+    }
 }
 
 /// Why a text is refused at a place that `serde_json` tells.

@@ -28,13 +28,68 @@ const REFUSED: &[&str] = &[
     r#"{"a": [1, 2 -> line 1, column 12: the document ends too soon"#,
     "[\"abc\",\n -> line 2, column 1: the document ends too soon",
     r#"["abc -> line 1, column 6: the document ends too soon"#,
-    "[\"a\nb\"] -> line 1, column 2: not JSON",
     r#"{"a":1}} -> line 1, column 8: not JSON"#,
-    "[01] -> line 1, column 2: not JSON",
-    "{a:1} -> line 1, column 2: not JSON",
-    r#"["\x"] -> line 1, column 2: not JSON"#,
-    "[1 2] -> line 1, column 4: not JSON",
     "[,] -> line 1, column 2: not JSON",
+];
+
+/// A text with a fault in a string, and what is told of it.
+const IN_STRINGS: &[&str] = &[
+    "[\"a\nb\"] -> line 1, column 4: a control character in a string, where JSON has an escape as \\t",
+    "{\"é\tb\":1} -> line 1, column 4: a control character in a string, where JSON has an escape as \\t",
+    "{\"a\": 1, \"b\": \"c\u{1}\", \"d\": \"\u{2}\"} -> line 1, column 17: a control character in a string, where JSON has an escape as \\t",
+    r#"["\x"] -> line 1, column 3: a backslash that begins no escape of JSON"#,
+    r#"["a\\", "\"\u12G4"] -> line 1, column 12: a backslash that begins no escape of JSON"#,
+    r#"{"\n\'":1} -> line 1, column 5: a backslash that begins no escape of JSON"#,
+    r#"["\ud83d\ude00\ud83d\udeGG"] -> line 1, column 21: a backslash that begins no escape of JSON"#,
+    r#""\ud800" -> line 1, column 2: an escape of half a pair of surrogates"#,
+    r#"["\uD83D\uDE00\udc00"] -> line 1, column 15: an escape of half a pair of surrogates"#,
+    r#"["\ud83d\n"] -> line 1, column 3: an escape of half a pair of surrogates"#,
+    r#"["\ud83d\\ude00"] -> line 1, column 3: an escape of half a pair of surrogates"#,
+];
+
+/// A text that lacks a comma, a colon or quotes, and what is told of it.
+const LACKING: &[&str] = &[
+    "[1 2] -> line 1, column 4: a comma is missing before this",
+    r#"{"a":1 "b":2} -> line 1, column 8: a comma is missing before this"#,
+    "{\"a\":\"x\"\n\"b\":2} -> line 2, column 1: a comma is missing before this",
+    r#"[["a"] "b"] -> line 1, column 8: a comma is missing before this"#,
+    r#"{"a":{"b":1} c:2} -> line 1, column 14: a comma is missing before this"#,
+    r#"["a" "b\x"] -> line 1, column 6: a comma is missing before this"#,
+    "[true null] -> line 1, column 7: a comma is missing before this",
+    r#"{"a":"he said "yes""} -> line 1, column 16: a comma is missing before this"#,
+    r#"{"a" 1} -> line 1, column 6: a colon is missing after a name"#,
+    r#"{"a":1, "b" "c"} -> line 1, column 13: a colon is missing after a name"#,
+    r#"{"a"} -> line 1, column 5: a colon is missing after a name"#,
+    r#"{"a" , 1} -> line 1, column 6: a colon is missing after a name"#,
+    r#"{"x":[{"a" = 1}]} -> line 1, column 12: a colon is missing after a name"#,
+    "{a:1} -> line 1, column 2: a name without double quotes",
+    r#"{"a":1, b: 2} -> line 1, column 9: a name without double quotes"#,
+    "{1 : 2} -> line 1, column 2: a name without double quotes",
+    "{true, 2} -> line 1, column 2: a name without double quotes",
+    "{None: 2} -> line 1, column 2: a name without double quotes",
+    r#"["a": 1] -> line 1, column 7: not JSON"#,
+    r#"[{"a":} 2] -> line 1, column 9: not JSON"#,
+    "[[1} 2] -> line 1, column 6: not JSON",
+];
+
+/// A text with a word or a number that is none of JSON, and what is told of it.
+const WORDS: &[&str] = &[
+    "[True] -> line 1, column 2: a word that JSON writes as true, false or null",
+    r#"{"a": None} -> line 1, column 7: a word that JSON writes as true, false or null"#,
+    "FALSE -> line 1, column 1: a word that JSON writes as true, false or null",
+    "[1, Null, 2] -> line 1, column 5: a word that JSON writes as true, false or null",
+    "[Nulls] -> line 1, column 2: not JSON",
+    "[tru] -> line 1, column 2: not JSON",
+    "[01] -> line 1, column 2: a number that begins with 0 and a digit",
+    "-01 -> line 1, column 1: a number that begins with 0 and a digit",
+    r#"{"a": +1} -> line 1, column 7: a number with a plus sign before it"#,
+    "[.5] -> line 1, column 2: a point without digits on both sides",
+    "[1, -.5] -> line 1, column 6: a point without digits on both sides",
+    "[12.] -> line 1, column 4: a point without digits on both sides",
+    "[1.e5] -> line 1, column 3: a point without digits on both sides",
+    "[...] -> line 1, column 2: not JSON",
+    r#"{"a": 1e400, "b": 2} -> line 1, column 7: a number that is too large"#,
+    "[1e400 ]\n -> line 1, column 2: a number that is too large",
 ];
 
 /// Bytes that are not UTF-8, and what is told of them.
@@ -53,6 +108,11 @@ fn told(alloc: Global, bytes: &[u8]) -> Came {
         Ok(value) => value.to_string(alloc)?,
         Err(e) => format!(in alloc; "{e}")?,
     })
+}
+
+/// What is told of a text.
+fn told_of_text(alloc: Global, text: &str) -> Came {
+    told(alloc, text.as_bytes())
 }
 
 /// Whether a text is read, or what is told of it.
@@ -100,6 +160,21 @@ fn takes_127_levels(rt: HostRuntime) -> Result<(), Fail> {
 
 #[test]
 fn tells_what_is_no_document(rt: HostRuntime) -> Result<(), Fail> {
-    hold_rows(&rt, REFUSED, |alloc, text| told(alloc, text.as_bytes()))?;
+    hold_rows(&rt, REFUSED, told_of_text)?;
     hold_pairs(&rt, NOT_UTF8, told)
+}
+
+#[test]
+fn tells_what_is_wrong_in_strings(rt: HostRuntime) -> Result<(), Fail> {
+    hold_rows(&rt, IN_STRINGS, told_of_text)
+}
+
+#[test]
+fn tells_what_is_missing(rt: HostRuntime) -> Result<(), Fail> {
+    hold_rows(&rt, LACKING, told_of_text)
+}
+
+#[test]
+fn tells_words_and_numbers(rt: HostRuntime) -> Result<(), Fail> {
+    hold_rows(&rt, WORDS, told_of_text)
 }

@@ -1,5 +1,5 @@
 use Rattle.std.proofs.Common.{◌≡◌, ◌≤◌, ◌+◌, take}
-use Rattle.jsonpath_document.specs.Document.{place_after}
+use Rattle.jsonpath_document.specs.Place.{place_after}
 use Rattle.jsonpath_document.proofs.document.DocumentError.after.Given as goal
 
 abbrev pub invariant-loop-byte : goal.invariant-loop-byte
