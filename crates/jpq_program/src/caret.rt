@@ -1,6 +1,7 @@
-//! A path's text with a caret under a place.
+//! A path's text, or the line of a document, with a caret under a place.
 
 use std::alloc::AllocError;
+use std::str::from_utf8;
 use unicode_segmentation::UnicodeSegmentation;
 use unicode_width::UnicodeWidthStr;
 
@@ -9,6 +10,13 @@ const BEFORE: usize = 60;
 
 /// How many bytes from a place on are shown at most.
 const AFTER: usize = 40;
+
+/// How many bytes of a document's line are shown at most before a place. With two blanks, twice three dots and what follows,
+/// these are 78 columns.
+const LINE_BEFORE: usize = 42;
+
+/// How many bytes of a document's line are shown at most from a place on.
+const LINE_AFTER: usize = 28;
 
 /// A text that is cut round a place.
 #[derive(Drop)]
@@ -28,7 +36,60 @@ fn split(text: &str, index: usize) -> (&str, &str) {
     text.split_at(text.floor_char_boundary(index))
 }
 
+/// The text of the last bytes before a place, and whether bytes before it are left out. A character that is cut is left out.
+fn last_text(bytes: &[u8], count: usize) -> (&str, bool) {
+    let start = bytes.len().saturating_sub(count);
+    let mut text = "";
+    for skipped in 0usize..4 {
+        let near = bytes.get(start.saturating_add(skipped)..).unwrap_or(&[]);
+        if let Ok(whole) = from_utf8(near) {
+            text = whole;
+            break;
+        }
+    }
+    (text, start > 0)
+}
+
+/// The text of the first bytes, and whether bytes after it are left out. It ends before a character that is cut, or is none.
+fn first_text(bytes: &[u8], count: usize) -> (&str, bool) {
+    let near = bytes.get(..count).unwrap_or(bytes);
+    let valid = match from_utf8(near) {
+        Ok(_) => near.len(),
+        Err(e) => e.valid_up_to(),
+    };
+    let text = near
+        .get(..valid)
+        .and_then(|front| from_utf8(front).ok())
+        .unwrap_or("");
+    (text, valid < bytes.len())
+}
+
 impl<'a> Window<'a> {
+    /// The line round a place in a document, which is the number of a byte from 1, without the blanks at its ends.
+    fn of_line(bytes: &'a [u8], place: usize) -> Window<'a> {
+        let (before, after) = bytes.split_at(place.saturating_sub(1).min(bytes.len()));
+        let (before, begins_late) = last_text(before, LINE_BEFORE);
+        let (after, ends_early) = first_text(after, LINE_AFTER);
+        let (before, begins_late) = match before.rsplit_once('\n') {
+            Some((_, line)) => (line, false),
+            None => (before, begins_late),
+        };
+        let (after, ends_early) = match after.split_once('\n') {
+            Some((line, _)) => (line, false),
+            None => (after, ends_early),
+        };
+        Window {
+            begins_late,
+            before: if begins_late {
+                before
+            } else {
+                before.trim_start()
+            },
+            after: if ends_early { after } else { after.trim_end() },
+            ends_early,
+        }
+    }
+
     /// The text round a place, which is the number of a byte from 1.
     fn new(text: &'a str, place: usize) -> Window<'a> {
         let (before, after) = split(text, place.saturating_sub(1));
@@ -111,13 +172,30 @@ fn escaped_columns(cluster: &str) -> usize {
     columns
 }
 
-/// Appends a text in a line that is indented by two spaces, cut round a place, and below it a caret under that place, the number
-/// of a byte from 1.
-pub(crate) fn push_with_caret(to: &mut String, text: &str, place: usize) -> Result<(), AllocError> {
-    let window = Window::new(text, place);
+/// Appends what a window shows, in a line that is indented by two spaces, and below it the caret.
+fn push_window(to: &mut String, window: &Window<'_>) -> Result<(), AllocError> {
     to.push_str("  ")?;
     window.push_text(to)?;
     to.push_str("\n  ")?;
     window.push_caret(to)?;
     to.push('\n')
+}
+
+/// Appends a text in a line that is indented by two spaces, cut round a place, and below it a caret under that place, the number
+/// of a byte from 1.
+pub(crate) fn push_with_caret(to: &mut String, text: &str, place: usize) -> Result<(), AllocError> {
+    push_window(to, &Window::new(text, place))
+}
+
+/// Appends the line of a document round a place, the number of a byte from 1, in the same way. Of an empty line it appends nothing.
+pub(crate) fn push_line_with_caret(
+    to: &mut String,
+    bytes: &[u8],
+    place: usize,
+) -> Result<(), AllocError> {
+    let window = Window::of_line(bytes, place);
+    if window.before.is_empty() && window.after.is_empty() {
+        return Ok(());
+    }
+    push_window(to, &window)
 }

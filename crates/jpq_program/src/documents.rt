@@ -3,6 +3,7 @@
 use crate::answering::Answering;
 use crate::encodings::{encoding_of, without_mark};
 use crate::inputs::Inputs;
+use crate::refusal::push_document_refusal;
 use crate::source::{Source, shown_name};
 use crate::streams::{Stop, Streams};
 use jsonpath_document::{DocumentError, read_document};
@@ -80,12 +81,14 @@ impl Documents<'_> {
         streams.refused_documents = streams.refused_documents.saturating_add(1);
         if streams.refused_documents <= TOLD_LINES {
             let name = shown_name(source.name);
-            let line = e.line.saturating_add(source.line.saturating_sub(1));
-            let e = DocumentError { line, ..e };
-            let message = match encoding_of(bytes) {
-                Some(encoding) => format!(in self.alloc; "jpq: {name}: {encoding}\n")?,
-                None => format!(in self.alloc; "jpq: {name}: {e}\n")?,
-            };
+            let mut message = String::new(self.alloc);
+            match encoding_of(bytes) {
+                Some(encoding) => write!(message, "jpq: {name}: {encoding}\n")?,
+                None => {
+                    let lines_before = source.line.saturating_sub(1);
+                    push_document_refusal(&mut message, name, lines_before, bytes, &e)?;
+                }
+            }
             streams.tell(message.as_str());
         }
         if self.strict {

@@ -1,7 +1,8 @@
-//! The message about a refused path, for a person.
+//! The messages about a refused path and a refused document, for a person.
 
-use crate::caret::push_with_caret;
+use crate::caret::{push_line_with_caret, push_with_caret};
 use crate::tokens::{first_token, open_quote};
+use jsonpath_document::DocumentError;
 use serde_json_path::{Numbers, ParseError, ParseErrorKind};
 use std::alloc::AllocError;
 
@@ -102,4 +103,19 @@ pub(crate) fn push_refusal(
         Some(hint) => write!(to, "  {hint}\n"),
         None => Ok(()),
     }
+}
+
+/// Appends the lines of a refused document: which one, where and why, and its line round the place with a caret. `lines_before`
+/// says how many lines of the input stand before its bytes.
+pub(crate) fn push_document_refusal(
+    to: &mut String,
+    name: &str,
+    lines_before: usize,
+    bytes: &[u8],
+    e: &DocumentError,
+) -> Result<(), AllocError> {
+    let line = e.line.saturating_add(lines_before);
+    let told = DocumentError { line, ..*e };
+    write!(to, "jpq: {name}: {told}\n")?;
+    push_line_with_caret(to, bytes, e.position)
 }
