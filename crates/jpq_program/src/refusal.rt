@@ -19,15 +19,12 @@ fn words(kind: ParseErrorKind, numbers: Numbers) -> &'static str {
         Kind::ExpectedSelector => {
             "expected a selector (a name in quotes, an index, a slice, '*' or '?')"
         }
-        Kind::IntegerOutOfRange => "integers go from -(2^53 - 1) to 2^53 - 1",
+        Kind::IntegerOutOfRange => "an integer that is out of range",
         Kind::ExponentOrEmptyFraction => match numbers {
             Numbers::Whole => "a number has no exponent, and digits after its point",
             Numbers::All => "a number has digits after its point, and in its exponent",
         },
-        Kind::NumberOutOfRange => match numbers {
-            Numbers::Whole => "numbers go from -2^63 to 2^64 - 1",
-            Numbers::All => "numbers go to 1.7976931348623157e308",
-        },
+        Kind::NumberOutOfRange => "a number that is out of range",
         Kind::FractionTooLong => "a number has at most 9 digits after its point",
         Kind::ExpectedExpression => {
             "expected a path, a number, a string, true, false, null or a call"
@@ -80,8 +77,8 @@ fn push_found(to: &mut String, text: &str, place: usize) -> Result<(), AllocErro
     }
 }
 
-/// Appends the lines of a refusal by that rule: what is wrong and where, the text with a caret under the place, and a hint if there is one.
-/// `name` says which path it is, as `the path` or `path 2`.
+/// Appends the lines of a refusal by that rule: what is wrong and where, the text with a caret under the place, and a hint if there
+/// is one. `name` says which path it is, as `the path` or `path 2`.
 pub(crate) fn push_refusal(
     to: &mut String,
     name: &str,

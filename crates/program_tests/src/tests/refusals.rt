@@ -26,7 +26,7 @@ const REFUSALS: &[&str] = &[
     "$[?length(@.*) > 1] -> 11 ~ an argument of the wrong type ~ write `count(@.*)`: `length` takes one value",
     "/a/b -> 1 ~ a path begins with '$', found '/' ~ write `$.a.b` for the JSON pointer or XPath /a/b",
     "$[?@ == 1.] -> 9 ~ a number has digits after its point, and in its exponent ~ write `1` for 1., and digits after an `e`",
-    "$[?@ == 1e400] -> 9 ~ numbers go to 1.7976931348623157e308 ~ a number of at most 1.7976931348623157e308",
+    "$[?@ == 1e400] -> 9 ~ a number that is out of range ~ a number of at most 1.7976931348623157e308",
     "$[?first(@.*) == 4] -> 4 ~ no such function, found 'first' ~ the RFC's functions are `length`, `count`, `match`, `search` and `value`",
     "$/a/b -> 2 ~ the path ends before this, found '/' ~ write `$.a.b`: dots for slashes",
     "$[?lenght(@.a) > 1] -> 4 ~ no such function, found 'lenght' ~ write `length`",
