@@ -1,7 +1,5 @@
 //! What is written of a document.
 
-ghost use Rattle.std.specs.Prelude.{◌≡◌, IfErr};
-
 use crate::answers::push_answer;
 use crate::inexact::inexact_number;
 use crate::paths::AskedPath;
@@ -9,12 +7,13 @@ use crate::rows::{FirstNode, Separator, push_row};
 use crate::showing::{Showing, end_of};
 use crate::source::{Heads, Source, shown_name};
 use crate::streams::{Stop, Streams};
+use crate::written::Written;
 use jpq_options::options::Shown;
 use jsonpath_document::read_document;
 use jsonpath_lines::{Form, Output, distinct_nodes};
 use serde_json::Value;
+use serde_json_path::QueryError;
 use serde_json_path::functions::CachedPatterns;
-use serde_json_path::{LocatedNode, QueryError, Sink, Taken};
 use std::alloc::Global;
 use std::io::Write;
 
@@ -31,76 +30,6 @@ pub(crate) struct Answering<'a> {
     pub(crate) total: bool,
     /// Whether notes are left out.
     pub(crate) silent: bool,
-}
-
-/// The nodes of a path as they are written.
-#[derive(Drop)]
-struct Written<'a, 's, W, E> {
-    showing: &'a Showing<'a>,
-    streams: &'a mut Streams<'s, W, E>,
-    /// What each line, or the members of each object, begin with.
-    head: &'a str,
-    /// Whether a node was written before in the same array.
-    is_later: bool,
-    limit: Option<u64>,
-    /// How many nodes were written.
-    count: u64,
-    /// Why writing ended.
-    stop: Option<Stop>,
-}
-
-impl<W: Write, E: Write> Written<'_, '_, W, E> {
-    /// Appends what is shown of a node.
-    #[inline(always)]
-    fn push(&mut self, node: &LocatedNode<'_>) -> Result<(), QueryError>
-        ensures { IfErr result (λ e. e ≡ QueryError.Memory) }
-    {
-        let pending = &mut self.streams.pending;
-        if self.showing.output.form == Form::Json {
-            self.showing
-                .push_object(pending, self.head, self.is_later, node)?;
-            self.is_later = true;
-        } else {
-            self.showing.push_line(pending, self.head, node)?;
-        }
-        Ok(())
-    }
-
-    /// Whether as many nodes were written as are wanted.
-    fn is_reached(&self) -> bool {
-        self.limit.is_some_and(|limit| limit <= self.count)
-    }
-
-    /// Takes a node. Says whether more are wanted.
-    #[inline(always)]
-    fn take_node(&mut self, node: &LocatedNode<'_>) -> Result<bool, QueryError>
-        ensures { IfErr result (λ e. e ≡ QueryError.Memory) }
-    {
-        self.push(node)?;
-        // A walk that gave one node in each nanosecond would take 584 years to come to the error.
-        self.count = self.count.checked_add(1).ok_or(QueryError::Memory)?;
-        if let Err(stop) = self.streams.write_if_full() {
-            self.stop = Some(stop);
-            return Ok(false);
-        }
-        Ok(!self.is_reached())
-    }
-}
-
-impl<'b, W: Write, E: Write> Sink<'b> for Written<'_, '_, W, E> {
-    ghost use Rattle.std.specs.Prelude.{◌≡◌, true};
-
-    ghost took = { λ _ _ _. true ≡ true };
-
-    ghost filled = { λ _ _ _. true ≡ true };
-
-    #[inline(always)]
-    fn take(&mut self, node: LocatedNode<'b>) -> Result<Taken<'b>, QueryError> {
-        if self.take_node(&node)? {
-            return Ok(Taken::More(node.into_steps()));
-        }
-        Ok(Taken::Enough)
-    }
 }
 
 /// The least of two limits.

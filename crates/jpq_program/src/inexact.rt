@@ -46,6 +46,7 @@ fn number_around(bytes: &[u8], index: usize) -> (&[u8], usize) {
 }
 
 /// Where strings of JSON begin and end, up to a place.
+#[derive(Drop)]
 struct Strings<'a> {
     left: &'a [u8],
     passed: usize,

@@ -24,3 +24,4 @@ mod showing;
 mod source;
 mod streams;
 mod tokens;
+mod written;
