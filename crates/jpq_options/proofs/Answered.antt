@@ -1,5 +1,5 @@
 -- What is answered, by what was found or by what `clap` says.
-use Rattle.jpq_options.proofs.Words.{arith, common_steps, ◌≡◌, ◌∙◌, ◌⊎◌, ◌&&◌, Bool, true, false, not, cond, List, [], ◌∷◌, map, Option, Some, is_some, option_map, refl, sym, ap, subst, Result, IfOk, IsErr, filter, Bor, length-map, first_form, is_empty, App, IsAmong, Kinds, Row, Text, fault_of, is_simple, is_simple_and_free, matches_of, ValueParser, ArgumentConflict, OutOfMemory, jpq, IsRequestOf, AreOptions, IsRefusal, IsTold, texts, form_of_row, forms, given_forms, has_two, misuse_by, misuse_in, Shown, AllocError, ErrorKind, clap_on_literals, Options, Request}
+use Rattle.jpq_options.proofs.Words.{arith, common_steps, ◌≡◌, ◌∙◌, ◌⊎◌, ◌&&◌, Bool, true, false, not, cond, List, [], ◌∷◌, map, Option, Some, is_some, option_map, refl, sym, ap, subst, Result, IfOk, IsErr, filter, Bor, length-map, first_form, is_empty, App, IsAmong, Kinds, Row, Text, fault_of, is_simple, is_simple_and_free, matches_of, ValueParser, ArgumentConflict, OutOfMemory, jpq, IsRequestOf, AreOptions, IsRefusal, IsTold, texts, form_of_row, forms, given_forms, has_two, is_given, misuse_by, misuse_in, Shown, AllocError, ErrorKind, clap_on_literals, Options, Request}
 
 -- ---- forms
 

@@ -8,9 +8,9 @@ pub use Rattle.clap.specs.declared.builder.value_parser.ValueParser.{ValueParser
 pub use Rattle.clap.specs.declared.error.kind.ErrorKind.{ErrorKind}
 pub use Rattle.clap.specs.declared.error.kind.ErrorKind.TheVariants.{ArgumentConflict, OutOfMemory}
 pub use Rattle.clap.specs.declared.parser.matches.Found.{Found}
-pub use Rattle.jpq_options.specs.Options.{AreOptions, IsNumberIn, IsRefusal, IsRequestOf, IsTold, checks_file, first_form, form_of_row, forms, given_forms, has_two, is_table, lacks_path, lacks_table, misuse_by, misuse_in, texts}
+pub use Rattle.jpq_options.specs.Options.{AreOptions, IsNumberIn, IsRefusal, IsRequestOf, IsTold, checks_file, first_form, form_of_row, forms, given_forms, has_two, is_table, kind_of_misuse, lacks_path, lacks_table, misuse_by, misuse_in, texts}
 pub use Rattle.jpq_options.specs.Pairs.{conflicts, is_given, is_given_so, needs, pair_of_row, values_of}
-pub use Rattle.jpq_options.specs.Paths.{comment_start, path_in_line}
+pub use Rattle.jpq_options.specs.Paths.{comment_start, path_in_line, trimmed}
 pub use Rattle.jpq_options.specs.Table.{file_rule, jpq, path_rule, rule_of_setting, setting_of, settings}
 pub use Rattle.jpq_options.specs.declared.options.OptionRow.{OptionRow}
 pub use Rattle.jpq_options.specs.declared.options.Options.{Options}
@@ -20,4 +20,8 @@ pub use Rattle.serde_json_path_nodes.proofs.Words.{AllocError, Bool, IfOk, IfOk-
 pub use Rattle.serde_json_path_syntax.proofs.Words.{Bor, fold-append}
 pub use Rattle.std.proofs.lemmas.Iterator.Consumers.{YieldsList-at, map_from_collect}
 pub use Rattle.std.proofs.lemmas.Iterator.Splits.{YieldsList-from_str_split}
+pub use Rattle.std.proofs.Common.{append-nil, append_assoc}
+pub use Rattle.std.proofs.lemmas.Str.Ascii.{trim_ascii_is}
 pub use Rattle.std.specs.List.{list_any}
+pub use Rattle.std.proofs.lemmas.List.Folds.{list_any_at}
+pub use Rattle.std.specs.Prelude.{drop, ◌||◌}

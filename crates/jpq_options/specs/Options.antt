@@ -27,7 +27,7 @@ use Rattle.jpq_options.specs.declared.options.Shown.{Shown}
 use Rattle.jpq_options.specs.declared.options.Shown.TheVariants.{Nodes, Tsv, Csv}
 use Rattle.jpq_options.specs.declared.misuse.Misuse.{Misuse}
 use Rattle.jpq_options.specs.declared.misuse.Misuse.TheVariants.{Together, Without, NoPath, CheckOfFile}
-use Rattle.jsonpath_lines.specs.declared.forms.Form.TheVariants as form
+use Rattle.jsonpath_lines.specs.declared.forms.Form.TheVariants as lines
 
 -- ---- the paths and the files
 
@@ -48,10 +48,10 @@ files_of rows =
 
 -- the options of which one may be used, and what each asks to show
 abbrev pub forms : List (Text × Shown)
-forms = (codes "values", Nodes form.Value) ∷ (codes "raw", Nodes form.Raw)
-    ∷ (codes "locations", Nodes form.Location) ∷ (codes "pointers", Nodes form.Pointer)
-    ∷ (codes "json", Nodes form.Json) ∷ (codes "tsv", Tsv) ∷ (codes "csv", Csv)
-    ∷ (codes "count", Nodes form.Count) ∷ (codes "quiet", Nodes form.Nothing) ∷ []
+forms = (codes "values", Nodes lines.Value) ∷ (codes "raw", Nodes lines.Raw)
+    ∷ (codes "locations", Nodes lines.Location) ∷ (codes "pointers", Nodes lines.Pointer)
+    ∷ (codes "json", Nodes lines.Json) ∷ (codes "tsv", Tsv) ∷ (codes "csv", Csv)
+    ∷ (codes "count", Nodes lines.Count) ∷ (codes "quiet", Nodes lines.Nothing) ∷ []
 
 -- a row of the code's table
 abbrev pub form_of_row : Bor Text × Shown → Text × Shown
@@ -61,7 +61,7 @@ abbrev pub given_forms : List (Text × Shown) → List Row → List (Text × Sho
 given_forms all rows = filter (λ f. is_given f.0 rows) all
 
 abbrev pub first_form : List (Text × Shown) → Shown
-first_form [] = Nodes form.LocationAndValue
+first_form [] = Nodes lines.LocationAndValue
 first_form (f ∷ fs) = f.1
 
 abbrev pub has_two : List (Text × Shown) → Bool
@@ -98,12 +98,12 @@ abbrev pub texts : List (Bor Text) → List Text
 texts = map (λ s. s.now)
 
 -- The options are those that the rows ask for, and this is shown.
-pub record AreOptions (rows : List Row) (shown : Shown) (o : Options) : Type 0 where
+pub record AreOptions (rows : List Row) (form : Shown) (o : Options) : Type 0 where
   pub paths : texts o.paths.items ≡ paths_of rows
   pub paths_files : texts o.paths_files.items ≡ values_of (codes "from-file") rows
   pub bindings : texts o.bindings.items ≡ values_of (codes "let") rows
   pub files : texts o.files.items ≡ files_of rows
-  pub shown : o.shown ≡ shown
+  pub shown : o.shown ≡ form
   pub header : o.header ≡ is_given (codes "header") rows
   pub layout : o.layout ≡ layout_of (is_indented rows)
   pub indent : IsNumberIn (one_of (codes "indent") rows) o.indent
