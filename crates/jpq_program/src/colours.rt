@@ -85,10 +85,10 @@ fn part_of(parameters: &str, text: &str, after: &str) -> Option<Part> {
 }
 
 /// A line in the usual colours, in those of a palette. The line has no escape character of its own.
-pub(crate) fn recolored(
+pub(crate) fn recolored<'p>(
     alloc: Global,
-    line: &str,
-    palette: &Palette<'_>,
+    line: &'p str,
+    palette: &Palette<'p>,
 ) -> Result<String, AllocError> {
     let mut text = String::new(alloc);
     let mut rest = line;
