@@ -3,9 +3,7 @@
 ghost use Rattle.std.specs.Prelude.{ℕ, ◌<◌, ◌≤◌, length};
 ghost use Rattle.serde_json_path_syntax.specs.Words.{NamesBelow, nodes_in, number_of, parts_bound};
 
-use serde_json_path_syntax::{
-    Basic, Checked, Node, Operand, Part, QueryKind, Segment, SegmentKind, Selector,
-};
+use serde_json_path_syntax::{Basic, Checked, Node, Operand, Part, QueryKind, Segment, Selector};
 use std::slice;
 
 /// A part of a path that is often meant otherwise.
@@ -63,23 +61,6 @@ const REASONS: &[(Slip, &str)] = &[
     ),
 ];
 
-/// The name of a segment that has this name alone in brackets.
-fn quoted_name<'t>(tree: &'t Checked, segment: &Segment) -> Option<&'t str>
-    requires { (kind : SegmentKind)
-        → NamesBelow (length (nodes_in tree.now)) (Node.Segment kind segment.now) }
-{
-    let Segment::LongHand(selectors) = segment else {
-        return None;
-    };
-    match selectors.as_slice() {
-        [selector] => match tree.node(*selector) {
-            Node::Selector(Selector::Name(own)) => Some(own.as_str()),
-            _ => None,
-        },
-        _ => None,
-    }
-}
-
 impl Slip {
     /// Whether a node of a tree is this part.
     fn is_at(&self, tree: &Checked, node: &Node) -> bool
@@ -93,12 +74,19 @@ impl Slip {
                     ..
                 },
             ) => { own.as_str() == *name }
-            (Slip::Quoted(name), Node::Segment { segment, .. }) => {
-                quoted_name(tree, segment).is_some_and(|own| own == *name)
-            }
-            (Slip::QuotedDot, Node::Segment { segment, .. }) => {
-                quoted_name(tree, segment).is_some_and(|own| own.contains('.'))
-            }
+            (
+                Slip::Quoted(_) | Slip::QuotedDot,
+                Node::Segment {
+                    segment: Segment::LongHand(selectors),
+                    ..
+                },
+            ) => match selectors.as_slice() {
+                [selector] => match tree.node(*selector) {
+                    Node::Selector(Selector::Name(own)) => self.is_quoted(own.as_str()),
+                    _ => false,
+                },
+                _ => false,
+            },
             (Slip::StepZero, Node::Selector(Selector::Slice(slice))) => slice.step == Some(0),
             (Slip::RootCompared, Node::Basic(Basic::Relation { left, right, .. })) => {
                 is_root(tree, *left) && is_literal(tree.node(*right))
@@ -120,6 +108,14 @@ impl Slip {
             }
             (Slip::Match, Node::Call { name, .. }) => name.as_str() == "match",
             _ => false,
+        }
+    }
+
+    /// Whether a name alone in brackets is this part.
+    fn is_quoted(&self, own: &str) -> bool {
+        match self {
+            Slip::Quoted(name) => own == *name,
+            _ => own.contains('.'),
         }
     }
 

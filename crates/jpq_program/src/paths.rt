@@ -1,5 +1,6 @@
 //! The paths that a command line asks for.
 
+ghost use Rattle.std.specs.Prelude.{IfOk};
 ghost use Rattle.serde_json_path.specs.Paths.{path_signatures};
 ghost use Rattle.serde_json_path.specs.Fitting.{FitsBuiltin, FitsBuiltin-prop};
 
@@ -40,18 +41,21 @@ struct PathReading<'a> {
 }
 
 impl PathReading<'_> {
-    /// A path with values for the names that it has.
-    fn with_values(&mut self, path: JsonPath) -> Result<JsonPath, ParseErrorKind> {
+    /// A path with values for the names that it has. It fails where memory is refused.
+    fn with_values(&mut self, path: JsonPath) -> Result<JsonPath, Stop>
+        requires { FitsBuiltin (path_signatures path.entry) }
+        ensures { IfOk result (λ path. FitsBuiltin (path_signatures path)) }
+    {
         if self.bindings.is_empty() {
             return Ok(path);
         }
-        let Ok(text) = path.to_text(self.alloc) else {
-            return Err(ParseErrorKind::NoMemory);
-        };
-        let Ok(text) = with_values(self.alloc, text.as_str(), &self.bindings, &mut self.used) else {
-            return Err(ParseErrorKind::NoMemory);
-        };
-        JsonPath::parse_by(self.alloc, text.as_str(), self.numbers).map_err(|e| e.kind())
+        let text = path.to_text(self.alloc)?;
+        let text = with_values(self.alloc, text.as_str(), &self.bindings, &mut self.used)?;
+        match JsonPath::parse_by(self.alloc, text.as_str(), self.numbers) {
+            Ok(path) => Ok(path),
+            // Values are quoted, so that the text is a path again.
+            Err(_) => Err(Stop::Memory),
+        }
     }
 
     /// Parses a path, or tells why it is none.
@@ -63,9 +67,7 @@ impl PathReading<'_> {
     ) -> Result<Option<AskedPath>, Stop> {
         let e = match JsonPath::parse_by(self.alloc, text, self.numbers) {
             Ok(path) => {
-                let Ok(path) = self.with_values(path) else {
-                    return Err(Stop::Memory);
-                };
+                let path = self.with_values(path)?;
                 let text = String::from_str(self.alloc, text)?;
                 return Ok(Some(AskedPath { path, text, name }));
             }
