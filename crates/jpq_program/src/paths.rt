@@ -43,7 +43,7 @@ struct PathReading<'a> {
 impl PathReading<'_> {
     /// A path with values for the names that it has. It fails where memory is refused.
     fn with_values(&mut self, path: JsonPath) -> Result<JsonPath, Stop>
-        requires { FitsBuiltin (path_signatures path.entry) }
+        requires { FitsBuiltin (path_signatures path) }
         ensures { IfOk result (λ path. FitsBuiltin (path_signatures path)) }
     {
         if self.bindings.is_empty() {
