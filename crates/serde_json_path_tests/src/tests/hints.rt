@@ -8,7 +8,7 @@ use std::test::Fail;
 use test_rows::{Came, hold_nested, hold_rows};
 
 /// A text, the kind and the position of its refusal, and what was probably meant.
-const HINTS: &[&str] = &[
+const OUTSIDE_FILTERS: &[&str] = &[
     // At the root and after the path.
     "$.a.length() -> TextAfterPath 11 ~ a function only stands in a filter: `$[?length(@.a) > 1]`",
     "$.a.size() -> TextAfterPath 9 ~ a function only stands in a filter: `$[?length(@.a) > 1]`",
@@ -159,6 +159,10 @@ const HINTS: &[&str] = &[
     r#"$[\"a\"] -> ExpectedSelector 3 ~ `['a']`: no backslash before a quote"#,
     "$[0］ -> ExpectedClosingBracket 4 ~ plain `[` and `]`, as in `$[0]`",
     "$[?@.a］ -> ExpectedClosingBracket 10 ~ plain `[` and `]`, as in `$[0]`",
+];
+
+/// The same, in filters, strings and numbers.
+const IN_FILTERS: &[&str] = &[
     // After an operand of a filter.
     "$[?@.a = 1] -> ExpectedClosingBracket 8 ~ equality is written ==",
     "$[?@.a=1] -> ExpectedClosingBracket 7 ~ equality is written ==",
@@ -377,8 +381,13 @@ fn hinted_by_all(alloc: Global, text: &str) -> Came {
 }
 
 #[test]
-fn tells_what_was_meant(rt: HostRuntime) -> Result<(), Fail> {
-    hold_rows(&rt, HINTS, hinted)?;
+fn tells_what_was_meant_outside_filters(rt: HostRuntime) -> Result<(), Fail> {
+    hold_rows(&rt, OUTSIDE_FILTERS, hinted)
+}
+
+#[test]
+fn tells_what_was_meant_in_filters(rt: HostRuntime) -> Result<(), Fail> {
+    hold_rows(&rt, IN_FILTERS, hinted)?;
     hold_rows(&rt, BY_ALL_NUMBERS, hinted_by_all)?;
     hold_nested(&rt, &[(PARENTHESES, 128, TOO_DEEP)], hinted)
 }
