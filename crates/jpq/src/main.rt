@@ -12,6 +12,7 @@
 use jpq_program::colours::{Colours, takes_colors};
 use jpq_program::inputs::Inputs;
 use jpq_program::run::run;
+use jpq_program::streams::Streams;
 use std::fs::File;
 use std::io::{IsTerminal, Read, Stdin, Write};
 use std::process::ExitCode;
@@ -85,7 +86,7 @@ fn main(rt: HostRuntime) -> ExitCode {
         Err(e) => return ExitCode::from(refuse_words(&e, &mut err)),
     };
     let mut inputs = MachineInputs { rt: &rt };
-    let mut out = rt.stdout();
+    let out = rt.stdout();
     let (is_terminal, is_forced) = (out.is_terminal(), is_set(&rt, "CLICOLOR_FORCE", "0"));
     // The other variables are looked for only where they count.
     let taken = (is_terminal || is_forced)
@@ -98,6 +99,7 @@ fn main(rt: HostRuntime) -> ExitCode {
     let palette = env::var(&rt, "JPQ_COLORS").ok();
     let palette = palette.as_ref().map(|text| text.as_str());
     let colours = Colours { taken, palette };
-    let status = run(rt.alloc(), &words, colours, &mut inputs, &mut out, &mut err);
+    let mut streams = Streams::new(rt.alloc(), out, err);
+    let status = run(rt.alloc(), &words, colours, &mut inputs, &mut streams);
     ExitCode::from(status)
 }

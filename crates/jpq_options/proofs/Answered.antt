@@ -14,9 +14,6 @@ given_are rows all given slice same is are =
 
 -- ---- misuse
 
-pub empty_texts : (xs : List (Bor Text)) → is_empty xs ≡ is_empty (texts xs)
-empty_texts xs = simp length-map
-
 pub two_forms : (rows : List Row) → has_two (given_forms forms rows) ≡ true → Some ArgumentConflict ≡ misuse_in rows
 two_forms rows two = sym (ap (λ b. cond b (Some ArgumentConflict) (misuse_by (first_form (given_forms forms rows)) rows)) two)
 

@@ -1,3 +1,5 @@
 -- What contracts cite:
 -- Query: the exit statuses.
+-- Inside: what contracts of private functions cite alone.
 pub mod Query
+pub mod Inside

@@ -46,7 +46,7 @@ impl Answering<'_> {
         &self,
         path: &AskedPath,
         document: &Value,
-        written: &mut Written<'_, '_, W, E>,
+        written: &mut Written<'_, W, E>,
     ) -> Result<(), QueryError> {
         if written.is_reached() {
             return Ok(());
@@ -70,18 +70,16 @@ impl Answering<'_> {
         &self,
         path: &AskedPath,
         bytes: &[u8],
-        written: &mut Written<'_, '_, W, E>,
+        written: &mut Written<'_, W, E>,
     ) -> Result<(), QueryError> {
         match read_document(self.alloc, bytes) {
             Ok(document) => self.write_nodes(path, &document, written),
             Err(_) => Err(QueryError::Memory),
         }
     }
-}
 
-impl Answering<'_> {
     /// Keeps that so many nodes were shown or counted.
-    fn keep_count<W: Write, E: Write>(&self, count: u64, streams: &mut Streams<'_, W, E>) {
+    fn keep_count<W: Write, E: Write>(&self, count: u64, streams: &mut Streams<W, E>) {
         streams.outcome.selected = streams.outcome.selected || count > 0;
         streams.left = streams.left.map(|left| left.saturating_sub(count));
         streams.total = streams.total.saturating_add(count);
@@ -93,7 +91,7 @@ impl Answering<'_> {
         source: Source<'_>,
         path: &AskedPath,
         e: QueryError,
-        streams: &mut Streams<'_, W, E>,
+        streams: &mut Streams<W, E>,
     ) -> Result<(), Stop> {
         let name = shown_name(source.name);
         let message = match &path.name {
@@ -112,7 +110,7 @@ impl Answering<'_> {
         source: Source<'_>,
         bytes: &[u8],
         document: &Value,
-        streams: &mut Streams<'_, W, E>,
+        streams: &mut Streams<W, E>,
     ) -> Result<(), Stop> {
         let is_json = self.showing.output.form == Form::Json;
         if is_json {
@@ -164,7 +162,7 @@ impl Answering<'_> {
     }
 
     /// How many nodes a path selects from a document; appends what is shown of that.
-    fn count(
+    pub(crate) fn count(
         &self,
         path: &AskedPath,
         head: &str,
@@ -201,7 +199,7 @@ impl Answering<'_> {
         source: Source<'_>,
         bytes: &[u8],
         document: &Value,
-        streams: &mut Streams<'_, W, E>,
+        streams: &mut Streams<W, E>,
     ) -> Result<(), Stop> {
         for (index, path) in self.paths.iter().enumerate() {
             let head = self.head(source, index.saturating_add(1))?;
@@ -231,6 +229,7 @@ impl Answering<'_> {
         let mut first = FirstNode {
             alloc: self.alloc,
             cell: None,
+            may_be_inexact: false,
             has_more: false,
         };
         let walk = path.path.walk_under(self.alloc, document, &self.functions)?;
@@ -251,7 +250,7 @@ impl Answering<'_> {
         &self,
         source: Source<'_>,
         path: &AskedPath,
-        streams: &mut Streams<'_, W, E>,
+        streams: &mut Streams<W, E>,
     ) -> Result<(), Stop> {
         if streams.told_several || self.silent {
             return Ok(());
@@ -272,7 +271,7 @@ impl Answering<'_> {
         path: &AskedPath,
         bytes: &[u8],
         document: &Value,
-        streams: &mut Streams<'_, W, E>,
+        streams: &mut Streams<W, E>,
     ) -> Result<String, Stop> {
         let answer = match self.first_node(path, document) {
             Err(QueryError::Pattern) => self.first_node_of_whole(path, bytes),
@@ -288,6 +287,7 @@ impl Answering<'_> {
         if first.has_more {
             self.tell_several(source, path, streams)?;
         }
+        streams.may_be_inexact |= first.may_be_inexact;
         match first.cell {
             Some(cell) => {
                 self.keep_count(1, streams);
@@ -304,7 +304,7 @@ impl Answering<'_> {
         source: Source<'_>,
         bytes: &[u8],
         document: &Value,
-        streams: &mut Streams<'_, W, E>,
+        streams: &mut Streams<W, E>,
     ) -> Result<(), Stop> {
         let mut cells = Vec::new(self.alloc);
         if self.heads.file {
@@ -324,7 +324,7 @@ impl Answering<'_> {
         &self,
         separator: Separator,
         cells: &[String],
-        streams: &mut Streams<'_, W, E>,
+        streams: &mut Streams<W, E>,
     ) -> Result<(), Stop> {
         let end = self.showing.output.end;
         push_row(self.alloc, &mut streams.pending, separator, end, cells)?;
@@ -334,7 +334,7 @@ impl Answering<'_> {
     /// Writes the paths as the first row of a table.
     pub(crate) fn write_header<W: Write, E: Write>(
         &self,
-        streams: &mut Streams<'_, W, E>,
+        streams: &mut Streams<W, E>,
     ) -> Result<(), Stop> {
         let Some(separator) = separator_of(self.shown) else {
             return Ok(());
@@ -366,7 +366,7 @@ impl Answering<'_> {
         &self,
         source: Source<'_>,
         bytes: &[u8],
-        streams: &mut Streams<'_, W, E>,
+        streams: &mut Streams<W, E>,
     ) -> Result<(), Stop> {
         if streams.told_inexact || self.silent {
             return Ok(());
@@ -387,9 +387,9 @@ impl Answering<'_> {
         source: Source<'_>,
         bytes: &[u8],
         document: &Value,
-        streams: &mut Streams<'_, W, E>,
+        streams: &mut Streams<W, E>,
     ) -> Result<(), Stop> {
-        let before = streams.total;
+        streams.may_be_inexact = false;
         match (separator_of(self.shown), self.showing.output.form) {
             (Some(separator), _) => self.answer_row(separator, source, bytes, document, streams)?,
             (None, Form::Count | Form::Nothing) => {
@@ -400,8 +400,11 @@ impl Answering<'_> {
         if !streams.pending.is_empty() {
             streams.write()?;
         }
-        if streams.total > before && self.shows_values() {
+        if streams.may_be_inexact && self.shows_values() {
             self.tell_inexact(source, bytes, streams)?;
+        }
+        if streams.total == 0 && !self.silent {
+            self.note_reason(bytes, streams)?;
         }
         if self.shown == Shown::Nodes(Form::Nothing) && streams.outcome.selected {
             return Err(Stop::Found);
@@ -415,7 +418,7 @@ impl Answering<'_> {
     /// Writes the sum of all counts.
     pub(crate) fn write_total<W: Write, E: Write>(
         &self,
-        streams: &mut Streams<'_, W, E>,
+        streams: &mut Streams<W, E>,
     ) -> Result<(), Stop> {
         let (total, end) = (streams.total, end_of(self.showing.output.end));
         write!(streams.pending, "{total}{end}")?;

@@ -54,7 +54,7 @@ impl Documents<'_> {
         &self,
         source: Source<'_>,
         bytes: &[u8],
-        streams: &mut Streams<'_, W, E>,
+        streams: &mut Streams<W, E>,
     ) -> Result<(), Stop> {
         let e = match self.document(bytes) {
             Ok(document) => {
@@ -75,7 +75,7 @@ impl Documents<'_> {
         source: Source<'_>,
         bytes: &[u8],
         e: DocumentError,
-        streams: &mut Streams<'_, W, E>,
+        streams: &mut Streams<W, E>,
     ) -> Result<(), Stop> {
         streams.outcome.refused = true;
         streams.refused_documents = streams.refused_documents.saturating_add(1);
@@ -102,7 +102,7 @@ impl Documents<'_> {
     fn tell_more_lines<W: Write, E: Write>(
         &self,
         name: &str,
-        streams: &mut Streams<'_, W, E>,
+        streams: &mut Streams<W, E>,
     ) -> Result<(), Stop> {
         let more = streams.refused_documents.saturating_sub(TOLD_LINES);
         if more > 0 {
@@ -118,7 +118,7 @@ impl Documents<'_> {
         &self,
         name: &str,
         e: &io::Error,
-        streams: &mut Streams<'_, W, E>,
+        streams: &mut Streams<W, E>,
     ) -> Result<(), Stop> {
         let name = shown_name(name);
         streams.tell_refusal(format!(in self.alloc;
@@ -131,7 +131,7 @@ impl Documents<'_> {
     fn refuse_many_lines<W: Write, E: Write>(
         &self,
         name: &str,
-        streams: &mut Streams<'_, W, E>,
+        streams: &mut Streams<W, E>,
     ) -> Result<(), Stop> {
         let name = shown_name(name);
         streams.tell_refusal(format!(in self.alloc;
@@ -148,7 +148,7 @@ impl Documents<'_> {
         &self,
         name: &str,
         mut input: I,
-        streams: &mut Streams<'_, W, E>,
+        streams: &mut Streams<W, E>,
     ) -> Result<(), Stop> {
         let mut bytes = Vec::new(self.alloc);
         match input.read_to_end(&mut bytes) {
@@ -162,7 +162,7 @@ impl Documents<'_> {
         &self,
         source: Source<'_>,
         line: &[u8],
-        streams: &mut Streams<'_, W, E>,
+        streams: &mut Streams<W, E>,
     ) -> Result<(), Stop> {
         if line.trim_ascii().is_empty() {
             return Ok(());
@@ -176,7 +176,7 @@ impl Documents<'_> {
         &self,
         name: &str,
         input: I,
-        streams: &mut Streams<'_, W, E>,
+        streams: &mut Streams<W, E>,
     ) -> Result<(), Stop> {
         let Ok(mut reader) = BufReader::new(self.alloc, input) else {
             return Err(Stop::Memory);
@@ -201,7 +201,7 @@ impl Documents<'_> {
         &self,
         names: &[&str],
         inputs: &mut I,
-        streams: &mut Streams<'_, W, E>,
+        streams: &mut Streams<W, E>,
     ) -> Result<(), Stop> {
         for name in names {
             streams.refused_documents = 0;

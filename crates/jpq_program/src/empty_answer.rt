@@ -1,9 +1,11 @@
-//! Why an answer may be empty, as the path's tree shows.
+//! Why an answer may be empty, as the path's tree shows, and a document.
 
 ghost use Rattle.std.specs.Prelude.{ℕ, ◌<◌, ◌≤◌, length};
 ghost use Rattle.serde_json_path_syntax.specs.Words.{NamesBelow, nodes_in, number_of, parts_bound};
 
+use serde_json_path::JsonPath;
 use serde_json_path_syntax::{Basic, Checked, Node, Operand, Part, QueryKind, Segment, Selector};
+use std::alloc::{AllocError, Global};
 use std::slice;
 
 /// A part of a path that is often meant otherwise.
@@ -42,24 +44,44 @@ const REASONS: &[(Slip, &str)] = &[
         Slip::Quoted("*"),
         "'*' in quotes is a member's name; without quotes it is every child",
     ),
+    (Slip::StepZero, "a slice with step 0 selects nothing"),
+    (
+        Slip::Swapped,
+        "the text comes first, then the pattern: match(@.a, 'b.*')",
+    ),
+];
+
+/// The same of what means that in some documents alone.
+const REASONS_OF_DOCUMENTS: &[(Slip, &str)] = &[
     (
         Slip::QuotedDot,
         "a name in quotes is one member's, with its dots; $.a.b goes down by two",
     ),
-    (Slip::StepZero, "a slice with step 0 selects nothing"),
     (
         Slip::RootCompared,
         "'$' in a filter is the whole document, the same for each child; '@' is the child",
-    ),
-    (
-        Slip::Swapped,
-        "the text comes first, then the pattern: match(@.a, 'b.*')",
     ),
     (
         Slip::Match,
         "match(@.a, 'b') wants the whole text to fit the pattern; search(@.a, 'b') a part of it",
     ),
 ];
+
+/// A reason that counts for a document from which this path selects something.
+#[derive(Drop)]
+pub(crate) struct Sign {
+    pub(crate) path: String,
+    pub(crate) reason: &'static str,
+}
+
+/// What stands before the dot of the first name in brackets that has one, in a path's canonical text.
+fn before_dot(path: &str) -> Option<&str> {
+    path.split("['").skip(1).find_map(|after| {
+        let (name, _) = after.split_once("']")?;
+        let (before, _) = name.split_once('.')?;
+        Some(before)
+    })
+}
 
 impl Slip {
     /// Whether a node of a tree is this part.
@@ -73,7 +95,7 @@ impl Slip {
                     segment: Segment::DotName(own),
                     ..
                 },
-            ) => { own.as_str() == *name }
+            ) => own.as_str() == *name,
             (
                 Slip::Quoted(_) | Slip::QuotedDot,
                 Node::Segment {
@@ -87,6 +109,15 @@ impl Slip {
                 },
                 _ => false,
             },
+            _ => self.is_in_brackets(tree, node),
+        }
+    }
+
+    /// Whether a node of a tree that is no segment is this part.
+    fn is_in_brackets(&self, tree: &Checked, node: &Node) -> bool
+        requires { NamesBelow (length (nodes_in tree.now)) node.now }
+    {
+        match (self, node) {
             (Slip::StepZero, Node::Selector(Selector::Slice(slice))) => slice.step == Some(0),
             (Slip::RootCompared, Node::Basic(Basic::Relation { left, right, .. })) => {
                 is_root(tree, *left) && is_literal(tree.node(*right))
@@ -108,6 +139,20 @@ impl Slip {
             }
             (Slip::Match, Node::Call { name, .. }) => name.as_str() == "match",
             _ => false,
+        }
+    }
+
+    /// A path that selects something from documents of which the reason counts, by the canonical text of the path at hand: for a
+    /// name with a dot, what stands before the dot; for a query from the root, members in an array; for `match`, `search`.
+    fn sign(&self, alloc: Global, path: &str) -> Result<Option<String>, AllocError> {
+        match self {
+            Slip::QuotedDot => match before_dot(path) {
+                Some(name) => Ok(Some(format!(in alloc; "$..['{name}']")?)),
+                None => Ok(None),
+            },
+            Slip::RootCompared => Ok(Some(String::from_str(alloc, "$..[0].*")?)),
+            Slip::Match => Ok(Some(path.replace(alloc, "match(", "search(")?)),
+            _ => Ok(None),
         }
     }
 
@@ -184,7 +229,7 @@ pub(crate) fn parts_below(node: &Node) -> (&[Part], &[Part])
     }
 }
 
-/// A reason why a path selects nothing, if its tree shows one.
+/// A reason why a path selects nothing, if its tree shows one, whatever the document.
 pub(crate) fn reason_of(tree: &Checked) -> Option<&'static str> {
     for (slip, reason) in REASONS {
         if slip.is_below(tree, tree.segments()) {
@@ -192,4 +237,22 @@ pub(crate) fn reason_of(tree: &Checked) -> Option<&'static str> {
         }
     }
     None
+}
+
+/// The reasons why a path may select nothing, each with what must be in the document.
+pub(crate) fn signs_of(alloc: Global, path: &JsonPath) -> Result<Vec<Sign>, AllocError> {
+    let tree = path.tree();
+    let mut signs = Vec::new(alloc);
+    for (slip, reason) in REASONS_OF_DOCUMENTS {
+        if !slip.is_below(tree, tree.segments()) {
+            continue;
+        }
+        if let Some(path) = slip.sign(alloc, path.to_text(alloc)?.as_str())? {
+            signs.push(Sign {
+                path,
+                reason: *reason,
+            })?;
+        }
+    }
+    Ok(signs)
 }

@@ -1,9 +1,20 @@
 //! Numbers of a document that a double does not hold with all their digits, so that they are printed otherwise.
 
+use serde_json::Value;
 use std::str::from_utf8;
 
 /// How many digits a double holds of any number.
 const DIGITS: usize = 17;
+
+/// Whether the JSON of a value may have a number that was written with more digits than are kept.
+#[inline(always)]
+pub(crate) fn may_be_inexact(value: &Value) -> bool {
+    match value {
+        Value::Number(number) => number.is_f64(),
+        Value::Array(_) | Value::Object(_) => true,
+        _ => false,
+    }
+}
 
 /// Whether a byte stands in a number.
 fn is_of_number(byte: u8) -> bool {
@@ -83,11 +94,14 @@ pub(crate) fn inexact_number(bytes: &[u8]) -> Option<&str> {
         is_inside: false,
         is_escaped: false,
     };
+    // Where the last token ends, so that a long one is looked at once.
+    let mut past = 0usize;
     for (number, chunk) in bytes.chunks(DIGITS).enumerate() {
         let index = number.saturating_mul(DIGITS);
         match chunk.first() {
-            Some(byte) if is_of_number(*byte) => {
+            Some(byte) if is_of_number(*byte) && index >= past => {
                 let (token, start) = number_around(bytes, index);
+                past = start.saturating_add(token.len());
                 let text = from_utf8(token).unwrap_or("");
                 if token.len() > DIGITS && is_inexact(text) && !strings.are_around(start) {
                     return Some(text);

@@ -2,7 +2,7 @@
 //!
 //! [`run::run`] reads the words, the paths and the documents, writes what is selected, tells what is refused, and answers the
 //! exit status. [`answers::push_answer`] is what it shows of a document, for a path. Files are opened by [`inputs::Inputs`], so
-//! that a test may hand in its own.
+//! that a test may hand in its own, and [`streams::Streams`] has what is written and told.
 #![tactic(auto)]
 
 mod answering;
@@ -15,6 +15,7 @@ mod empty_answer;
 mod encodings;
 mod inexact;
 pub mod inputs;
+mod meant;
 mod paths;
 mod patterns;
 mod refusal;
@@ -22,6 +23,6 @@ mod rows;
 pub mod run;
 mod showing;
 mod source;
-mod streams;
+pub mod streams;
 mod tokens;
 mod written;

@@ -53,8 +53,9 @@ impl PathReading<'_> {
         let text = with_values(self.alloc, text.as_str(), &self.bindings, &mut self.used)?;
         match JsonPath::parse_by(self.alloc, text.as_str(), self.numbers) {
             Ok(path) => Ok(path),
+            Err(e) if e.kind() == ParseErrorKind::NoMemory => Err(Stop::Memory),
             // Values are quoted, so that the text is a path again.
-            Err(_) => Err(Stop::Memory),
+            Err(_) => Err(Stop::Refused),
         }
     }
 
@@ -63,7 +64,7 @@ impl PathReading<'_> {
         &mut self,
         text: &str,
         name: Option<String>,
-        streams: &mut Streams<'_, W, E>,
+        streams: &mut Streams<W, E>,
     ) -> Result<Option<AskedPath>, Stop> {
         let e = match JsonPath::parse_by(self.alloc, text, self.numbers) {
             Ok(path) => {
@@ -97,7 +98,7 @@ impl PathReading<'_> {
         texts: &[&str],
         several: bool,
         paths: &mut Vec<AskedPath>,
-        streams: &mut Streams<'_, W, E>,
+        streams: &mut Streams<W, E>,
     ) -> Result<(), Stop> {
         for (index, text) in texts.iter().enumerate() {
             let name = if several {
@@ -118,7 +119,7 @@ impl PathReading<'_> {
         file: &str,
         text: &str,
         paths: &mut Vec<AskedPath>,
-        streams: &mut Streams<'_, W, E>,
+        streams: &mut Streams<W, E>,
     ) -> Result<(), Stop> {
         for (index, text) in path_lines(self.alloc, text)?.iter().enumerate() {
             if text.is_empty() {
@@ -135,7 +136,7 @@ impl PathReading<'_> {
 
 impl PathReading<'_> {
     /// Tells of the first binding whose name no path has.
-    fn tell_unused<W: Write, E: Write>(&self, streams: &mut Streams<'_, W, E>) -> Result<(), Stop> {
+    fn tell_unused<W: Write, E: Write>(&self, streams: &mut Streams<W, E>) -> Result<(), Stop> {
         for (number, binding) in self.bindings.iter().enumerate() {
             if !self.used.contains(&number) {
                 let name = binding.name;
@@ -154,7 +155,7 @@ fn paths_text<I: Inputs, W: Write, E: Write>(
     alloc: Global,
     name: &str,
     inputs: &mut I,
-    streams: &mut Streams<'_, W, E>,
+    streams: &mut Streams<W, E>,
 ) -> Result<String, Stop> {
     let mut text = String::new(alloc);
     let read = match inputs.open(name) {
@@ -183,7 +184,7 @@ fn tell_order<I: Inputs, W: Write, E: Write>(
     alloc: Global,
     texts: &[&str],
     inputs: &mut I,
-    streams: &mut Streams<'_, W, E>,
+    streams: &mut Streams<W, E>,
 ) -> Result<(), Stop> {
     if let Some(text) = texts.first() {
         if *text != "-" && is_file(*text, inputs) {
@@ -208,7 +209,7 @@ pub(crate) fn asked_paths<I: Inputs, W: Write, E: Write>(
     alloc: Global,
     options: &Options<'_>,
     inputs: &mut I,
-    streams: &mut Streams<'_, W, E>,
+    streams: &mut Streams<W, E>,
 ) -> Result<Vec<AskedPath>, Stop> {
     let bindings = match bindings_of(alloc, &options.bindings)? {
         Ok(bindings) => bindings,

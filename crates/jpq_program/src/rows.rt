@@ -1,5 +1,6 @@
 //! Tables: a row for each document, with a cell for each path.
 
+use crate::inexact::may_be_inexact;
 use csv::{Terminator, WriterBuilder};
 use jsonpath_lines::{Form, LineEnd, Output, push_line};
 use serde_json_path::{LocatedNode, QueryError, Sink, Taken};
@@ -20,6 +21,8 @@ pub(crate) enum Separator {
 pub(crate) struct FirstNode {
     pub(crate) alloc: Global,
     pub(crate) cell: Option<String>,
+    /// Whether it may have a number with more digits than are kept.
+    pub(crate) may_be_inexact: bool,
     pub(crate) has_more: bool,
 }
 
@@ -50,6 +53,7 @@ impl<'b> Sink<'b> for FirstNode {
             return Ok(Taken::Enough);
         }
         self.cell = Some(cell_of(self.alloc, &node)?);
+        self.may_be_inexact = may_be_inexact(node.node());
         Ok(Taken::More(node.into_steps()))
     }
 }

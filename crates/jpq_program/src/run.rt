@@ -27,7 +27,7 @@ use std::io::Write;
 /// Writes each path in its canonical form.
 fn check<W: Write, E: Write>(
     paths: &[AskedPath],
-    streams: &mut Streams<'_, W, E>,
+    streams: &mut Streams<W, E>,
 ) -> Result<(), Stop> {
     for path in paths {
         write!(streams.pending, "{}\n", path.path)?;
@@ -40,7 +40,7 @@ fn check<W: Write, E: Write>(
 fn hint_at_patterns<W: Write, E: Write>(
     alloc: Global,
     paths: &[AskedPath],
-    streams: &mut Streams<'_, W, E>,
+    streams: &mut Streams<W, E>,
 ) -> Result<(), Stop> {
     for path in paths {
         let tree = path.path.tree();
@@ -55,17 +55,17 @@ fn hint_at_patterns<W: Write, E: Write>(
     Ok(())
 }
 
-/// Tells why nothing may have been selected, where a path shows it.
+/// Tells why nothing may have been selected, where a path shows it, or else a document.
 fn hint_at_nothing<W: Write, E: Write>(
     alloc: Global,
     paths: &[AskedPath],
-    streams: &mut Streams<'_, W, E>,
+    streams: &mut Streams<W, E>,
 ) -> Result<(), Stop> {
-    for path in paths {
-        if let Some(reason) = reason_of(path.path.tree()) {
-            streams.tell(format!(in alloc; "jpq: nothing was selected: {reason}\n")?.as_str());
-            return Ok(());
-        }
+    let shown = paths
+        .iter()
+        .find_map(|path| reason_of(path.path.tree()));
+    if let Some(reason) = shown.or(streams.reason) {
+        streams.tell(format!(in alloc; "jpq: nothing was selected: {reason}\n")?.as_str());
     }
     Ok(())
 }
@@ -124,7 +124,7 @@ fn is_colored(options: &Options<'_>, colours: Colours<'_>) -> bool {
 fn palette_of<'a, W: Write, E: Write>(
     colours: Colours<'a>,
     silent: bool,
-    streams: &mut Streams<'_, W, E>,
+    streams: &mut Streams<W, E>,
 ) -> Option<Palette<'a>> {
     let palette = Palette::of(colours.palette?);
     if palette.is_none() && !silent {
@@ -155,7 +155,7 @@ fn answer_documents<I: Inputs, W: Write, E: Write>(
     documents: &Documents<'_>,
     options: &Options<'_>,
     inputs: &mut I,
-    streams: &mut Streams<'_, W, E>,
+    streams: &mut Streams<W, E>,
 ) -> Result<(), Stop> {
     if options.header {
         documents.answering.write_header(streams)?;
@@ -178,7 +178,7 @@ fn answer_paths<I: Inputs, W: Write, E: Write>(
     colours: Colours<'_>,
     paths: &[AskedPath],
     inputs: &mut I,
-    streams: &mut Streams<'_, W, E>,
+    streams: &mut Streams<W, E>,
 ) -> Result<(), Stop> {
     let store = PatternStore::new();
     let mut trees = Vec::new(alloc);
@@ -226,7 +226,7 @@ fn run_with<I: Inputs, W: Write, E: Write>(
     options: &Options<'_>,
     colours: Colours<'_>,
     inputs: &mut I,
-    streams: &mut Streams<'_, W, E>,
+    streams: &mut Streams<W, E>,
 ) -> Result<(), Stop> {
     let paths = asked_paths(alloc, options, inputs, streams)?;
     if !options.silent {
@@ -247,13 +247,14 @@ fn run_with<I: Inputs, W: Write, E: Write>(
 fn exit_status<W: Write, E: Write>(
     ended: Result<(), Stop>,
     binds: bool,
-    streams: &mut Streams<'_, W, E>,
+    streams: &mut Streams<W, E>,
 ) -> u8
     ensures few { (result ≤ 3) ⊎ ((result ≡ 64) × (binds ≡ true)) }
     ensures memory { ended ≡ Err Stop.Memory → result ≡ 2 }
 {
     match ended {
-        Ok(()) | Err(Stop::ReaderGone | Stop::Enough) => streams.outcome.status(),
+        Ok(()) | Err(Stop::Enough) => streams.outcome.status(),
+        Err(Stop::ReaderGone) => OUTPUT_FAILED,
         Err(Stop::Found) => SELECTED,
         Err(Stop::WrongUse) if binds => WRONG_USE,
         Err(Stop::Refused | Stop::WrongUse) => REFUSED,
@@ -276,7 +277,7 @@ fn exit_status<W: Write, E: Write>(
 /// | 0 | something was selected; help, or a version; with `--check`, all paths are right |
 /// | 1 | nothing was selected |
 /// | 2 | a path, a document, a file or a query was refused |
-/// | 3 | the output failed |
+/// | 3 | the output failed, or who read it went away |
 /// | 64 | the words were used wrongly |
 ///
 /// Lines are written as they are found, in pieces of some 64 kB, and at the end of each document. A reader that goes away ends the
@@ -286,29 +287,27 @@ pub fn run<I: Inputs, W: Write, E: Write>(
     words: &[String],
     colours: Colours<'_>,
     inputs: &mut I,
-    out: &mut W,
-    err: &mut E,
+    streams: &mut Streams<W, E>,
 ) -> u8
     ensures one_of { (result ≤ 3) ⊎ (result ≡ 64) }
     ensures status { ((asked : input.Request) × AsksFor (map string_bytes words.now) asked
         × IsStatusOf asked result) ⊎ (result ≡ 2) }
 {
-    let mut streams = Streams::new(alloc, out, err);
     match read(alloc, words) {
         Ok(Request::Run(options)) => {
-            let ended = run_with(alloc, &options, colours, inputs, &mut streams);
-            exit_status(ended, !options.bindings.is_empty(), &mut streams)
+            let ended = run_with(alloc, &options, colours, inputs, streams);
+            exit_status(ended, !options.bindings.is_empty(), streams)
         }
         Ok(Request::Print(text)) => {
             streams.outcome.selected = true;
             streams.pending = text;
             let ended = streams.write();
-            exit_status(ended, false, &mut streams)
+            exit_status(ended, false, streams)
         }
         Ok(Request::WrongUse(_, text)) => {
             streams.tell(text.as_str());
             WRONG_USE
         }
-        Err(_) => exit_status(Err(Stop::Memory), false, &mut streams),
+        Err(_) => exit_status(Err(Stop::Memory), false, streams),
     }
 }

@@ -1,5 +1,11 @@
 //! How nodes are shown: their lines and their objects, indented, escaped and coloured.
 
+ghost use Rattle.std.specs.Prelude.{◌≡◌, OnOk, string_bytes, true};
+ghost use Rattle.serde_json_path_nodes.specs.Views.{located};
+ghost use Rattle.jsonpath_lines.specs.Inside.{Appends};
+ghost use Rattle.jsonpath_lines.specs.Output.{IsLine};
+ghost use Rattle.jpq_program.specs.Inside.{is_plain};
+
 use crate::colours::{Palette, recolored};
 use jsonpath_lines::{Form, Layout, LineEnd, Output, colored, push_line};
 use serde_json::Value;
@@ -79,7 +85,9 @@ fn put_after_lines(alloc: Global, json: &str, more: &str) -> Result<String, Allo
 
 impl Showing<'_> {
     /// Whether lines are shown as they are made.
-    fn is_plain(&self) -> bool {
+    fn is_plain(&self) -> bool
+        ensures { result ≡ is_plain self.now }
+    {
         self.indent.is_none() && !self.ascii && !self.colored
     }
 
@@ -103,17 +111,17 @@ impl Showing<'_> {
         Ok(text)
     }
 
-    /// Appends a text in colours, if they are wanted.
+    /// Appends a text in colours, if they are wanted. A text with an escape character of its own has the usual ones.
     fn push_colored(&self, to: &mut String, text: &str) -> Result<(), AllocError> {
         if !self.colored {
             return to.push_str(text);
         }
-        let text = colored(self.alloc, text, self.output.form)?;
+        let line = colored(self.alloc, text, self.output.form)?;
         match &self.palette {
-            Some(palette) => {
-                to.push_str(recolored(self.alloc, text.as_str(), palette)?.as_str())
+            Some(palette) if !text.contains('\u{1b}') => {
+                to.push_str(recolored(self.alloc, line.as_str(), palette)?.as_str())
             }
-            None => to.push_str(text.as_str()),
+            _ => to.push_str(line.as_str()),
         }
     }
 
@@ -123,7 +131,10 @@ impl Showing<'_> {
         to: &mut String,
         head: &str,
         node: &LocatedNode<'_>,
-    ) -> Result<(), AllocError> {
+    ) -> Result<(), AllocError>
+        ensures { is_plain self.now ≡ true → OnOk result (Appends (IsLine self.now.output head.now
+            (located node.now)) (string_bytes to.old) (string_bytes to.new)) }
+    {
         if self.is_plain() {
             return push_line(self.alloc, &self.output, head, to, node);
         }

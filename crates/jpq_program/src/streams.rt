@@ -1,7 +1,10 @@
 //! What is written, what is reported on standard error, and what comes of a run.
 
-ghost use Rattle.std.specs.Prelude.{◌≤◌};
+ghost use Rattle.std.specs.Prelude.{◌≡◌, ◌≤◌, [], Ok, OnOk, string_bytes, true};
+ghost use Rattle.jsonpath_lines.specs.Sent.{AppendsBeginning};
+ghost use Rattle.jpq_program.specs.Inside.{Writes};
 
+use jsonpath_lines::write_text;
 use std::alloc::{AllocError, AllocFailed, Global};
 use std::io;
 use std::io::Write;
@@ -92,11 +95,18 @@ fn stop_of(e: io::Error) -> Stop {
 /// How many bytes are held, at least, before they are written.
 const FULL: usize = 65_536;
 
-/// Where lines are written and faults are reported, and what became of the documents.
+/// Where lines are written and faults are told, and what became of a run.
+///
+/// ```text
+/// let mut streams = Streams::new(alloc, out, err);
+/// let status = run(alloc, &words, colours, &mut inputs, &mut streams);
+/// ```
 #[derive(Drop)]
-pub(crate) struct Streams<'a, W, E> {
-    out: &'a mut W,
-    err: &'a mut E,
+pub struct Streams<W, E> {
+    /// Where lines are written.
+    pub out: W,
+    /// Where faults are told.
+    pub err: E,
     /// What is to be written.
     pub(crate) pending: String,
     pub(crate) outcome: Outcome,
@@ -106,15 +116,21 @@ pub(crate) struct Streams<'a, W, E> {
     pub(crate) left: Option<u64>,
     /// How many nodes were counted.
     pub(crate) total: u64,
-    /// Whether it was told of a number that has more digits than are kept.
+    /// Whether a value was shown that may have a number with more digits than are kept.
+    pub(crate) may_be_inexact: bool,
+    /// Whether it was told of such a number.
     pub(crate) told_inexact: bool,
     /// Whether it was told that of several nodes of a path a table has the first.
     pub(crate) told_several: bool,
+    /// Of how many documents it was asked why nothing was selected.
+    pub(crate) asked_reasons: usize,
+    /// Why nothing may have been selected, as a document shows.
+    pub(crate) reason: Option<&'static str>,
 }
 
-impl<'a, W: Write, E: Write> Streams<'a, W, E> {
-    /// Before any document.
-    pub(crate) fn new(alloc: Global, out: &'a mut W, err: &'a mut E) -> Streams<'a, W, E> {
+impl<W: Write, E: Write> Streams<W, E> {
+    /// The streams of a run, before it.
+    pub fn new(alloc: Global, out: W, err: E) -> Streams<W, E> {
         Streams {
             out,
             err,
@@ -126,20 +142,33 @@ impl<'a, W: Write, E: Write> Streams<'a, W, E> {
             refused_documents: 0,
             left: None,
             total: 0,
+            may_be_inexact: false,
             told_inexact: false,
             told_several: false,
+            asked_reasons: 0,
+            reason: None,
         }
     }
 
     /// Writes what is pending.
-    fn put(&mut self) -> io::Result<()> {
-        self.out.write_all(self.pending.as_bytes())?;
+    fn put(&mut self) -> io::Result<()>
+        ensures kept { self.new ≡ record self.old { out = self.new.out; pending = self.new.pending } }
+        ensures whole { OnOk result (Writes W.contents self.old self.new []) }
+        ensures beginning { AppendsBeginning (W.contents self.old.out) (W.contents self.new.out)
+            (string_bytes self.old.pending) }
+    {
+        write_text(self.pending.as_str(), &mut self.out)?;
         self.pending.clear();
         Ok(())
     }
 
     /// Writes what is pending if that is much, so that the texts of many nodes are not held at once.
-    pub(crate) fn write_if_full(&mut self) -> Result<(), Stop> {
+    pub(crate) fn write_if_full(&mut self) -> Result<(), Stop>
+        ensures kept { self.new ≡ record self.old { out = self.new.out; pending = self.new.pending } }
+        ensures whole { OnOk result (Writes W.contents self.old self.new []) }
+        ensures beginning { AppendsBeginning (W.contents self.old.out) (W.contents self.new.out)
+            (string_bytes self.old.pending) }
+    {
         if self.pending.len() < FULL {
             return Ok(());
         }
@@ -147,18 +176,35 @@ impl<'a, W: Write, E: Write> Streams<'a, W, E> {
     }
 
     /// Writes what is pending and flushes it, so that a pipe sees it at once.
-    pub(crate) fn write(&mut self) -> Result<(), Stop> {
+    pub(crate) fn write(&mut self) -> Result<(), Stop>
+        ensures kept { self.new ≡ record self.old { out = self.new.out; pending = self.new.pending } }
+        ensures whole { OnOk result (Writes W.contents self.old self.new []) }
+        ensures all { OnOk result (string_bytes self.new.pending ≡ []) }
+        ensures beginning { AppendsBeginning (W.contents self.old.out) (W.contents self.new.out)
+            (string_bytes self.old.pending) }
+    {
         self.put().map_err(stop_of)?;
         self.out.flush().map_err(stop_of)
     }
 
     /// Writes a message on standard error, as far as it can be written.
-    pub(crate) fn tell(&mut self, text: &str) {
-        let _ = self.err.write_all(text.as_bytes());
+    pub(crate) fn tell(&mut self, text: &str)
+        ensures kept { self.new ≡ record self.old { err = self.new.err } }
+        ensures told { AppendsBeginning (E.contents self.old.err) (E.contents self.new.err)
+            text.now }
+    {
+        let _ = write_text(text, &mut self.err);
     }
 
     /// Tells of what is refused.
-    pub(crate) fn tell_refusal(&mut self, text: &str) {
+    pub(crate) fn tell_refusal(&mut self, text: &str)
+        ensures kept { self.new ≡ record self.old {
+          err = self.new.err;
+          outcome = record self.old.outcome { refused = true };
+        } }
+        ensures told { AppendsBeginning (E.contents self.old.err) (E.contents self.new.err)
+            text.now }
+    {
         self.outcome.refused = true;
         self.tell(text);
     }

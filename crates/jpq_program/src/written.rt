@@ -1,18 +1,25 @@
 //! Nodes that are written as a walk gives them.
 
-ghost use Rattle.std.specs.Prelude.{◌≡◌, IfErr};
+ghost use Rattle.std.specs.Prelude.{◌≡◌, IfErr, IfOk, OnOk, string_bytes, true};
+ghost use Rattle.serde_json_path_nodes.specs.Views.{located};
+ghost use Rattle.jsonpath_lines.specs.Inside.{Appends, is_reached};
+ghost use Rattle.jsonpath_lines.specs.Output.{IsLine};
+ghost use Rattle.jpq_program.specs.Inside.{Pends, WritesNode, shows_lines};
 
+use crate::inexact::may_be_inexact;
 use crate::showing::Showing;
 use crate::streams::{Stop, Streams};
 use jsonpath_lines::Form;
 use serde_json_path::{LocatedNode, QueryError, Sink, Taken};
+use std::alloc::AllocError;
 use std::io::Write;
+use std::mem::replace;
 
 /// The nodes of a path as they are written.
 #[derive(Drop)]
-pub(crate) struct Written<'a, 's, W, E> {
+pub(crate) struct Written<'a, W, E> {
     pub(crate) showing: &'a Showing<'a>,
-    pub(crate) streams: &'a mut Streams<'s, W, E>,
+    pub(crate) streams: &'a mut Streams<W, E>,
     /// What each line, or the members of each object, begin with.
     pub(crate) head: &'a str,
     /// Whether a node was written before in the same array.
@@ -24,34 +31,56 @@ pub(crate) struct Written<'a, 's, W, E> {
     pub(crate) stop: Option<Stop>,
 }
 
-impl<W: Write, E: Write> Written<'_, '_, W, E> {
-    /// Appends what is shown of a node.
+impl<W: Write, E: Write> Written<'_, W, E> {
+    /// Appends what is shown of a node to a text.
     #[inline(always)]
-    fn push(&mut self, node: &LocatedNode<'_>) -> Result<(), QueryError>
-        ensures { IfErr result (λ e. e ≡ QueryError.Memory) }
+    fn push(&mut self, text: &mut String, node: &LocatedNode<'_>) -> Result<(), AllocError>
+        ensures kept { self.new ≡ record self.old { is_later = self.new.is_later } }
+        ensures line { shows_lines self.old.showing.now ≡ true
+            → OnOk result (Appends (IsLine self.old.showing.now.output self.old.head.now
+            (located node.now)) (string_bytes text.old) (string_bytes text.new)) }
     {
-        let pending = &mut self.streams.pending;
         if self.showing.output.form == Form::Json {
             self.showing
-                .push_object(pending, self.head, self.is_later, node)?;
+                .push_object(text, self.head, self.is_later, node)?;
             self.is_later = true;
-        } else {
-            self.showing.push_line(pending, self.head, node)?;
+            return Ok(());
         }
-        Ok(())
+        self.showing.push_line(text, self.head, node)
+    }
+
+    /// Appends what is shown of a node to what is pending.
+    #[inline(always)]
+    fn push_pending(&mut self, node: &LocatedNode<'_>) -> Result<(), AllocError>
+        ensures { OnOk result (Pends (located node.now) self.old self.new) }
+    {
+        let empty = String::new(self.showing.alloc);
+        // Taken out, so that what is lent to a call is the text alone, and put back whatever comes of it.
+        let mut text = replace(&mut self.streams.pending, empty);
+        let pushed = self.push(&mut text, node);
+        self.streams.pending = text;
+        pushed
     }
 
     /// Whether as many nodes were written as are wanted.
-    pub(crate) fn is_reached(&self) -> bool {
-        self.limit.is_some_and(|limit| limit <= self.count)
+    pub(crate) fn is_reached(&self) -> bool
+        ensures { result ≡ is_reached self.now.limit self.now.count }
+    {
+        match self.limit {
+            Some(limit) => limit <= self.count,
+            None => false,
+        }
     }
 
     /// Takes a node. Says whether more are wanted.
     #[inline(always)]
     pub(crate) fn take_node(&mut self, node: &LocatedNode<'_>) -> Result<bool, QueryError>
-        ensures { IfErr result (λ e. e ≡ QueryError.Memory) }
+        ensures taken { IfOk result (λ more.
+            WritesNode W.contents (located node.now) more self.old self.new) }
+        ensures refused { IfErr result (λ e. e ≡ QueryError.Memory) }
     {
-        self.push(node)?;
+        self.push_pending(node)?;
+        self.streams.may_be_inexact |= may_be_inexact(node.node());
         // A walk that gave one node in each nanosecond would take 584 years to come to the error.
         self.count = self.count.checked_add(1).ok_or(QueryError::Memory)?;
         if let Err(stop) = self.streams.write_if_full() {
@@ -62,12 +91,12 @@ impl<W: Write, E: Write> Written<'_, '_, W, E> {
     }
 }
 
-impl<'b, W: Write, E: Write> Sink<'b> for Written<'_, '_, W, E> {
-    ghost use Rattle.std.specs.Prelude.{◌≡◌, true};
+impl<'b, W: Write, E: Write> Sink<'b> for Written<'_, W, E> {
+    ghost use Rattle.jpq_program.specs.Inside.{FilledNodes, TookNodes};
 
-    ghost took = { λ _ _ _. true ≡ true };
+    ghost took = { TookNodes W.contents };
 
-    ghost filled = { λ _ _ _. true ≡ true };
+    ghost filled = { FilledNodes W.contents };
 
     #[inline(always)]
     fn take(&mut self, node: LocatedNode<'b>) -> Result<Taken<'b>, QueryError> {

@@ -6,6 +6,7 @@
 -- Scalars: the texts of null, truth values and integers are their JSON in each layout.
 -- Arrays: the array of nodes, written item by item, is its JSON.
 -- Appended: what writes leave, one after the other.
+-- Beginnings: what a write leaves, and beginnings of texts.
 -- Words: the words of definitions and lemmas, from one place.
 pub mod Pieces
 pub mod Chosen
@@ -14,4 +15,5 @@ pub mod Seen
 pub mod Scalars
 pub mod Arrays
 pub mod Appended
+pub mod Beginnings
 pub mod Words

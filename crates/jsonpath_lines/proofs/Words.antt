@@ -13,6 +13,7 @@ pub use Rattle.json.specs.Tree.{HasNumbers, ItemsHaveNumbers, items_tokens, json
 pub use Rattle.jsonpath_lines.specs.Inside.{Appends, ArePieces, ArePiecesIn, FilledLines, IsClosedIn, IsLaid, IsLaidOut, IsPiece, IsPieceIn, IsPrintedOf, IsUnseen, Pushes, TookDistinct, TookLines, asked, is_reached, leaves_out_in, limit_in, once, opening, path_string}
 pub use Rattle.jsonpath_lines.specs.Output.{AreLines, AreLinesIn, IsCount, IsCountIn, IsJsonIn, IsJsonOf, IsLine, IsLineOfEach, IsPrettyOf, array_of, end_text, items_of, object_of, up_to}
 pub use Rattle.jsonpath_lines.specs.Plain.{HasNoEscape, plain, plain_from}
+pub use Rattle.jsonpath_lines.specs.Sent.{AppendsBeginning}
 pub use Rattle.jsonpath_lines.specs.Words.{AreEnough, IsExceeded, rest, tokens, view}
 pub use Rattle.jsonpath_lines.specs.declared.distinct.DistinctNodes.{DistinctNodes}
 pub use Rattle.jsonpath_lines.specs.declared.forms.Form.{Form}
@@ -31,3 +32,5 @@ pub use Rattle.serde_json_path_nodes.proofs.Words.{Data, Items, Located, Members
 pub use Rattle.serde_json_path_nodes.specs.declared.located_node.LocatedNode.{LocatedNode}
 pub use Rattle.serde_json_path_syntax.proofs.Words.{length-map, length-take, length-take-le, map_push, nil_from_length, take-append-le, take-map, take_all, take_more}
 pub use Rattle.std.proofs.lemmas.Grind.{common_steps}
+pub use Rattle.std.proofs.KnownBytes.{Appends-kept, Appends-trans}
+pub use Rattle.std.specs.Prelude.{drop, ◌-◌}

@@ -2,10 +2,12 @@
 -- Output: which nodes are shown, and what is shown of them in each form.
 -- Distinct: enough nodes, each location once.
 -- Plain: a line without its colours.
+-- Sent: texts that went out, or beginnings of them.
 -- Inside: what contracts of private functions cite alone.
 -- Words: the words of contracts, from one place.
 pub mod Output
 pub mod Distinct
 pub mod Plain
+pub mod Sent
 pub mod Inside
 pub mod Words

@@ -10,10 +10,10 @@
 //! let written = write_nodes(alloc, &output, "", String::new(alloc), walk)?;
 //! ```
 //!
-//! [`colored`] gives such a line in the colours of a terminal.
+//! [`colored`] gives such a line in the colours of a terminal. [`write_text`] writes a text, or a beginning of it.
 //!
 //! Definitions are in `specs/`: `Output` says what is shown, `Distinct` when distinct nodes are enough, `Plain` what a line is
-//! without its colours.
+//! without its colours, `Sent` what went out.
 #![tactic(auto)]
 
 mod colours;
@@ -22,9 +22,11 @@ mod forms;
 mod line;
 mod nodes;
 mod values;
+mod writing;
 
 pub use colours::colored;
 pub use distinct::distinct_nodes;
 pub use forms::{Form, Layout, LineEnd, Output};
 pub use line::push_line;
 pub use nodes::{Written, write_nodes};
+pub use writing::write_text;

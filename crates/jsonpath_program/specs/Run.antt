@@ -2,7 +2,6 @@
 use Rattle.std.specs.Prelude.{◌≡◌, ◌⊎◌, ℕ, List, [], ◌∷◌, ◌++◌, map, codes, Option, IfSome, String, string_bytes}
 use Rattle.std.specs.Fmt.{decimal}
 use Rattle.serde_json.specs.Data.{Data}
-use Rattle.std.specs.Io.KnownBytes.{Appends}
 use Rattle.std.specs.declared.alloc.Global.{Global}
 use Rattle.serde_json_path_functions.specs.Patterns.{builtin_functions}
 use Rattle.serde_json_path_functions.specs.declared.error.QueryError.{QueryError}
@@ -33,10 +32,6 @@ IsOneWord words word = map string_bytes words ≡ word ∷ []
 abbrev pub IsReportOfRun : List (String Global) → Option (List ℕ) → List ℕ → Type 0
 IsReportOfRun words input text =
     (document path : List ℕ) × IsOneWord words path × IfSome input (λ bytes. document ≡ bytes) × IsReportOf builtin_functions path document text
-
--- a beginning of the text was appended, of whatever length, and nothing else
-abbrev pub AppendsBeginning : Option (List ℕ) → Option (List ℕ) → List ℕ → Type 0
-AppendsBeginning old new text = (begun left : List ℕ) × (text ≡ begun ++ left) × Appends old new begun
 
 -- the line of a refusal
 abbrev pub line_of : ReportError → List ℕ

@@ -5,7 +5,7 @@ ghost use Rattle.jsonpath_program.specs.Words.{Appends, IsAtEnd, whole_numbers, 
 ghost use Rattle.serde_json_path_parser.specs.declared.error.ParseError as path_error;
 
 use crate::report::{Afterwards, DocumentError, ReportError, report_by};
-use jsonpath_lines::Form;
+use jsonpath_lines::{Form, write_text};
 use serde_json_path::functions::{CachedPatterns, PatternStore};
 use serde_json_path::{ParseError, ParseErrorKind, QueryError};
 use std::alloc::Global;
@@ -24,28 +24,6 @@ const QUERY_REFUSED: u8 = 3;
 const OUTPUT_FAILED: u8 = 3;
 /// There is not exactly one word.
 const USAGE: u8 = 64;
-
-/// Writes a text up to the first failure. An interrupted write is tried again.
-///
-/// `write_all` would not say that what it wrote before a failure is a beginning of the text.
-fn write_text<W: Write>(text: &str, to: &mut W) -> io::Result<()>
-    ensures whole { OnOk result (Appends (W.contents to.old) (W.contents to.new) text.now) }
-    ensures beginning { AppendsBeginning (W.contents to.old) (W.contents to.new) text.now }
-{
-    let mut rest = text.as_bytes();
-    for _ in 0..u64::MAX {
-        if rest.is_empty() {
-            return Ok(());
-        }
-        match to.write(rest) {
-            Ok(0) => return Err(io::Error::from(io::ErrorKind::WriteZero)),
-            Ok(n) => rest = &rest[n..],
-            Err(e) if e.kind() == io::ErrorKind::Interrupted => {}
-            Err(e) => return Err(e),
-        }
-    }
-    Err(io::Error::from(io::ErrorKind::TimedOut))
-}
 
 /// Tells why a path is refused. Where memory for the line is refused, only its beginning is written.
 fn tell_path<E: Write>(alloc: Global, e: &ParseError, err: &mut E)

@@ -4,6 +4,7 @@ use crate::tests::forms::form;
 use crate::tests::inputs::{MemoryInputs, words};
 use jpq_program::colours::{Colours, takes_colors};
 use jpq_program::run::run;
+use jpq_program::streams::Streams;
 use jsonpath_lines::colored;
 use std::alloc::Global;
 use std::test::Fail;
@@ -87,30 +88,34 @@ fn heeds_the_environment(rt: HostRuntime) -> Result<(), Fail> {
     hold_rows(&rt, OUTPUTS, takes)
 }
 
-/// A palette, and a value in its colours, as `cat -v` shows it; or what is told of the palette before the usual colours.
+/// Words, a palette, and a value in its colours, as `cat -v` shows it; or what is told of the palette before the usual colours.
 const PALETTES: &[&str] = &[
-    "0;90:1:2:3:4:5:6:7:8 -> ^[[8m$^[[0m {^[[7m\"a\"^[[0m:[^[[0;90mnull^[[0m,^[[1mfalse^[[0m,^[[2mtrue^[[0m,^[[3m1^[[0m,^[[4m\"b\"^[[0m]}",
-    ":::: -> ^[[35m$^[[0m {^[[32m\"a\"^[[0m:[^[[mnull^[[0m,^[[mfalse^[[0m,^[[mtrue^[[0m,^[[m1^[[0m,^[[m\"b\"^[[0m]}",
-    "red -> jpq: JPQ_COLORS is not in jq's form, as 0;90:0;37:0;37:0;36:0;32~^[[35m$^[[0m {^[[32m\"a\"^[[0m:[^[[33mnull^[[0m,^[[33mfalse^[[0m,^[[33mtrue^[[0m,^[[36m1^[[0m,^[[32m\"b\"^[[0m]}",
+    "$.m ~ 0;90:1:2:3:4:5:6:7:8 -> ^[[8m$['m']^[[0m {^[[7m\"a\"^[[0m:[^[[0;90mnull^[[0m,^[[1mfalse^[[0m,^[[2mtrue^[[0m,^[[3m1^[[0m,^[[4m\"b\"^[[0m]}",
+    "$.m ~ :::: -> ^[[35m$['m']^[[0m {^[[32m\"a\"^[[0m:[^[[mnull^[[0m,^[[mfalse^[[0m,^[[mtrue^[[0m,^[[m1^[[0m,^[[m\"b\"^[[0m]}",
+    "$.m ~ red -> jpq: JPQ_COLORS is not in jq's form, as 0;90:0;37:0;37:0;36:0;32~^[[35m$['m']^[[0m {^[[32m\"a\"^[[0m:[^[[33mnull^[[0m,^[[33mfalse^[[0m,^[[33mtrue^[[0m,^[[36m1^[[0m,^[[32m\"b\"^[[0m]}",
+    // A text with an escape character of its own.
+    "-r  $.e ~ 1:2:3:4:5:6:7:8:9 -> ^[[35mx",
 ];
 
 /// What a run tells and writes by a palette.
-fn by_palette(alloc: Global, palette: &str) -> Came {
+fn by_palette(alloc: Global, row: &str) -> Came {
+    let (told_words, palette) = row.split_once(" ~ ").unwrap_or(("", row));
     let mut inputs = MemoryInputs {
-        standard: r#"{"a":[null,false,true,1,"b"]}"#,
+        standard: r#"{"m":{"a":[null,false,true,1,"b"]},"e":"\u001b[35mx"}"#,
         fails_at: usize::MAX,
     };
-    let mut out: Vec<u8> = Vec::new(alloc);
-    let mut err: Vec<u8> = Vec::new(alloc);
-    let words = words(alloc, "$")?;
+    let out: Vec<u8> = Vec::new(alloc);
+    let err: Vec<u8> = Vec::new(alloc);
+    let mut streams = Streams::new(alloc, out, err);
+    let words = words(alloc, told_words)?;
     let colours = Colours {
         taken: true,
         palette: Some(palette),
     };
-    run(alloc, &words, colours, &mut inputs, &mut out, &mut err);
+    run(alloc, &words, colours, &mut inputs, &mut streams);
     let (told, written) = (
-        str::from_utf8(err.as_slice())?,
-        str::from_utf8(out.as_slice())?,
+        str::from_utf8(streams.err.as_slice())?,
+        str::from_utf8(streams.out.as_slice())?,
     );
     let text = format!(in alloc; "{}{}", told.replace(alloc, "\n", "~")?, written.trim_end())?;
     Ok(

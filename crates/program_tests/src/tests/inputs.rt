@@ -5,6 +5,7 @@ ghost use Rattle.std.specs.Prelude.{None};
 use jpq_program::colours::Colours;
 use jpq_program::inputs::Inputs;
 use jpq_program::run::run;
+use jpq_program::streams::Streams;
 use std::alloc::{AllocError, Global};
 use std::io;
 use std::io::{Read, Write};
@@ -120,12 +121,13 @@ pub(crate) fn run_line(alloc: Global, line: &str, standard: &str) -> Result<Ran,
 pub(crate) fn run_on(alloc: Global, line: &str, mut inputs: MemoryInputs<'_>) -> Result<Ran, Fail> {
     let words = words(alloc, line)?;
     // With room for all that is written, so that each request of the run is one of the program.
-    let mut out: Vec<u8> = Vec::with_capacity(alloc, 16_384)?;
-    let mut err: Vec<u8> = Vec::with_capacity(alloc, 16_384)?;
-    let status = run(alloc, &words, NO_COLOURS, &mut inputs, &mut out, &mut err);
+    let out: Vec<u8> = Vec::with_capacity(alloc, 16_384)?;
+    let err: Vec<u8> = Vec::with_capacity(alloc, 16_384)?;
+    let mut streams = Streams::new(alloc, out, err);
+    let status = run(alloc, &words, NO_COLOURS, &mut inputs, &mut streams);
     Ok(Ran {
         status,
-        out: String::from_str(alloc, str::from_utf8(out.as_slice())?)?,
-        err: String::from_str(alloc, str::from_utf8(err.as_slice())?)?,
+        out: String::from_str(alloc, str::from_utf8(streams.out.as_slice())?)?,
+        err: String::from_str(alloc, str::from_utf8(streams.err.as_slice())?)?,
     })
 }

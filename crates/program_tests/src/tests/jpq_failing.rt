@@ -4,6 +4,7 @@ ghost use Rattle.std.specs.Prelude.{None};
 
 use crate::tests::inputs::{MemoryInputs, NO_COLOURS, run_on, words};
 use jpq_program::run::run;
+use jpq_program::streams::Streams;
 use std::alloc::Global;
 use std::io;
 use std::io::ErrorKind::{BrokenPipe, WriteZero};
@@ -59,11 +60,11 @@ fn run_writing(alloc: Global, call: &str, kind: io::ErrorKind) -> Came {
     let words = words(alloc, "-v  $.*  one.json  two.json")?;
     let (standard, fails_at) = ("", usize::MAX);
     let mut inputs = MemoryInputs { standard, fails_at };
-    let mut out = Writer::new(alloc, call.parse::<usize>()?, kind);
-    let mut err: Vec<u8> = Vec::new(alloc);
-    let status = run(alloc, &words, NO_COLOURS, &mut inputs, &mut out, &mut err);
-    let taken = str::from_utf8(out.taken.as_slice())?;
-    let told = str::from_utf8(err.as_slice())?;
+    let out = Writer::new(alloc, call.parse::<usize>()?, kind);
+    let mut streams = Streams::new(alloc, out, Vec::new(alloc));
+    let status = run(alloc, &words, NO_COLOURS, &mut inputs, &mut streams);
+    let taken = str::from_utf8(streams.out.taken.as_slice())?;
+    let told = str::from_utf8(streams.err.as_slice())?;
     Ok(format!(in alloc; "{status}: {taken:?} {told:?}")?)
 }
 
@@ -82,7 +83,7 @@ fn each_write_fails(rt: HostRuntime) -> Result<(), Fail> {
 }
 
 /// The same of a reader that goes away, which ends the run without a message.
-const GONE: &[&str] = &[r#"0 -> 0: "" """#, r#"2 -> 0: "one.json\t1\n" """#];
+const GONE: &[&str] = &[r#"0 -> 3: "" """#, r#"2 -> 3: "one.json\t1\n" """#];
 
 #[test]
 fn a_reader_that_goes_away_ends_the_run(rt: HostRuntime) -> Result<(), Fail> {

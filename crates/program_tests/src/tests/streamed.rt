@@ -4,6 +4,7 @@ ghost use Rattle.std.specs.Prelude.{None};
 
 use crate::tests::inputs::{MemoryInputs, NO_COLOURS, words};
 use jpq_program::run::run;
+use jpq_program::streams::Streams;
 use std::alloc::{AllocError, Global};
 use std::io;
 use std::io::Write;
@@ -52,15 +53,15 @@ fn run_in_pieces(alloc: Global, given: &str) -> Came {
         standard: standard.as_str(),
         fails_at: usize::MAX,
     };
-    let mut out = Pieces {
+    let out = Pieces {
         lengths: Vec::new(alloc),
         most: most.parse::<usize>()?,
     };
-    let mut err: Vec<u8> = Vec::new(alloc);
+    let mut streams = Streams::new(alloc, out, Vec::new(alloc));
     let words = words(alloc, line)?;
-    let status = run(alloc, &words, NO_COLOURS, &mut inputs, &mut out, &mut err);
-    let told = str::from_utf8(err.as_slice())?;
-    Ok(format!(in alloc; "{status}: {:?} {told:?}", out.lengths)?)
+    let status = run(alloc, &words, NO_COLOURS, &mut inputs, &mut streams);
+    let told = str::from_utf8(streams.err.as_slice())?;
+    Ok(format!(in alloc; "{status}: {:?} {told:?}", streams.out.lengths)?)
 }
 
 /// How many writes are taken, and the words; then what comes of the run. A line has 103 bytes, so that 637 of them are the first
@@ -69,8 +70,8 @@ const RUNS: &[&str] = &[
     "9  -v  $.* -> 0: [65611, 65611, 65611, 9167] \"\"",
     "9  -v  -u  $.* -> 0: [65611, 65611, 65611, 9167] \"\"",
     "9  -v  -n  700  $.* -> 0: [65611, 6489] \"\"",
-    "1  -v  $.* -> 0: [65611] \"\"",
-    "0  -v  $.* -> 0: [] \"\"",
+    "1  -v  $.* -> 3: [65611] \"\"",
+    "0  -v  $.* -> 3: [] \"\"",
     "9  -c  $.* -> 0: [5] \"\"",
     "9  -q  $.* -> 0: [] \"\"",
 ];

@@ -1,6 +1,6 @@
 use Rattle.jsonpath_program.proofs.Words.{◌≡◌, ◌++◌, codes, refl, subst, rules, decimal, kind_of, position_of, message_of, NoMemory, AppendsBeginning, line_of, Path}
 use Rattle.jsonpath_program.proofs.Runs.{no_memory_line}
-use Rattle.jsonpath_program.proofs.Beginnings.{beginning_of_longer}
+use Rattle.jsonpath_lines.proofs.Beginnings.{beginning_of_longer}
 use Rattle.jsonpath_program.proofs.run.tell_path.Goals as goal
 
 pub returns-then-eq : goal.returns-then-eq

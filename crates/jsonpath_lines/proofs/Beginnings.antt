@@ -1,5 +1,5 @@
 -- What a write leaves of a text, and the beginnings of texts that were appended.
-use Rattle.jsonpath_program.proofs.Words.{◌≡◌, ℕ, ◌-◌, List, ◌++◌, length, take, drop, Option, sym, ap, ◌∙◌, append_assoc, take-append-drop, take_rest, AppendsBeginning}
+use Rattle.jsonpath_lines.proofs.Words.{◌≡◌, ℕ, ◌-◌, List, ◌++◌, length, take, drop, Option, sym, ap, ◌∙◌, append_assoc, take-append-drop, take_rest, AppendsBeginning}
 
 pub split_further : (text begun rest : List ℕ) (n : ℕ) → text ≡ begun ++ rest → text ≡ (begun ++ take n rest) ++ take (length rest - n) (drop n rest)
 split_further text begun rest n e =

@@ -1,5 +1,6 @@
-use Rattle.jsonpath_program.proofs.Words.{◌≡◌, ℕ, List, ◌++◌, Appends}
-use Rattle.jsonpath_program.proofs.run.write_text.Given as goal
+use Rattle.jsonpath_lines.proofs.Words.{◌≡◌, ℕ, List, ◌++◌}
+use Rattle.std.specs.Io.KnownBytes.{Appends}
+use Rattle.jsonpath_lines.proofs.writing.write_text.Given as goal
 
 abbrev pub invariant-loop : goal.invariant-loop
 invariant-loop g l = record {

@@ -1,6 +1,6 @@
-use Rattle.jsonpath_program.proofs.Words.{◌++◌, take, sym, ap, ◌∙◌, Appends-kept, Appends-trans}
-use Rattle.jsonpath_program.proofs.Beginnings.{split_further}
-use Rattle.jsonpath_program.proofs.run.write_text.Goals as goal
+use Rattle.jsonpath_lines.proofs.Words.{◌++◌, take, sym, ap, ◌∙◌, Appends-kept, Appends-trans}
+use Rattle.jsonpath_lines.proofs.Beginnings.{split_further}
+use Rattle.jsonpath_lines.proofs.writing.write_text.Goals as goal
 
 pub loop-preserved : goal.loop-preserved
 loop-preserved g c =
