@@ -81,5 +81,5 @@ pub record TookNodes {W E : Type 0} (contents : W → Option (List ℕ)) (before
 -- of these nodes those up to the limit were written, where there was none before, unless writing failed
 pub record FilledNodes {W E : Type 0} (contents : W → Option (List ℕ)) (before : Written W E) (nodes : List Located) (now : Written W E) : Type 0 where
   pub rest : KeepsRest before now
-  pub count : before.count ≡ 0 → now.count ≡ length (up_to before.limit nodes)
+  pub count : before.count ≡ 0 → now.stop ≡ None → now.count ≡ length (up_to before.limit nodes)
   pub lines : before.count ≡ 0 → now.stop ≡ None → WritesLines contents (up_to before.limit nodes) before now

@@ -1,21 +1,37 @@
 //! What is written of a document.
 
+ghost use Rattle.std.specs.Prelude.{◌≡◌, List, None, IfOk, false, map};
+ghost use Rattle.serde_json_path_nodes.specs.Views.{located};
+ghost use Rattle.serde_json_path_functions.specs.Patterns.{builtin_functions};
+ghost use Rattle.serde_json_path_core.specs.Inside.Words.{view, Located, Selects};
+ghost use Rattle.serde_json_path.specs.Paths.{path_tree, with_rule_of};
+ghost use Rattle.jsonpath_lines.specs.Inside.{is_reached, once};
+ghost use Rattle.jpq_program.specs.Inside.{FilledNodes};
+
 use crate::answers::push_answer;
 use crate::inexact::inexact_number;
 use crate::paths::AskedPath;
-use crate::rows::{FirstNode, Separator, push_row};
 use crate::showing::{Showing, end_of};
 use crate::source::{Heads, Source, shown_name};
 use crate::streams::{Stop, Streams};
+use crate::tables::separator_of;
 use crate::written::Written;
 use jpq_options::options::Shown;
 use jsonpath_document::read_document;
 use jsonpath_lines::{Form, Output, distinct_nodes};
 use serde_json::Value;
-use serde_json_path::QueryError;
 use serde_json_path::functions::CachedPatterns;
+use serde_json_path::{LocatedNode, QueryError};
 use std::alloc::Global;
 use std::io::Write;
+
+/// A document, or what of it the paths can reach, and where it comes from.
+#[derive(Clone, Copy, Drop)]
+pub(crate) struct Document<'d> {
+    pub(crate) source: Source<'d>,
+    pub(crate) bytes: &'d [u8],
+    pub(crate) value: &'d Value,
+}
 
 /// What is asked of each document, and how it is shown.
 #[derive(Drop)]
@@ -41,26 +57,50 @@ fn least(one: Option<u64>, other: Option<u64>) -> Option<u64> {
 }
 
 impl Answering<'_> {
+    /// Writes nodes, as many as are wanted.
+    fn write_each<W: Write, E: Write>(
+        &self,
+        nodes: &[LocatedNode<'_>],
+        written: &mut Written<'_, '_, '_, '_, W, E>,
+    ) -> Result<(), QueryError>
+        requires none { written.old.count ≡ 0 }
+        requires goes_on { written.old.stop ≡ None }
+        requires below { is_reached written.old.limit 0 ≡ false }
+        ensures { IfOk result (λ _.
+            FilledNodes W.contents written.old (map located nodes.now) written.new) }
+    {
+        for node in nodes {
+            if !written.take_node(node)? {
+                return Ok(());
+            }
+        }
+        Ok(())
+    }
+
     /// Writes the nodes of a path, as they are found.
     fn write_nodes<W: Write, E: Write>(
         &self,
         path: &AskedPath,
         document: &Value,
-        written: &mut Written<'_, W, E>,
-    ) -> Result<(), QueryError> {
+        written: &mut Written<'_, '_, '_, '_, W, E>,
+    ) -> Result<(), QueryError>
+        requires none { written.old.count ≡ 0 }
+        requires goes_on { written.old.stop ≡ None }
+        ensures { IfOk result (λ _. (nodes : List Located)
+            × Selects (with_rule_of path.now.path builtin_functions) (path_tree path.now.path)
+            (view document.now) nodes
+            × FilledNodes W.contents written.old (once self.now.showing.output.unique nodes)
+            written.new) }
+    {
+        let walk = path.path.walk_under(self.alloc, document, &self.functions)?;
         if written.is_reached() {
             return Ok(());
         }
-        let walk = path.path.walk_under(self.alloc, document, &self.functions)?;
-        if !self.showing.output.unique {
-            walk.feed(written)?;
-            return Ok(());
+        if self.showing.output.unique {
+            let nodes = distinct_nodes(self.alloc, written.limit, walk)?;
+            return self.write_each(&nodes, written);
         }
-        for node in distinct_nodes(self.alloc, written.limit, walk)? {
-            if !written.take_node(&node)? {
-                return Ok(());
-            }
-        }
+        walk.feed(written)?;
         Ok(())
     }
 
@@ -70,8 +110,11 @@ impl Answering<'_> {
         &self,
         path: &AskedPath,
         bytes: &[u8],
-        written: &mut Written<'_, W, E>,
-    ) -> Result<(), QueryError> {
+        written: &mut Written<'_, '_, '_, '_, W, E>,
+    ) -> Result<(), QueryError>
+        requires none { written.old.count ≡ 0 }
+        requires goes_on { written.old.stop ≡ None }
+    {
         match read_document(self.alloc, bytes) {
             Ok(document) => self.write_nodes(path, &document, written),
             Err(_) => Err(QueryError::Memory),
@@ -79,14 +122,14 @@ impl Answering<'_> {
     }
 
     /// Keeps that so many nodes were shown or counted.
-    fn keep_count<W: Write, E: Write>(&self, count: u64, streams: &mut Streams<W, E>) {
+    pub(crate) fn keep_count<W: Write, E: Write>(&self, count: u64, streams: &mut Streams<W, E>) {
         streams.outcome.selected = streams.outcome.selected || count > 0;
         streams.left = streams.left.map(|left| left.saturating_sub(count));
         streams.total = streams.total.saturating_add(count);
     }
 
     /// Tells that a query is refused.
-    fn refuse_query<W: Write, E: Write>(
+    pub(crate) fn refuse_query<W: Write, E: Write>(
         &self,
         source: Source<'_>,
         path: &AskedPath,
@@ -104,12 +147,47 @@ impl Answering<'_> {
         Ok(())
     }
 
-    /// Writes what each path selects from a document, or what of it the paths can reach.
+    /// Writes what a path selects from a document, after what was written of earlier paths in the same array. Says whether anything
+    /// stands in the array now.
+    fn answer_path<W: Write, E: Write>(
+        &self,
+        document: Document<'_>,
+        path: &AskedPath,
+        head: &str,
+        is_later: bool,
+        streams: &mut Streams<W, E>,
+    ) -> Result<bool, Stop> {
+        let limit = least(self.showing.output.most, streams.left);
+        let mut written = Written {
+            showing: &self.showing,
+            streams: &mut *streams,
+            head,
+            is_later,
+            limit,
+            count: 0,
+            stop: None,
+        };
+        let answered = match self.write_nodes(path, document.value, &mut written) {
+            Err(QueryError::Pattern) if written.count == 0 => {
+                self.write_nodes_of_whole(path, document.bytes, &mut written)
+            }
+            answered => answered,
+        };
+        let (count, stop, is_later) = (written.count, written.stop, written.is_later);
+        self.keep_count(count, streams);
+        if let Some(stop) = stop {
+            return Err(stop);
+        }
+        if let Err(e) = answered {
+            self.refuse_query(document.source, path, e, streams)?;
+        }
+        Ok(is_later)
+    }
+
+    /// Writes what each path selects from a document.
     fn answer_nodes<W: Write, E: Write>(
         &self,
-        source: Source<'_>,
-        bytes: &[u8],
-        document: &Value,
+        document: Document<'_>,
         streams: &mut Streams<W, E>,
     ) -> Result<(), Stop> {
         let is_json = self.showing.output.form == Form::Json;
@@ -118,32 +196,8 @@ impl Answering<'_> {
         }
         let mut is_later = false;
         for (index, path) in self.paths.iter().enumerate() {
-            let head = self.head(source, index.saturating_add(1))?;
-            let limit = least(self.showing.output.most, streams.left);
-            let mut written = Written {
-                showing: &self.showing,
-                streams: &mut *streams,
-                head: head.as_str(),
-                is_later,
-                limit,
-                count: 0,
-                stop: None,
-            };
-            let answered = match self.write_nodes(path, document, &mut written) {
-                Err(QueryError::Pattern) if written.count == 0 => {
-                    self.write_nodes_of_whole(path, bytes, &mut written)
-                }
-                answered => answered,
-            };
-            let (count, stop) = (written.count, written.stop);
-            is_later = written.is_later;
-            self.keep_count(count, streams);
-            if let Some(stop) = stop {
-                return Err(stop);
-            }
-            if let Err(e) = answered {
-                self.refuse_query(source, path, e, streams)?;
-            }
+            let head = self.head(document.source, index.saturating_add(1))?;
+            is_later = self.answer_path(document, path, head.as_str(), is_later, streams)?;
         }
         if is_json {
             self.showing
@@ -193,163 +247,45 @@ impl Answering<'_> {
         }
     }
 
-    /// Writes how many nodes each path selects, unless their sum is wanted alone, or nothing.
+    /// Writes how many nodes a path selects from a document, unless the sum is wanted alone, or nothing.
+    fn answer_count<W: Write, E: Write>(
+        &self,
+        document: Document<'_>,
+        path: &AskedPath,
+        head: &str,
+        streams: &mut Streams<W, E>,
+    ) -> Result<(), Stop> {
+        let limit = least(self.showing.output.most, streams.left);
+        let mut text = String::new(self.alloc);
+        let answer = match self.count(path, head, limit, document.value, &mut text) {
+            Err(QueryError::Pattern) => {
+                self.count_of_whole(path, head, limit, document.bytes, &mut text)
+            }
+            answer => answer,
+        };
+        match answer {
+            Ok(count) => {
+                self.keep_count(count, streams);
+                if !self.total {
+                    streams.pending.push_str(text.as_str())?;
+                }
+                Ok(())
+            }
+            Err(e) => self.refuse_query(document.source, path, e, streams),
+        }
+    }
+
+    /// Writes how many nodes each path selects from a document.
     fn answer_counts<W: Write, E: Write>(
         &self,
-        source: Source<'_>,
-        bytes: &[u8],
-        document: &Value,
+        document: Document<'_>,
         streams: &mut Streams<W, E>,
     ) -> Result<(), Stop> {
         for (index, path) in self.paths.iter().enumerate() {
-            let head = self.head(source, index.saturating_add(1))?;
-            let limit = least(self.showing.output.most, streams.left);
-            let mut text = String::new(self.alloc);
-            let answer = match self.count(path, head.as_str(), limit, document, &mut text) {
-                Err(QueryError::Pattern) => {
-                    self.count_of_whole(path, head.as_str(), limit, bytes, &mut text)
-                }
-                answer => answer,
-            };
-            match answer {
-                Ok(count) => {
-                    self.keep_count(count, streams);
-                    if !self.total {
-                        streams.pending.push_str(text.as_str())?;
-                    }
-                }
-                Err(e) => self.refuse_query(source, path, e, streams)?,
-            }
+            let head = self.head(document.source, index.saturating_add(1))?;
+            self.answer_count(document, path, head.as_str(), streams)?;
         }
         Ok(())
-    }
-
-    /// The first node of a path in a document, as a cell, and whether there are more.
-    fn first_node(&self, path: &AskedPath, document: &Value) -> Result<FirstNode, QueryError> {
-        let mut first = FirstNode {
-            alloc: self.alloc,
-            cell: None,
-            may_be_inexact: false,
-            has_more: false,
-        };
-        let walk = path.path.walk_under(self.alloc, document, &self.functions)?;
-        walk.feed(&mut first)?;
-        Ok(first)
-    }
-
-    /// The same of a path of which a pattern was refused, on the whole document.
-    fn first_node_of_whole(&self, path: &AskedPath, bytes: &[u8]) -> Result<FirstNode, QueryError> {
-        match read_document(self.alloc, bytes) {
-            Ok(document) => self.first_node(path, &document),
-            Err(_) => Err(QueryError::Memory),
-        }
-    }
-
-    /// Tells, once for a run, that a path selects several nodes of a document, of which a table has the first.
-    fn tell_several<W: Write, E: Write>(
-        &self,
-        source: Source<'_>,
-        path: &AskedPath,
-        streams: &mut Streams<W, E>,
-    ) -> Result<(), Stop> {
-        if streams.told_several || self.silent {
-            return Ok(());
-        }
-        streams.told_several = true;
-        let (name, text) = (shown_name(source.name), path.text.as_str());
-        let message = format!(in self.alloc;
-            "jpq: {name}: {text} selects several nodes, of which a row has the first\n"
-        )?;
-        streams.tell(message.as_str());
-        Ok(())
-    }
-
-    /// A path's cell in a document's row; empty where it selects nothing, or is refused.
-    fn cell<W: Write, E: Write>(
-        &self,
-        source: Source<'_>,
-        path: &AskedPath,
-        bytes: &[u8],
-        document: &Value,
-        streams: &mut Streams<W, E>,
-    ) -> Result<String, Stop> {
-        let answer = match self.first_node(path, document) {
-            Err(QueryError::Pattern) => self.first_node_of_whole(path, bytes),
-            answer => answer,
-        };
-        let first = match answer {
-            Ok(first) => first,
-            Err(e) => {
-                self.refuse_query(source, path, e, streams)?;
-                return Ok(String::new(self.alloc));
-            }
-        };
-        if first.has_more {
-            self.tell_several(source, path, streams)?;
-        }
-        streams.may_be_inexact |= first.may_be_inexact;
-        match first.cell {
-            Some(cell) => {
-                self.keep_count(1, streams);
-                Ok(cell)
-            }
-            None => Ok(String::new(self.alloc)),
-        }
-    }
-
-    /// Writes a document's row.
-    fn answer_row<W: Write, E: Write>(
-        &self,
-        separator: Separator,
-        source: Source<'_>,
-        bytes: &[u8],
-        document: &Value,
-        streams: &mut Streams<W, E>,
-    ) -> Result<(), Stop> {
-        let mut cells = Vec::new(self.alloc);
-        if self.heads.file {
-            cells.push(String::from_str(self.alloc, shown_name(source.name))?)?;
-        }
-        if self.heads.line {
-            cells.push(format!(in self.alloc; "{}", source.line)?)?;
-        }
-        for path in self.paths {
-            cells.push(self.cell(source, path, bytes, document, streams)?)?;
-        }
-        self.push_row(separator, cells.as_slice(), streams)
-    }
-
-    /// Appends a row to what is pending.
-    fn push_row<W: Write, E: Write>(
-        &self,
-        separator: Separator,
-        cells: &[String],
-        streams: &mut Streams<W, E>,
-    ) -> Result<(), Stop> {
-        let end = self.showing.output.end;
-        push_row(self.alloc, &mut streams.pending, separator, end, cells)?;
-        Ok(())
-    }
-
-    /// Writes the paths as the first row of a table.
-    pub(crate) fn write_header<W: Write, E: Write>(
-        &self,
-        streams: &mut Streams<W, E>,
-    ) -> Result<(), Stop> {
-        let Some(separator) = separator_of(self.shown) else {
-            return Ok(());
-        };
-        let mut cells = Vec::new(self.alloc);
-        for (is_shown, name) in [(self.heads.file, "file"), (self.heads.line, "line")] {
-            if is_shown {
-                cells.push(String::from_str(self.alloc, name)?)?;
-            }
-        }
-        for path in self.paths {
-            cells.push(String::from_str(self.alloc, path.text.as_str())?)?;
-        }
-        self.push_row(separator, cells.as_slice(), streams)?;
-        streams.write()
     }
 
     /// Whether values are shown of nodes.
@@ -364,16 +300,15 @@ impl Answering<'_> {
     /// Tells, once for a run, of a number in a document that has more digits than are kept.
     fn tell_inexact<W: Write, E: Write>(
         &self,
-        source: Source<'_>,
-        bytes: &[u8],
+        document: Document<'_>,
         streams: &mut Streams<W, E>,
     ) -> Result<(), Stop> {
-        if streams.told_inexact || self.silent {
+        if streams.told_inexact {
             return Ok(());
         }
-        if let Some(number) = inexact_number(bytes) {
+        if let Some(number) = inexact_number(document.bytes) {
             streams.told_inexact = true;
-            let name = shown_name(source.name);
+            let name = shown_name(document.source.name);
             streams.tell(format!(in self.alloc;
                 "jpq: {name}: {number} is held as the double next to it\n"
             )?.as_str());
@@ -381,36 +316,45 @@ impl Answering<'_> {
         Ok(())
     }
 
-    /// Answers a document, or what of it the paths can reach: writes what is shown of it, and tells what is refused.
+    /// Answers a document: writes what is shown of it, and tells what is refused.
     pub(crate) fn answer<W: Write, E: Write>(
         &self,
-        source: Source<'_>,
-        bytes: &[u8],
-        document: &Value,
+        document: Document<'_>,
         streams: &mut Streams<W, E>,
     ) -> Result<(), Stop> {
         streams.may_be_inexact = false;
         match (separator_of(self.shown), self.showing.output.form) {
-            (Some(separator), _) => self.answer_row(separator, source, bytes, document, streams)?,
-            (None, Form::Count | Form::Nothing) => {
-                self.answer_counts(source, bytes, document, streams)?
-            }
-            (None, _) => self.answer_nodes(source, bytes, document, streams)?,
+            (Some(separator), _) => self.answer_row(separator, document, streams)?,
+            (None, Form::Count | Form::Nothing) => self.answer_counts(document, streams)?,
+            (None, _) => self.answer_nodes(document, streams)?,
         }
         if !streams.pending.is_empty() {
             streams.write()?;
         }
-        if streams.may_be_inexact && self.shows_values() {
-            self.tell_inexact(source, bytes, streams)?;
-        }
-        if streams.total == 0 && !self.silent {
-            self.note_reason(bytes, streams)?;
-        }
+        self.tell_notes(document, streams)?;
         if self.shown == Shown::Nodes(Form::Nothing) && streams.outcome.selected {
             return Err(Stop::Found);
         }
         if streams.left == Some(0) {
             return Err(Stop::Enough);
+        }
+        Ok(())
+    }
+
+    /// Tells, or keeps, what is to be noted of a document that was answered.
+    fn tell_notes<W: Write, E: Write>(
+        &self,
+        document: Document<'_>,
+        streams: &mut Streams<W, E>,
+    ) -> Result<(), Stop> {
+        if self.silent {
+            return Ok(());
+        }
+        if streams.may_be_inexact && self.shows_values() {
+            self.tell_inexact(document, streams)?;
+        }
+        if streams.total == 0 {
+            self.note_reason(document.bytes, streams)?;
         }
         Ok(())
     }
@@ -423,14 +367,5 @@ impl Answering<'_> {
         let (total, end) = (streams.total, end_of(self.showing.output.end));
         write!(streams.pending, "{total}{end}")?;
         streams.write()
-    }
-}
-
-/// What stands between the cells of a row, where rows are shown.
-fn separator_of(shown: Shown) -> Option<Separator> {
-    match shown {
-        Shown::Tsv => Some(Separator::Tab),
-        Shown::Csv => Some(Separator::Comma),
-        Shown::Nodes(_) => None,
     }
 }

@@ -1,6 +1,6 @@
 //! The documents of the inputs, and what is told of those that are none.
 
-use crate::answering::Answering;
+use crate::answering::{Answering, Document};
 use crate::encodings::{encoding_of, without_mark};
 use crate::inputs::Inputs;
 use crate::refusal::push_document_refusal;
@@ -58,7 +58,14 @@ impl Documents<'_> {
     ) -> Result<(), Stop> {
         let e = match self.document(bytes) {
             Ok(document) => {
-                let answered = self.answering.answer(source, bytes, &document, streams);
+                let answered = self.answering.answer(
+                    Document {
+                        source,
+                        bytes,
+                        value: &document,
+                    },
+                    streams,
+                );
                 if self.is_only {
                     forget(document);
                 }

@@ -24,5 +24,6 @@ pub mod run;
 mod showing;
 mod source;
 pub mod streams;
+mod tables;
 mod tokens;
 mod written;

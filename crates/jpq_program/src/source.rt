@@ -1,5 +1,8 @@
 //! Where documents come from, and what is written of that.
 
+ghost use Rattle.std.specs.Prelude.{◌≡◌, IfOk, string_bytes};
+ghost use Rattle.jpq_program.specs.Heads.{head_text, shown_name};
+
 use jsonpath_lines::Layout;
 use serde_json::Value;
 use std::alloc::{AllocError, Global};
@@ -14,7 +17,9 @@ pub(crate) struct Source<'n> {
 }
 
 /// The name of an input, as messages and lines begin with it.
-pub(crate) fn shown_name(name: &str) -> &str {
+pub(crate) fn shown_name(name: &str) -> &str
+    ensures { result.now ≡ shown_name name.now }
+{
     if name == "-" { "standard input" } else { name }
 }
 
@@ -36,7 +41,10 @@ impl Heads {
         alloc: Global,
         source: Source<'_>,
         number: usize,
-    ) -> Result<String, AllocError> {
+    ) -> Result<String, AllocError>
+        ensures { IfOk result (λ head. string_bytes head
+            ≡ head_text self source.entry.name.now source.entry.line number) }
+    {
         let mut head = String::new(alloc);
         if self.file {
             write!(head, "{}\t", shown_name(source.name))?;

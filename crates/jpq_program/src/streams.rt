@@ -154,6 +154,7 @@ impl<W: Write, E: Write> Streams<W, E> {
     fn put(&mut self) -> io::Result<()>
         ensures kept { self.new ≡ record self.old { out = self.new.out; pending = self.new.pending } }
         ensures whole { OnOk result (Writes W.contents self.old self.new []) }
+        ensures all { OnOk result (string_bytes self.new.pending ≡ []) }
         ensures beginning { AppendsBeginning (W.contents self.old.out) (W.contents self.new.out)
             (string_bytes self.old.pending) }
     {

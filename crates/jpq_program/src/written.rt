@@ -17,11 +17,11 @@ use std::mem::replace;
 
 /// The nodes of a path as they are written.
 #[derive(Drop)]
-pub(crate) struct Written<'a, W, E> {
-    pub(crate) showing: &'a Showing<'a>,
-    pub(crate) streams: &'a mut Streams<W, E>,
+pub(crate) struct Written<'v, 'p, 's, 'h, W, E> {
+    pub(crate) showing: &'v Showing<'p>,
+    pub(crate) streams: &'s mut Streams<W, E>,
     /// What each line, or the members of each object, begin with.
-    pub(crate) head: &'a str,
+    pub(crate) head: &'h str,
     /// Whether a node was written before in the same array.
     pub(crate) is_later: bool,
     pub(crate) limit: Option<u64>,
@@ -31,7 +31,7 @@ pub(crate) struct Written<'a, W, E> {
     pub(crate) stop: Option<Stop>,
 }
 
-impl<W: Write, E: Write> Written<'_, W, E> {
+impl<W: Write, E: Write> Written<'_, '_, '_, '_, W, E> {
     /// Appends what is shown of a node to a text.
     #[inline(always)]
     fn push(&mut self, text: &mut String, node: &LocatedNode<'_>) -> Result<(), AllocError>
@@ -91,7 +91,7 @@ impl<W: Write, E: Write> Written<'_, W, E> {
     }
 }
 
-impl<'b, W: Write, E: Write> Sink<'b> for Written<'_, W, E> {
+impl<'b, W: Write, E: Write> Sink<'b> for Written<'_, '_, '_, '_, W, E> {
     ghost use Rattle.jpq_program.specs.Inside.{FilledNodes, TookNodes};
 
     ghost took = { TookNodes W.contents };

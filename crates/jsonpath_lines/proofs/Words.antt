@@ -28,7 +28,7 @@ pub use Rattle.serde_json.proofs.Texts.{print-outline, tokens_from_order, unless
 pub use Rattle.serde_json.specs.Read.{max_depth, of_items, of_json, read}
 pub use Rattle.serde_json.specs.Written.{blank, blank_items, blank_members, comma_if, compact_text, has_float, items_outline, members_outline, outline}
 pub use Rattle.serde_json_path.proofs.Words.{Bool, Err, List, None, Ok, OnOk, Option, Result, SFits, Some, [], ap, append-nil, append_assoc, ap₂, arith, codes, decimal, encode_utf8, false, fold, if◌then◌else◌, inl, inr, int_lt, is_ok, length, length-append, map, max, nat_lt, negsuc, of_z, option_map, pos, refl, rules, string_bytes, subst, suc, sym, take, to_z, to_z-of_z, true, w64, zero, ℕ, ℤ, ◌++◌, ◌+◌, ◌<◌, ◌==◌, ◌^◌, ◌||◌, ◌↔◌, ◌∙◌, ◌∷◌, ◌≡◌, ◌≤◌, ◌⊎◌}
-pub use Rattle.serde_json_path_nodes.proofs.Words.{Data, Items, Located, Members, Step, array, as_i64, as_number, as_u64, boolean, cases_Bool, chars_rest, depth, first_places, first_places_after, fold-append, is_among, item, items_depth, list_any-append, located, location_of, member, members_depth, nat_tests, ne_eqb, negative, no_items, no_members, normal, null, number, object, on_ok_weaker, option_and_then, same_steps, same_steps_decides, signed_decimal, string, unsigned}
+pub use Rattle.serde_json_path_nodes.proofs.Words.{take-append-drop, take_rest, Data, Items, Located, Members, Step, array, as_i64, as_number, as_u64, boolean, cases_Bool, chars_rest, depth, first_places, first_places_after, fold-append, is_among, item, items_depth, list_any-append, located, location_of, member, members_depth, nat_tests, ne_eqb, negative, no_items, no_members, normal, null, number, object, on_ok_weaker, option_and_then, same_steps, same_steps_decides, signed_decimal, string, unsigned}
 pub use Rattle.serde_json_path_nodes.specs.declared.located_node.LocatedNode.{LocatedNode}
 pub use Rattle.serde_json_path_syntax.proofs.Words.{length-map, length-take, length-take-le, map_push, nil_from_length, take-append-le, take-map, take_all, take_more}
 pub use Rattle.std.proofs.lemmas.Grind.{common_steps}

@@ -1,0 +1,18 @@
+-- What lines begin with.
+use Rattle.std.specs.Prelude.{ℕ, Bool, List, [], ◌++◌, codes, if◌then◌else◌}
+use Rattle.std.specs.Fmt.{decimal}
+use Rattle.std.specs.Str.{bytes_eq}
+use Rattle.jpq_program.specs.declared.source.Heads.{Heads}
+
+-- an input's name, as it is shown: `-` is standard input
+abbrev pub shown_name : List ℕ → List ℕ
+shown_name name = if bytes_eq name (codes "-") then codes "standard input" else name
+
+-- a text and a tab, where it is asked for
+abbrev pub tabbed : Bool → List ℕ → List ℕ
+tabbed is text = if is then text ++ codes "\t" else []
+
+-- the input's name, the number of the document's line in it, and the path's number, each where it is asked for and with a tab after it
+abbrev pub head_text : Heads → List ℕ → ℕ → ℕ → List ℕ
+head_text heads name line number = tabbed heads.file (shown_name name)
+    ++ (tabbed heads.line (decimal line) ++ tabbed heads.number (decimal number))
