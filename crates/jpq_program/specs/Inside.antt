@@ -1,5 +1,5 @@
 -- What contracts of private functions cite alone.
-use Rattle.std.specs.Prelude.{◌≡◌, ◌+◌, ℕ, Bool, true, false, not, ◌&&◌, List, [], ◌∷◌, ◌++◌, Option, None, length, is_some, string_bytes}
+use Rattle.std.specs.Prelude.{◌≡◌, ◌+◌, ◌⊎◌, Err, Ok, Result, codes, if◌then◌else◌, ℕ, Bool, true, false, not, ◌&&◌, ◌||◌, List, [], ◌∷◌, ◌++◌, Option, None, length, is_some, string_bytes}
 use Rattle.std.specs.Io.KnownBytes.{Appends}
 use Rattle.serde_json_path_nodes.specs.Location.{Located}
 use Rattle.jsonpath_lines.specs.Inside.{is_reached}
@@ -7,7 +7,15 @@ use Rattle.jsonpath_lines.specs.Inside as lines
 use Rattle.jsonpath_lines.specs.Output.{IsLine, IsLineOfEach, up_to}
 use Rattle.jsonpath_lines.specs.declared.forms.Form.{Form}
 use Rattle.jsonpath_lines.specs.declared.forms.Form.TheVariants.{Json, Count, Nothing}
+use Rattle.jsonpath_lines.specs.declared.forms.Output.{Output}
+use Rattle.serde_json.specs.Data.{Data}
+use Rattle.serde_json_path.specs.declared.path.JsonPath.{JsonPath}
+use Rattle.serde_json_path_functions.specs.Functions.{FunctionSet}
+use Rattle.jpq_program.specs.Answers.{IsAnswer, IsAnswerOn}
 use Rattle.jpq_program.specs.declared.showing.Showing.{Showing}
+use Rattle.jpq_program.specs.declared.streams.Outcome.{Outcome}
+use Rattle.jpq_program.specs.declared.streams.Stop.{Stop}
+use Rattle.jpq_program.specs.declared.streams.Stop.TheVariants.{Enough, Found, Memory, OutputFailed, ReaderGone, Refused, WrongUse}
 use Rattle.jpq_program.specs.declared.streams.Streams.{Streams}
 use Rattle.jpq_program.specs.declared.written.Written.{Written}
 
@@ -22,6 +30,48 @@ Adds out waiting later_out later_waiting text =
 abbrev pub Writes : {W E : Type 0} → (W → Option (List ℕ)) → Streams W E → Streams W E → List ℕ → Type 0
 Writes contents before after text =
     Adds (contents before.out) (string_bytes before.pending) (contents after.out) (string_bytes after.pending) text
+
+-- a text was added, where nothing was refused; and what it is, and whether it shows a node
+pub record Answered {W E : Type 0} (contents : W → Option (List ℕ)) (Is : List ℕ → Bool → Type 0) (before after : Streams W E) : Type 0 where
+  pub text : List ℕ
+  pub any : Bool
+  pub is : Is text any
+  pub writes : Writes contents before after text
+  pub selected : after.outcome.selected ≡ (before.outcome.selected || any)
+  pub right : before.outcome.refused ≡ false
+  pub left : after.left ≡ None
+
+-- what a path shows of a value, it shows of the document that the bytes are
+abbrev pub ShowsAs : Output → List ℕ → Data → JsonPath → Type 0
+ShowsAs output bytes value path = (F : FunctionSet) (head text : List ℕ) (any : Bool)
+    → IsAnswer F path output head value text any → IsAnswerOn F path output head bytes text any
+
+-- ---- how a run ends
+
+-- the status of what became of the documents
+abbrev pub status_of : Outcome → ℕ
+status_of outcome = if outcome.refused then 2 else if outcome.selected then 0 else 1
+
+-- writing failed, or who reads went away
+abbrev pub IsFailure : Stop → Type 0
+IsFailure stop = (stop ≡ OutputFailed) ⊎ (stop ≡ ReaderGone)
+
+-- the status of a run that ended so, where values are bound to names or not
+abbrev pub status_after : Result (Unit {0}) Stop → Bool → Outcome → ℕ
+status_after (Ok _) binds outcome = status_of outcome
+status_after (Err Enough) binds outcome = status_of outcome
+status_after (Err Found) binds outcome = 0
+status_after (Err WrongUse) binds outcome = if binds then 64 else 2
+status_after (Err Refused) binds outcome = 2
+status_after (Err Memory) binds outcome = 2
+status_after (Err OutputFailed) binds outcome = 3
+status_after (Err ReaderGone) binds outcome = 3
+
+-- what is told of that
+abbrev pub told_after : Result (Unit {0}) Stop → List ℕ
+told_after (Err Memory) = codes "jpq: no memory\n"
+told_after (Err OutputFailed) = codes "jpq: the output failed\n"
+told_after _ = []
 
 -- ---- nodes as they are written
 

@@ -1,7 +1,9 @@
 -- What contracts cite:
--- Query: the exit statuses.
+-- Run: what comes of a run.
 -- Heads: what lines begin with.
+-- Answers: what is shown of a document.
 -- Inside: what contracts of private functions cite alone.
-pub mod Query
+pub mod Run
 pub mod Heads
+pub mod Answers
 pub mod Inside

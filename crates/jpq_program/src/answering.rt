@@ -1,12 +1,13 @@
 //! What is written of a document.
 
-ghost use Rattle.std.specs.Prelude.{◌≡◌, List, None, IfOk, false, map};
+ghost use Rattle.std.specs.Prelude.{◌≡◌, ◌||◌, List, None, IfErr, IfOk, OnOk, false, map, nat_lt, true};
 ghost use Rattle.serde_json_path_nodes.specs.Views.{located};
 ghost use Rattle.serde_json_path_functions.specs.Patterns.{builtin_functions};
-ghost use Rattle.serde_json_path_core.specs.Inside.Words.{view, Located, Selects};
+ghost use Rattle.serde_json_path_core.specs.Inside.Words.{view, Located, OnlyMemoryOrPattern, Selects};
 ghost use Rattle.serde_json_path.specs.Paths.{path_tree, with_rule_of};
 ghost use Rattle.jsonpath_lines.specs.Inside.{is_reached, once};
-ghost use Rattle.jpq_program.specs.Inside.{FilledNodes};
+ghost use Rattle.jpq_program.specs.Answers.{CallsNoPattern, IsAnswerOn};
+ghost use Rattle.jpq_program.specs.Inside.{Answered, FilledNodes, ShowsAs, shows_lines};
 
 use crate::answers::push_answer;
 use crate::inexact::inexact_number;
@@ -49,7 +50,9 @@ pub(crate) struct Answering<'a> {
 }
 
 /// The least of two limits.
-fn least(one: Option<u64>, other: Option<u64>) -> Option<u64> {
+fn least(one: Option<u64>, other: Option<u64>) -> Option<u64>
+    ensures { other ≡ None → result ≡ one }
+{
     match (one, other) {
         (Some(one), Some(other)) => Some(one.min(other)),
         (None, limit) | (limit, None) => limit,
@@ -66,8 +69,9 @@ impl Answering<'_> {
         requires none { written.old.count ≡ 0 }
         requires goes_on { written.old.stop ≡ None }
         requires below { is_reached written.old.limit 0 ≡ false }
-        ensures { IfOk result (λ _.
+        ensures filled { IfOk result (λ _.
             FilledNodes W.contents written.old (map located nodes.now) written.new) }
+        ensures refused { IfErr result (λ e. e ≡ QueryError.Memory) }
     {
         for node in nodes {
             if !written.take_node(node)? {
@@ -86,11 +90,13 @@ impl Answering<'_> {
     ) -> Result<(), QueryError>
         requires none { written.old.count ≡ 0 }
         requires goes_on { written.old.stop ≡ None }
-        ensures { IfOk result (λ _. (nodes : List Located)
+        ensures filled { IfOk result (λ _. (nodes : List Located)
             × Selects (with_rule_of path.now.path builtin_functions) (path_tree path.now.path)
             (view document.now) nodes
             × FilledNodes W.contents written.old (once self.now.showing.output.unique nodes)
             written.new) }
+        ensures refused { OnlyMemoryOrPattern (with_rule_of path.now.path builtin_functions)
+            (path_tree path.now.path) (view document.now) result }
     {
         let walk = path.path.walk_under(self.alloc, document, &self.functions)?;
         if written.is_reached() {
@@ -104,25 +110,45 @@ impl Answering<'_> {
         Ok(())
     }
 
-    /// The same of a path of which a pattern was refused before a node was written, on the whole document, so that what is told is
-    /// true of that.
-    fn write_nodes_of_whole<W: Write, E: Write>(
+    /// The same of a document. Where a pattern is refused before a node is written, the whole document is asked, so that what is
+    /// told is true of that.
+    fn write_path<W: Write, E: Write>(
         &self,
         path: &AskedPath,
-        bytes: &[u8],
+        document: Document<'_>,
         written: &mut Written<'_, '_, '_, '_, W, E>,
     ) -> Result<(), QueryError>
         requires none { written.old.count ≡ 0 }
         requires goes_on { written.old.stop ≡ None }
+        ensures { IfOk result (λ _. CallsNoPattern builtin_functions path.now.path
+            → (nodes : List Located)
+            × Selects (with_rule_of path.now.path builtin_functions) (path_tree path.now.path)
+            (view document.entry.value.now) nodes
+            × FilledNodes W.contents written.old (once self.now.showing.output.unique nodes)
+            written.new) }
     {
-        match read_document(self.alloc, bytes) {
-            Ok(document) => self.write_nodes(path, &document, written),
-            Err(_) => Err(QueryError::Memory),
+        match self.write_nodes(path, document.value, written) {
+            Err(QueryError::Pattern) if written.count == 0 && written.stop.is_none() => {
+                match read_document(self.alloc, document.bytes) {
+                    Ok(whole) => self.write_nodes(path, &whole, written),
+                    Err(_) => Err(QueryError::Memory),
+                }
+            }
+            answered => answered,
         }
     }
 
     /// Keeps that so many nodes were shown or counted.
-    pub(crate) fn keep_count<W: Write, E: Write>(&self, count: u64, streams: &mut Streams<W, E>) {
+    pub(crate) fn keep_count<W: Write, E: Write>(&self, count: u64, streams: &mut Streams<W, E>)
+        ensures kept { streams.new ≡ record streams.old {
+          outcome = record streams.old.outcome {
+            selected = streams.old.outcome.selected || nat_lt 0 count;
+          };
+          left = streams.new.left;
+          total = streams.new.total;
+        } }
+        ensures left { streams.old.left ≡ None → streams.new.left ≡ None }
+    {
         streams.outcome.selected = streams.outcome.selected || count > 0;
         streams.left = streams.left.map(|left| left.saturating_sub(count));
         streams.total = streams.total.saturating_add(count);
@@ -135,7 +161,9 @@ impl Answering<'_> {
         path: &AskedPath,
         e: QueryError,
         streams: &mut Streams<W, E>,
-    ) -> Result<(), Stop> {
+    ) -> Result<(), Stop>
+        ensures { OnOk result (streams.new.outcome.refused ≡ true) }
+    {
         let name = shown_name(source.name);
         let message = match &path.name {
             Some(path) => format!(in self.alloc;
@@ -156,7 +184,15 @@ impl Answering<'_> {
         head: &str,
         is_later: bool,
         streams: &mut Streams<W, E>,
-    ) -> Result<bool, Stop> {
+    ) -> Result<bool, Stop>
+        ensures { IfOk result (λ _. CallsNoPattern builtin_functions path.now.path
+            → ShowsAs self.now.showing.output document.entry.bytes.now
+            (view document.entry.value.now) path.now.path
+            → shows_lines self.now.showing ≡ true → streams.old.left ≡ None
+            → streams.new.outcome.refused ≡ false
+            → Answered W.contents (IsAnswerOn builtin_functions path.now.path
+            self.now.showing.output head.now document.entry.bytes.now) streams.old streams.new) }
+    {
         let limit = least(self.showing.output.most, streams.left);
         let mut written = Written {
             showing: &self.showing,
@@ -167,12 +203,7 @@ impl Answering<'_> {
             count: 0,
             stop: None,
         };
-        let answered = match self.write_nodes(path, document.value, &mut written) {
-            Err(QueryError::Pattern) if written.count == 0 => {
-                self.write_nodes_of_whole(path, document.bytes, &mut written)
-            }
-            answered => answered,
-        };
+        let answered = self.write_path(path, document, &mut written);
         let (count, stop, is_later) = (written.count, written.stop, written.is_later);
         self.keep_count(count, streams);
         if let Some(stop) = stop {

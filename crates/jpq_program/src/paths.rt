@@ -40,6 +40,14 @@ struct PathReading<'a> {
     numbers: Numbers,
 }
 
+/// What messages call a path: by its name, unless it is the only one.
+fn called(name: &Option<String>) -> &str {
+    match name {
+        Some(name) => name.as_str(),
+        None => "the path",
+    }
+}
+
 impl PathReading<'_> {
     /// A path with values for the names that it has. It fails where memory is refused.
     fn with_values(&mut self, path: JsonPath) -> Result<JsonPath, Stop>
@@ -78,16 +86,12 @@ impl PathReading<'_> {
             return Err(Stop::Memory);
         }
         let mut message = String::new(self.alloc);
-        let name = match &name {
-            Some(name) => name.as_str(),
-            None => "the path",
-        };
         let hint = if self.hints {
             hint(text, &e, self.numbers)
         } else {
             None
         };
-        push_refusal(&mut message, name, text, &e, self.numbers, hint)?;
+        push_refusal(&mut message, called(&name), text, &e, self.numbers, hint)?;
         streams.tell_refusal(message.as_str());
         Ok(None)
     }

@@ -1,9 +1,11 @@
 //! The program over its inputs and two writers.
 
-ghost use Rattle.std.specs.Prelude.{◌≡◌, ◌≤◌, ◌⊎◌, Err, map, string_bytes, true};
+ghost use Rattle.std.specs.Prelude.{◌≡◌, ◌≤◌, ◌⊎◌, [], false, map, string_bytes};
+ghost use Rattle.jsonpath_lines.specs.Sent.{AppendsBeginning};
 ghost use Rattle.jpq_options.specs.Options.{AsksFor};
 ghost use Rattle.jpq_options.specs.declared.options.Request as input;
-ghost use Rattle.jpq_program.specs.Query.{IsStatusOf};
+ghost use Rattle.jpq_program.specs.Inside.{status_after, told_after};
+ghost use Rattle.jpq_program.specs.Run.{ComesOf, IsPrinted, LacksMemory};
 
 use crate::answering::Answering;
 use crate::colours::{Colours, Palette};
@@ -249,13 +251,16 @@ fn exit_status<W: Write, E: Write>(
     binds: bool,
     streams: &mut Streams<W, E>,
 ) -> u8
-    ensures few { (result ≤ 3) ⊎ ((result ≡ 64) × (binds ≡ true)) }
-    ensures memory { ended ≡ Err Stop.Memory → result ≡ 2 }
+    ensures status { result ≡ status_after ended binds streams.old.outcome }
+    ensures out { streams.new.out ≡ streams.old.out }
+    ensures told { AppendsBeginning (E.contents streams.old.err) (E.contents streams.new.err)
+        (told_after ended) }
+    ensures quiet { told_after ended ≡ [] → streams.new.err ≡ streams.old.err }
 {
     match ended {
         Ok(()) | Err(Stop::Enough) => streams.outcome.status(),
-        Err(Stop::ReaderGone) => OUTPUT_FAILED,
         Err(Stop::Found) => SELECTED,
+        Err(Stop::ReaderGone) => OUTPUT_FAILED,
         Err(Stop::WrongUse) if binds => WRONG_USE,
         Err(Stop::Refused | Stop::WrongUse) => REFUSED,
         Err(Stop::Memory) => {
@@ -267,6 +272,17 @@ fn exit_status<W: Write, E: Write>(
             OUTPUT_FAILED
         }
     }
+}
+
+/// Prints a text, and gives the status.
+fn print<W: Write, E: Write>(text: String, streams: &mut Streams<W, E>) -> u8
+    requires { streams.old.outcome.refused ≡ false }
+    ensures { IsPrinted W.contents E.contents (string_bytes text) streams.old streams.new result }
+{
+    streams.outcome.selected = true;
+    streams.pending = text;
+    let ended = streams.write();
+    exit_status(ended, false, streams)
 }
 
 /// The program: `jpq [OPTIONS] PATH [FILE]...`. The first word is the program's name; `colours` is what the environment says
@@ -290,20 +306,17 @@ pub fn run<I: Inputs, W: Write, E: Write>(
     streams: &mut Streams<W, E>,
 ) -> u8
     ensures one_of { (result ≤ 3) ⊎ (result ≡ 64) }
-    ensures status { ((asked : input.Request) × AsksFor (map string_bytes words.now) asked
-        × IsStatusOf asked result) ⊎ (result ≡ 2) }
+    ensures comes { ((asked : input.Request) × AsksFor (map string_bytes words.now) asked
+        × ComesOf W.contents E.contents asked inputs.old inputs.new streams.old streams.new result)
+        ⊎ LacksMemory E.contents inputs.old inputs.new streams.old streams.new result }
 {
+    streams.restart();
     match read(alloc, words) {
         Ok(Request::Run(options)) => {
             let ended = run_with(alloc, &options, colours, inputs, streams);
             exit_status(ended, !options.bindings.is_empty(), streams)
         }
-        Ok(Request::Print(text)) => {
-            streams.outcome.selected = true;
-            streams.pending = text;
-            let ended = streams.write();
-            exit_status(ended, false, streams)
-        }
+        Ok(Request::Print(text)) => print(text, streams),
         Ok(Request::WrongUse(_, text)) => {
             streams.tell(text.as_str());
             WRONG_USE

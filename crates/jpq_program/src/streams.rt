@@ -1,8 +1,8 @@
 //! What is written, what is reported on standard error, and what comes of a run.
 
-ghost use Rattle.std.specs.Prelude.{◌≡◌, ◌≤◌, [], Ok, OnOk, string_bytes, true};
+ghost use Rattle.std.specs.Prelude.{◌≡◌, [], IfErr, None, OnOk, false, string_bytes, true};
 ghost use Rattle.jsonpath_lines.specs.Sent.{AppendsBeginning};
-ghost use Rattle.jpq_program.specs.Inside.{Writes};
+ghost use Rattle.jpq_program.specs.Inside.{IsFailure, Writes, status_of};
 
 use jsonpath_lines::write_text;
 use std::alloc::{AllocError, AllocFailed, Global};
@@ -32,7 +32,7 @@ pub(crate) struct Outcome {
 impl Outcome {
     /// The exit status.
     pub(crate) fn status(self) -> u8
-        ensures { result ≤ 2 }
+        ensures { result ≡ status_of self }
     {
         match self {
             Outcome { refused: true, .. } => REFUSED,
@@ -84,7 +84,9 @@ impl<T: Drop> From<AllocFailed<T>> for Stop {
 }
 
 /// Why a run ends where writing fails so.
-fn stop_of(e: io::Error) -> Stop {
+fn stop_of(e: io::Error) -> Stop
+    ensures { IsFailure result }
+{
     if e.kind() == io::ErrorKind::BrokenPipe {
         Stop::ReaderGone
     } else {
@@ -130,7 +132,9 @@ pub struct Streams<W, E> {
 
 impl<W: Write, E: Write> Streams<W, E> {
     /// The streams of a run, before it.
-    pub fn new(alloc: Global, out: W, err: E) -> Streams<W, E> {
+    pub fn new(alloc: Global, out: W, err: E) -> Streams<W, E>
+        ensures { (result.out ≡ out) × (result.err ≡ err) }
+    {
         Streams {
             out,
             err,
@@ -148,6 +152,30 @@ impl<W: Write, E: Write> Streams<W, E> {
             asked_reasons: 0,
             reason: None,
         }
+    }
+
+    /// Forgets what a run before left.
+    pub(crate) fn restart(&mut self)
+        ensures out { self.new.out ≡ self.old.out }
+        ensures err { self.new.err ≡ self.old.err }
+        ensures pending { string_bytes self.new.pending ≡ [] }
+        ensures outcome { self.new.outcome
+            ≡ record { selected = false; refused = false } }
+        ensures left { self.new.left ≡ None }
+    {
+        self.pending.clear();
+        self.outcome = Outcome {
+            selected: false,
+            refused: false,
+        };
+        self.refused_documents = 0;
+        self.left = None;
+        self.total = 0;
+        self.may_be_inexact = false;
+        self.told_inexact = false;
+        self.told_several = false;
+        self.asked_reasons = 0;
+        self.reason = None;
     }
 
     /// Writes what is pending.
@@ -183,6 +211,7 @@ impl<W: Write, E: Write> Streams<W, E> {
         ensures all { OnOk result (string_bytes self.new.pending ≡ []) }
         ensures beginning { AppendsBeginning (W.contents self.old.out) (W.contents self.new.out)
             (string_bytes self.old.pending) }
+        ensures failed { IfErr result IsFailure }
     {
         self.put().map_err(stop_of)?;
         self.out.flush().map_err(stop_of)

@@ -1,22 +1,32 @@
-use Rattle.std.proofs.Common.{◌≡◌, ◌≤◌, [], inl, inr, refl}
-use Rattle.serde_json_path_core.proofs.Words.{arith, common_steps}
-use Rattle.jpq_program.specs.Query.{IsStatusOf}
-use Rattle.jpq_options.specs.declared.options.Request.TheVariants.{Run}
+use Rattle.jpq_program.proofs.Words.{◌≡◌, ◌∙◌, ◌⊎◌, ◌≤◌, [], inl, inr, refl, sym, ap, subst, true, arith, common_steps, List, ℕ, string_bytes, AppendsBeginning, Options, Run, Streams, IsStatusOf}
+use Rattle.jpq_program.proofs.Ended.{one_of_few, printed_since}
 use Rattle.jpq_program.proofs.run.run.Goals as goal
 
-pub returns-in-Ok-Run-clause-status : goal.returns-in-Ok-Run-clause-status
-returns-in-Ok-Run-clause-status g c =
-    let status : IsStatusOf (Run c.in-Ok-Run.options) c.exit_status.result = elim c.exit_status.ensures.few [
+pub returns-in-Ok-Run-clause-comes : goal.returns-in-Ok-Run-clause-comes
+returns-in-Ok-Run-clause-comes g c =
+    let few = rw (← c.exit_status.ensures.status) at one_of_few c.run_with-ended.result _ c.run_with-ended.new.streams.outcome in
+    let status : IsStatusOf c.in-Ok-Run.options c.exit_status.result = elim few [
       | inl few ↦ inl few
       | inr wrong ↦ inr (wrong.0, λ none. absurd (grind (arith, common_steps, none, wrong.1, c.is_empty.ensures)))
     ] in
     inl (c.in-Ok-Run.field-0, rw c.in-Ok-Run.is at c.read.ensures, rw c.in-Ok-Run.field-0-is status)
 
-pub returns-in-Ok-Print-clause-status : goal.returns-in-Ok-Print-clause-status
-returns-in-Ok-Print-clause-status g c =
-    let few : c.exit_status-in-Ok-Print.result ≤ 3 = elim c.exit_status-in-Ok-Print.ensures.few [ inl few ↦ few | inr wrong ↦ absurd (let e = wrong.1 in cc) ] in
-    inl (c.in-Ok-Print.field-0, rw c.in-Ok-Print.is at c.read.ensures, rw c.in-Ok-Print.field-0-is few)
+pub returns-in-Ok-Print-clause-comes : goal.returns-in-Ok-Print-clause-comes
+returns-in-Ok-Print-clause-comes g c =
+    let printed = printed_since g.W.Write.contents g.E.Write.contents _ c.args.streams.now c.restart.new.self c.print.new.streams c.print.result c.restart.ensures.out c.restart.ensures.err c.print.ensures in
+    inl (c.in-Ok-Print.field-0, rw c.in-Ok-Print.is at c.read.ensures, rw c.in-Ok-Print.field-0-is (refl, printed))
 
-pub returns-in-Ok-WrongUse-clause-status : goal.returns-in-Ok-WrongUse-clause-status
-returns-in-Ok-WrongUse-clause-status g c =
-    inl (c.in-Ok-WrongUse.field-0, rw c.in-Ok-WrongUse.is at c.read.ensures, rw c.in-Ok-WrongUse.field-0-is refl)
+pub returns-in-Ok-WrongUse-clause-comes : goal.returns-in-Ok-WrongUse-clause-comes
+returns-in-Ok-WrongUse-clause-comes g c =
+    let out = ap (λ (s : Streams g.row.W.Denot g.row.E.Denot). s.out) c.tell.ensures.kept ∙ c.restart.ensures.out in
+    let told = subst (λ (e : g.row.E.Denot). AppendsBeginning (g.E.Write.contents e) (g.E.Write.contents c.tell.new.self.err) (string_bytes c.in-Ok-WrongUse.text)) c.restart.ensures.err
+    (subst (λ (t : List ℕ). AppendsBeginning (g.E.Write.contents c.restart.new.self.err) (g.E.Write.contents c.tell.new.self.err) t) c.as_str.ensures.value c.tell.ensures.told) in
+    inl (c.in-Ok-WrongUse.field-0, rw c.in-Ok-WrongUse.is at c.read.ensures, rw c.in-Ok-WrongUse.field-0-is (refl, refl, out, told))
+
+pub returns-in-Ok-Run-clause-one_of : goal.returns-in-Ok-Run-clause-one_of
+returns-in-Ok-Run-clause-one_of g c =
+    let few = rw (← c.exit_status.ensures.status) at one_of_few c.run_with-ended.result _ c.run_with-ended.new.streams.outcome in
+    elim few [
+      | inl few ↦ inl few
+      | inr wrong ↦ inr wrong.0
+    ]

@@ -2,8 +2,8 @@ use Rattle.jpq_program.proofs.Words.{Bool, List, Located, true, false, sym, subs
 use Rattle.jpq_program.proofs.Nodes.{filled_by_one, further_mapped, split_mapped, took_one}
 use Rattle.jpq_program.proofs.answering.Answering.write_each.Goals as goal
 
-pub returns-then-not-branch : goal.returns-then-not-branch
-returns-then-not-branch g c =
+pub returns-then-not-branch-clause-filled : goal.returns-then-not-branch-clause-filled
+returns-then-not-branch-clause-filled g c =
     let index = c.loop-node.node-index in
     let done = map located (take index c.args.nodes.now) in
     let step = subst (λ (more : Bool). WritesNode g.W.Write.contents (located c.node-item.result) more c.loop-node.written c.take_node.new.self) c.if-not-branch.true c.in_ok-take_node.ensures.taken in

@@ -2,8 +2,8 @@ use Rattle.jpq_program.proofs.Words.{◌≡◌, ◌∙◌, inl, inr, Bool, List,
 use Rattle.jpq_program.proofs.Nodes.{filled_by_all, filled_by_enough}
 use Rattle.jpq_program.proofs.answering.Answering.write_nodes.Goals as goal
 
-pub returns-then-self : goal.returns-then-self
-returns-then-self g c =
+pub returns-then-self-clause-filled : goal.returns-then-self-clause-filled
+returns-then-self-clause-filled g c =
     let nodes = rest c.in_ok-walk.walk in
     let before = c.args.written.now in
     let unique = ap (λ (u : Bool). once u nodes) (sym c.if-self.true) in
@@ -13,10 +13,10 @@ returns-then-self g c =
       c.in_ok-walk.ensures.selects,
       subst (λ (ns : List Located). FilledNodes g.W.Write.contents before ns c.write_each.new.written) unique
       (filled_by_enough g.W.Write.contents before (first_places nodes) (map located c.deref.result.now) c.write_each.new.written enough filled),
-    )) c.write_each.ensures
+    )) c.write_each.ensures.filled
 
-pub returns : goal.returns
-returns g c =
+pub returns-clause-filled : goal.returns-clause-filled
+returns-clause-filled g c =
     let nodes = rest c.in_ok-walk.walk in
     let before = c.args.written.now in
     let all = ap (λ (u : Bool). once u nodes) (sym c.if-self.false) in

@@ -1,0 +1,32 @@
+-- What is shown of a document for paths.
+use Rattle.std.specs.Prelude.{◌≡◌, ◌+◌, ◌||◌, nat_lt, ℕ, Bool, false, List, [], ◌∷◌, ◌++◌, length}
+use Rattle.serde_json.specs.Data.{Data}
+use Rattle.serde_json_path_nodes.specs.Location.{Located}
+use Rattle.serde_json_path_functions.specs.Functions.{FunctionSet}
+use Rattle.serde_json_path_core.specs.PatternCalls.{CallsByPattern}
+use Rattle.serde_json_path_core.specs.Selects.{Selects}
+use Rattle.serde_json_path.specs.Paths.{path_tree, with_rule_of}
+use Rattle.serde_json_path.specs.declared.path.JsonPath.{JsonPath}
+use Rattle.jsonpath_document.specs.Document.{ReadsAs}
+use Rattle.jsonpath_lines.specs.Output.{AreLines, chosen}
+use Rattle.jsonpath_lines.specs.declared.forms.Output.{Output}
+
+-- the path calls by no pattern that `regex` reads, whatever the document
+abbrev pub CallsNoPattern : FunctionSet → JsonPath → Type 0
+CallsNoPattern F path = (d : Data) → CallsByPattern (with_rule_of path F) d (path_tree path) → ⊥
+
+-- what is shown of the path's result on a document, after a head, and whether a node is
+abbrev pub IsAnswer : FunctionSet → JsonPath → Output → List ℕ → Data → List ℕ → Bool → Type 0
+IsAnswer F path output head d text any = (nodes : List Located) × Selects (with_rule_of path F) (path_tree path) d nodes
+    × AreLines output head nodes text × (any ≡ nat_lt 0 (length (chosen output nodes)))
+
+-- the same of the document that the bytes are
+abbrev pub IsAnswerOn : FunctionSet → JsonPath → Output → List ℕ → List ℕ → List ℕ → Bool → Type 0
+IsAnswerOn F path output head bytes text any = (d : Data) × ReadsAs bytes d × IsAnswer F path output head d text any
+
+-- the same of several paths, in order, each after the head of its number
+abbrev pub AreAnswersOn : FunctionSet → List JsonPath → Output → (ℕ → List ℕ) → ℕ → List ℕ → List ℕ → Bool → Type 0
+AreAnswersOn F [] output head number bytes text any = (text ≡ []) × (any ≡ false)
+AreAnswersOn F (path ∷ paths) output head number bytes text any =
+    (own rest : List ℕ) × (one others : Bool) × IsAnswerOn F path output (head number) bytes own one
+    × AreAnswersOn F paths output head (number + 1) bytes rest others × (text ≡ own ++ rest) × (any ≡ (one || others))
