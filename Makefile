@@ -39,7 +39,7 @@ check:
 
 # The whole gate: each proof from nothing, each test, and each edit that must be refused; then the programs that must not
 # compile and refused memory, over the libraries and the tests that the gate has left; whether each edit still fits its file; the
-# documents and the published cases, by the programs that it has built, the list of what must be believed, the drawing of the
+# documents and the published cases, by the programs that it has built, the lists of what must be believed, the drawing of the
 # measures, and the manual page; and the bindings.
 test:
 	bindings/lacking --install || true
@@ -49,7 +49,7 @@ test:
 	tools/edits > /dev/null
 	tools/check_documents
 	tools/conformance
-	tools/trusted --check docs/TRUSTED_LISTS.md
+	tools/trusted --check
 	tools/plot_ratios --check
 	tools/manual --check
 	$(MAKE) test-bindings
@@ -64,7 +64,7 @@ manual:
 
 # Writes the lists of what must be believed anew.
 trusted:
-	tools/trusted --write docs/TRUSTED_LISTS.md
+	tools/trusted --write
 
 # Refuses each request for memory in turn, in tests that it proves and builds first, and prints what came of it.
 refused-memory:
