@@ -3,14 +3,16 @@
  * Nodes come in the order of RFC 9535, arrays by index and objects by the bytes of their names; a node that is selected
  * twice comes twice. Of members of one name the last one counts. A number that is not held as a 64-bit integer (8.95, 4.0,
  * 1e2) is found and printed, but equals nothing and is neither less nor greater than anything, unless the path was compiled
- * with JSONPATH_ALL_NUMBERS. Filters have the functions of
- * RFC 9535, and no others.
+ * with JSONPATH_ALL_NUMBERS. Filters have the functions of RFC 9535, and no others.
+ *
+ * JSON is printed compactly, without blanks: members by name, in the order of the names' bytes, and each name once; an integer
+ * by its digits; any other number by digits that read back as the same double, so a double that is whole does not become an
+ * integer.
  *
  * A call with two texts reads both each time. A program that asks many paths, or many documents, compiles a path once and reads
  * a document once, and keeps each in a handle: `jsonpath_path *`, `jsonpath_document *`, and `jsonpath_nodes *` for a list of
- * nodes. A document that is asked once is handed over as its bytes (`jsonpath_lines_in` and on), of which what the path can reach
- * is read. A handle begins as NULL, which is empty; a call that fills or empties it is handed its address. Every call works on
- * what it is handed and keeps nothing else. A text is bytes and a length in bytes, and needs no NUL at its end.
+ * nodes. A document that is asked once is handed over as its bytes (`jsonpath_lines_in` and on). A handle begins as NULL, which is
+ * empty; a call that fills or empties it is handed its address. A text is bytes and a length in bytes, and needs no NUL at its end.
  *
  * What the caller must keep to; nothing checks it:
  *   - A pointer is not null, also where its length is 0, and the memory behind it is valid for that length. What a call may
@@ -22,6 +24,19 @@
  *   - The stack has 1 MB left. A call uses what the depth of the path and of the document takes, 128 levels of each at most.
  *   - No call is made from a signal handler, nor in the child of a fork of a process with threads. malloc, realloc and free
  *     are those of one allocator, and align blocks as the C standard asks.
+ *
+ * What is said of a call below follows from its contract in crates/jsonpath_c, but for this. Tested, not proved:
+ *   - JSONPATH_NO_MEMORY comes only where memory was refused, and JSONPATH_QUERY_REFUSED only of a pattern that is too large once
+ *     it is built.
+ *   - What a handle held is given back where it is filled anew or freed, and no call loses memory.
+ *   - A query stops once its answer is known: for `jsonpath_exists` at the first node, for lines and lists at the node that would
+ *     go beyond the limits. With `unique` it stops soon after more nodes differ than there may be, and for bytes it does not.
+ *   - Of a document's bytes, what the path cannot reach is read and not kept; of JSONPATH_LOCATIONS no values are.
+ *   - Where bytes are refused, `*position` is where the fault shows.
+ *   - By which digits a double is printed: 8.95 as 8.95, 4.0 as 4.0, 1e2 as 100.0.
+ *   - No hint is longer than 100 bytes.
+ * No test holds this: with `unique` at most 64 nodes are held meanwhile, or four times as many as differ in their locations. The
+ * stack's megabyte is measured.
  *
  * Build: link libjsonpath_c.a, and then liblibc_c.a of the toolchain; or, once it is installed, the shared library, by
  * `pkg-config --cflags --libs jsonpath`. */
@@ -38,17 +53,19 @@ extern "C" {
 /* What a call answers. */
 #define JSONPATH_DONE 0             /* All is written to `out`. */
 #define JSONPATH_PATH_REFUSED 1     /* The path is refused; `refusal` says why, and where. */
-#define JSONPATH_DOCUMENT_REFUSED 2 /* The document is not JSON, or nests deeper than 127 levels, or has a number beyond those
-                                     * of 64-bit floats, as 1e400. */
-#define JSONPATH_QUERY_REFUSED 3    /* Some call of `match` or `search` has a pattern that `regex` reads, and the document is
-                                     * read. In the code it comes where that is too large once built; no contract says so. */
+#define JSONPATH_DOCUMENT_REFUSED 2 /* The bytes read as no document: they are not JSON, or have a number beyond those of
+                                     * 64-bit floats, as 1e400, or, in a call with two texts, nest deeper than 127 levels. */
+#define JSONPATH_QUERY_REFUSED 3    /* Some call of `match` or `search` goes by a pattern that `regex` reads, on a document that
+                                     * is read. */
 #define JSONPATH_NO_MEMORY 4        /* Memory was refused. */
 #define JSONPATH_NO_ROOM 5          /* `out` is too small; `*length` says how many bytes are needed. */
 #define JSONPATH_NOT_UTF8 6         /* The path is not UTF-8. */
-#define JSONPATH_EMPTY_HANDLE 7     /* A handle that the call needs is empty. */
-#define JSONPATH_CUT_SHORT 8        /* There is more than the limits allow; what comes before is answered. */
-#define JSONPATH_DOCUMENT_TOO_DEEP 9 /* The document nests deeper than 127 levels (of `jsonpath_document_new`, and of
-                                      * calls on a path and bytes). */
+#define JSONPATH_EMPTY_HANDLE 7     /* A handle that the call needs is empty. This comes before all else, as an index past the
+                                     * end or bytes that are no document. */
+#define JSONPATH_CUT_SHORT 8        /* There is more than the limits allow; what comes before, which may be nothing, is
+                                     * answered. Lines that do not fit into `out` answer JSONPATH_NO_ROOM before this. */
+#define JSONPATH_DOCUMENT_TOO_DEEP 9 /* The bytes read as no document, and an array or an object begins within 127 others (of
+                                      * `jsonpath_document_new`, and of calls on a path and bytes). */
 #define JSONPATH_NO_SUCH_NODE 10    /* The list has no node of that index, or it is not what is asked for. */
 
 /* Kinds of refusals of a path. */
@@ -98,8 +115,8 @@ uint8_t jsonpath_message(const uint8_t *path, size_t path_length, uint8_t number
                          size_t *length);
 
 /* What was probably meant by a path that is refused by that rule, as `no blank at the end`, without an end: DONE, NO_ROOM,
- * NO_MEMORY or NOT_UTF8. It is empty where the refusal shows no known slip, and of a text that is a path; no hint is longer than 100
- * bytes. `out` and `*length` are written as by jsonpath_report. */
+ * NO_MEMORY or NOT_UTF8. It is empty where the refusal shows no known slip, and of a text that is a path. `out` and `*length` are
+ * written as by jsonpath_report. */
 uint8_t jsonpath_hint(const uint8_t *path, size_t path_length, uint8_t numbers, uint8_t *out, size_t out_length,
                       size_t *length);
 
@@ -108,7 +125,8 @@ uint8_t jsonpath_hint(const uint8_t *path, size_t path_length, uint8_t numbers, 
  *
  * With DONE the lines are the first `*length` bytes of `out`. With NO_ROOM `*length` is how many bytes they are; call again
  * with that much. With any answer but DONE nothing of `out` is written, and with any but DONE and NO_ROOM nothing of
- * `*length`. `*refusal` is written with PATH_REFUSED alone. The path is read first, then the document, then the query runs. */
+ * `*length`. `*refusal` is written with PATH_REFUSED alone. A text of UTF-8 that is no path answers PATH_REFUSED or NO_MEMORY,
+ * whatever the document is, and QUERY_REFUSED comes only where the document is read. */
 uint8_t jsonpath_report(const uint8_t *path, size_t path_length, const uint8_t *document, size_t document_length,
                         uint8_t *out, size_t out_length, size_t *length, struct jsonpath_refusal *refusal);
 
@@ -127,7 +145,7 @@ typedef struct jsonpath_document jsonpath_document;
 typedef struct jsonpath_nodes jsonpath_nodes;
 
 /* Compiles a path under the built-in functions, by a rule for numbers, which it keeps: DONE, PATH_REFUSED, NO_MEMORY or
- * NOT_UTF8. The path is in `*path` then, and what was there is freed. `*refusal` is written with PATH_REFUSED alone. */
+ * NOT_UTF8. With DONE the path is in `*path`, in the place of what was there. `*refusal` is written with PATH_REFUSED alone. */
 uint8_t jsonpath_path_new(const uint8_t *text, size_t text_length, uint8_t numbers, jsonpath_path **path,
                           struct jsonpath_refusal *refusal);
 
@@ -141,8 +159,10 @@ uint8_t jsonpath_path_text(jsonpath_path **path, uint8_t *out, size_t out_length
 /* Whether two paths have the same tree, whatever they do with numbers: DONE with 1 or 0 in `*equal`, or EMPTY_HANDLE. */
 uint8_t jsonpath_path_equals(jsonpath_path **path, jsonpath_path **other, uint8_t *equal);
 
-/* Reads a document: DONE, DOCUMENT_REFUSED, DOCUMENT_TOO_DEEP or NO_MEMORY. The document is in `*document` then, and what was
- * there is freed. With one of the two refusals `*position` is the byte, from 1, where it shows. */
+/* Reads a document: DONE, DOCUMENT_REFUSED, DOCUMENT_TOO_DEEP or NO_MEMORY. With DONE the document is in `*document`, in the
+ * place of what was there. With one of the two refusals `*position` is the number of a byte, from 1, or one past the last. With
+ * DOCUMENT_TOO_DEEP an array or an object begins there within 127 others; with DOCUMENT_REFUSED, of bytes that are UTF-8, none
+ * does. */
 uint8_t jsonpath_document_new(const uint8_t *bytes, size_t bytes_length, jsonpath_document **document, size_t *position);
 
 /* Frees a document and makes the variable NULL. Of NULL it does nothing. */
@@ -156,25 +176,25 @@ void jsonpath_document_free(jsonpath_document **document);
 /* How much a call may answer; SIZE_MAX for no limit. */
 struct jsonpath_limits {
     size_t nodes; /* How many nodes. */
-    size_t bytes; /* How many bytes: of lines all, of a list the names in its locations. */
+    size_t bytes; /* How many bytes: of lines all; of a list those of the names in its locations, each name in UTF-8 without
+                   * quotes and escapes. An index counts for none. */
 };
 
 /* A line for each node of the document that the path selects, in order, in a form (any but 1 and 2 is JSONPATH_LINES): DONE,
  * CUT_SHORT, QUERY_REFUSED, NO_MEMORY, NO_ROOM or EMPTY_HANDLE. With DONE and CUT_SHORT the lines are the first `*length` bytes
- * of `out`; with CUT_SHORT they are those before the first node that would go beyond the limits, and the query stops there.
- * With NO_ROOM `*length` is how many bytes they are. */
+ * of `out`; with CUT_SHORT they are those before the first node that would go beyond the limits. With NO_ROOM `*length` is how
+ * many bytes they are, whether the limits cut them short or not. */
 uint8_t jsonpath_lines(jsonpath_path **path, jsonpath_document **document, uint8_t form, const struct jsonpath_limits *limits,
                        uint8_t *out, size_t out_length, size_t *length);
 
 /* How many nodes a path selects: DONE, QUERY_REFUSED, NO_MEMORY or EMPTY_HANDLE. */
 uint8_t jsonpath_count(jsonpath_path **path, jsonpath_document **document, size_t *count);
 
-/* Whether a path selects a node, 1 or 0 in `*exists`; it stops at the first: statuses as of jsonpath_count. */
+/* Whether a path selects a node, 1 or 0 in `*exists`: statuses as of jsonpath_count. */
 uint8_t jsonpath_exists(jsonpath_path **path, jsonpath_document **document, uint8_t *exists);
 
 /* As jsonpath_lines, of the document that the bytes are, which is read for this call: its statuses, and DOCUMENT_REFUSED and
- * DOCUMENT_TOO_DEEP with `*position` as of jsonpath_document_new. What the path cannot reach is passed over, and of
- * JSONPATH_LOCATIONS the values are. With EMPTY_HANDLE the bytes were not looked at. */
+ * DOCUMENT_TOO_DEEP with `*position` as of jsonpath_document_new. */
 uint8_t jsonpath_lines_in(jsonpath_path **path, const uint8_t *document, size_t document_length, uint8_t form,
                           const struct jsonpath_limits *limits, uint8_t *out, size_t out_length, size_t *length,
                           size_t *position);
@@ -188,10 +208,9 @@ uint8_t jsonpath_exists_in(jsonpath_path **path, const uint8_t *document, size_t
                            size_t *position);
 
 /* A list of the nodes that a path selects, in order: DONE, CUT_SHORT, QUERY_REFUSED, NO_MEMORY or EMPTY_HANDLE. With `unique`
- * other than 0 each location comes once, where it comes first; at most 64 nodes, or four times as many as differ in their
- * locations, are held for it meanwhile. With DONE the list is in `*nodes`; with CUT_SHORT too, and has the nodes before the first
- * that would go beyond the limits. What was there is freed. It has a node's location, kind and number, and outlives the document;
- * strings and JSON are in the document. */
+ * other than 0 each location comes once, where it comes first. With DONE the list is in `*nodes`, in the place of what was there;
+ * with CUT_SHORT too, and has the nodes before the first that would go beyond the limits, which may be none. It has a node's
+ * location, kind and number, and outlives the document; strings and JSON are in the document. */
 uint8_t jsonpath_select(jsonpath_path **path, jsonpath_document **document, uint8_t unique,
                         const struct jsonpath_limits *limits, jsonpath_nodes **nodes);
 
@@ -201,7 +220,8 @@ void jsonpath_nodes_free(jsonpath_nodes **nodes);
 /* How many nodes a list has: DONE or EMPTY_HANDLE. */
 uint8_t jsonpath_nodes_length(jsonpath_nodes **nodes, size_t *length);
 
-/* Kinds of nodes. A number is of the first of its three kinds that holds it. */
+/* Kinds of nodes. A number that is written as an integer is of the first of the three kinds that holds it. One with a point or an
+ * exponent is a double, as 4.0 and 1e2, and so is -0. */
 #define JSONPATH_NULL 0
 #define JSONPATH_FALSE 1
 #define JSONPATH_TRUE 2

@@ -588,6 +588,28 @@ static void selected(void) {
     selected_often();
 }
 
+/* A path that selects a hundred nodes, each 2^40 times: calls that need the first of them alone come to an end. */
+static void stops(void) {
+    char path[ROOM] = "$", document[ROOM] = "";
+    for (int at = 0; at < 40; at++) strcat(path, "[0,0]"), strcat(document, "[");
+    strcat(path, "[*]"), strcat(document, "[1");
+    for (int at = 1; at < 100; at++) strcat(document, ",1");
+    for (int at = 0; at < 41; at++) strcat(document, "]");
+    struct asked_with with = asked_of("$", JSONPATH_WHOLE_NUMBERS, document);
+    compile(&with.path, path, JSONPATH_WHOLE_NUMBERS);
+    with.limits.nodes = 3;
+    writes(lines, &with, JSONPATH_CUT_SHORT, "1\n1\n1\n", "lines of the first nodes");
+    uint8_t exists = 7;
+    holds(jsonpath_exists(&with.path, &with.document, &exists) == JSONPATH_DONE && exists == 1, "first node", path);
+    for (uint8_t unique = 0; unique < 2; unique++) {
+        size_t length = 0;
+        uint8_t status = jsonpath_select(&with.path, &with.document, unique, &with.limits, &with.nodes);
+        holds(status == JSONPATH_CUT_SHORT, "status of the first nodes", path);
+        holds(jsonpath_nodes_length(&with.nodes, &length) == JSONPATH_DONE && length == 3, "first nodes", path);
+    }
+    emptied(&with);
+}
+
 /* Holds what is known of a document's root to what is wanted. */
 static void knows(const char *document, struct jsonpath_node wanted) {
     struct asked_with with = asked_of("$", JSONPATH_WHOLE_NUMBERS, document);
@@ -881,6 +903,7 @@ static void handles(void) {
     documents();
     limits();
     selected();
+    stops();
     kinds();
     node_texts();
     lists_alone();
