@@ -34,7 +34,7 @@
  *   - Of a document's bytes, what the path cannot reach is read and not kept; of JSONPATH_LOCATIONS no values are.
  *   - Where bytes are refused, `*position` is where the fault shows.
  *   - By which digits a double is printed: 8.95 as 8.95, 4.0 as 4.0, 1e2 as 100.0.
- *   - No hint is longer than 100 bytes.
+ *   - No message and no hint is longer than 100 bytes.
  * No test holds this: with `unique` at most 64 nodes are held meanwhile, or four times as many as differ in their locations. The
  * stack's megabyte is measured.
  *
@@ -109,8 +109,7 @@ struct jsonpath_refusal {
 uint8_t jsonpath_check(const uint8_t *path, size_t path_length, uint8_t numbers, struct jsonpath_refusal *refusal);
 
 /* The message of a path's refusal by that rule, as `text after the path`, without an end: DONE, NO_ROOM, NO_MEMORY or NOT_UTF8.
- * Of a text that is a path it is empty; no message is longer than 100 bytes. `out` and `*length` are written as by
- * jsonpath_report. */
+ * Of a text that is a path it is empty. `out` and `*length` are written as by jsonpath_report. */
 uint8_t jsonpath_message(const uint8_t *path, size_t path_length, uint8_t numbers, uint8_t *out, size_t out_length,
                          size_t *length);
 
