@@ -1,5 +1,5 @@
 -- How a run ends: the status, and what is told.
-use Rattle.jpq_program.proofs.Words.{◌≡◌, ◌∙◌, ◌⊎◌, ℕ, Bool, true, false, List, [], ◌∷◌, ◌++◌, codes, Option, Result, Ok, Err, OnOk, IfErr, inl, inr, refl, sym, ap, subst, append-nil, string_bytes, Appends, AppendsBeginning, Adds, IsFailure, Outcome, Stop, OutputFailed, ReaderGone, Streams, status_after, told_after, IsPrinted, arith, nat_tests, common_steps, ◌≤◌}
+use Rattle.jpq_program.proofs.Words.{◌≡◌, ◌∙◌, ◌⊎◌, ℕ, Bool, true, false, List, [], ◌∷◌, ◌++◌, codes, Option, Result, Ok, Err, OnOk, IfErr, inl, inr, refl, sym, ap, subst, append-nil, string_bytes, Appends, AppendsBeginning, Adds, IsFailure, Outcome, Stop, Streams, status_after, told_after, IsPrinted, arith, nat_tests, common_steps, ◌≤◌}
 
 -- a text that went out whole, of which nothing is pending
 went_out : (out later : Option (List ℕ)) (text left : List ℕ) → Adds out text later left [] → left ≡ [] → Appends out later text
@@ -50,5 +50,8 @@ printed_since out err text before restarted after status same_out same_err is = 
 ]
 
 -- the statuses of a run with options
-pub one_of_few : (ended : Result (Unit {0}) Stop) (binds : Bool) (outcome : Outcome) → (status_after ended binds outcome ≤ 3) ⊎ ((status_after ended binds outcome ≡ 64) × (binds ≡ true))
-one_of_few ended binds outcome = grind (arith, nat_tests, common_steps)
+pub one_of_few : (ended : Result (Unit {0}) Stop) (binds : Bool) (outcome : Outcome) (status : ℕ) → status ≡ status_after ended binds outcome → (status ≤ 3) ⊎ ((status ≡ 64) × (binds ≡ true))
+one_of_few ended binds outcome status is = subst (λ status. (status ≤ 3) ⊎ ((status ≡ 64) × (binds ≡ true))) (sym is) (few ended binds outcome)
+  where
+    few : (ended : Result (Unit {0}) Stop) (binds : Bool) (outcome : Outcome) → (status_after ended binds outcome ≤ 3) ⊎ ((status_after ended binds outcome ≡ 64) × (binds ≡ true))
+    few ended binds outcome = grind (arith, nat_tests, common_steps)

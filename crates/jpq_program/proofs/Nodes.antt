@@ -1,6 +1,6 @@
 -- Nodes that are written, one after the other.
 use Rattle.jsonpath_lines.specs.Inside as lines
-use Rattle.jpq_program.proofs.Words.{◌≡◌, ℕ, ◌+◌, Bool, true, false, List, [], ◌∷◌, ◌++◌, Option, None, length, length-append, refl, sym, ap, subst, ◌∙◌, append_assoc, append-nil, arith, common_steps, nat_tests, string_bytes, Appends, Appends-trans, Bor, Some, Located, IsLine, IsLineOfEach, Output, up_to, is_reached, IsWithin, reached, within_further, all_below, AreEnough, take-append-le, Adds, Writes, WritesLines, WritesNode, KeepsRest, TookNodes, FilledNodes, Showing, Streams, Written, shows_lines, suc, ◌<◌, get_or, map, take, drop, map-append, map_push, take_more, take-append-drop, drop-cons}
+use Rattle.jpq_program.proofs.Words.{◌≡◌, ℕ, ◌+◌, true, false, List, [], ◌∷◌, ◌++◌, Option, None, length, length-append, refl, sym, ap, subst, ◌∙◌, append_assoc, append-nil, arith, common_steps, nat_tests, string_bytes, Appends, Appends-trans, Bor, Some, Located, IsLine, IsLineOfEach, Output, up_to, is_reached, IsWithin, reached, within_further, all_below, AreEnough, take-append-le, Adds, WritesLines, WritesNode, KeepsRest, TookNodes, FilledNodes, Showing, Written, shows_lines, suc, ◌<◌, get_or, map, take, drop, map-append, map_push, take_more, take-append-drop, drop-cons}
 
 -- ---- what goes out
 
@@ -17,7 +17,7 @@ adds_both out later last waiting then_waiting last_waiting text more first secon
   first.0 ++ second.0,
   Appends-trans out later last first.0 second.0 first.1 second.1,
   sym (append_assoc waiting text more) ∙ ap (λ t. t ++ more) first.2 ∙ append_assoc first.0 then_waiting more
-  ∙ ap (λ t. first.0 ++ t) second.2 ∙ sym (append_assoc first.0 second.0 last_waiting),
+      ∙ ap (λ t. first.0 ++ t) second.2 ∙ sym (append_assoc first.0 second.0 last_waiting),
 )
 
 -- ---- lines
@@ -88,6 +88,7 @@ took_one contents before nodes n old now took step = record {
   where
     stopped : now.stop ≡ None
     stopped = (step.further refl).0 ∙ took.stop
+
     further : (count : ℕ) (nodes : List Located) (n : Located) → (count + length nodes) + 1 ≡ count + length (nodes ++ n ∷ [])
     further count nodes n = grind (arith, length-append)
 
@@ -98,13 +99,15 @@ filled_by_one contents before nodes n later old now took step = record {
   rest = keeps_both before old now took.rest step.rest;
   count = λ none stopped. counted none ∙ ap (λ (ns : List Located). length ns) (these none stopped);
   lines = λ none stopped. subst (λ ns. WritesLines contents ns before now) (these none stopped)
-  (writes_both contents nodes (n ∷ []) before old now took.rest took.lines (step.line took.stop stopped));
+      (writes_both contents nodes (n ∷ []) before old now took.rest took.lines (step.line took.stop stopped));
 }
   where
     done : List Located
     done = nodes ++ n ∷ []
+
     counted : before.count ≡ 0 → now.count ≡ length done
     counted none = grind (arith, length-append, step.count, took.count, none)
+
     these : before.count ≡ 0 → now.stop ≡ None → done ≡ up_to before.limit (nodes ++ (n ∷ later))
     these none stopped =
         let below : is_reached before.limit old.count ≡ false = ap (λ l. is_reached l old.count) (sym took.rest.limit) ∙ took.more in
@@ -122,8 +125,10 @@ filled_by_all contents before nodes now took = record {
   where
     counted : before.count ≡ 0 → now.count ≡ length nodes
     counted none = grind (arith, took.count, none)
+
     below : is_reached before.limit now.count ≡ false
     below = ap (λ l. is_reached l now.count) (sym took.rest.limit) ∙ took.more
+
     these : before.count ≡ 0 → nodes ≡ up_to before.limit nodes
     these none = all_below before.limit nodes now.count (counted none) below
 

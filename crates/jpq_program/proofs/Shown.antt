@@ -1,5 +1,5 @@
 -- What was written of a document is what its paths show.
-use Rattle.jpq_program.proofs.Words.{◌≡◌, ◌∙◌, ◌&&◌, ◌||◌, ◌<◌, ℕ, Bool, true, false, List, Option, None, length, nat_lt, refl, sym, ap, subst, arith, common_steps, nat_tests, string_bytes, Located, Data, JsonPath, Selects, builtin_functions, path_tree, with_rule_of, AreLinesIn, AreLines, IsLineOfEach, Form, Json, Count, Nothing, Output, chosen, once, up_to, Adds, Answered, FilledNodes, IsAnswer, IsAnswerOn, Outcome, ShowsAs, Streams, Writes, Written, has_lines, is_plain, shows_lines}
+use Rattle.jpq_program.proofs.Words.{◌≡◌, ◌∙◌, ◌&&◌, ◌||◌, ℕ, Bool, true, false, List, Option, None, length, nat_lt, refl, sym, ap, subst, arith, common_steps, nat_tests, string_bytes, Located, Data, JsonPath, Selects, builtin_functions, path_tree, with_rule_of, AreLinesIn, IsLineOfEach, Form, Json, Count, Nothing, Output, chosen, once, up_to, Adds, Answered, FilledNodes, IsAnswerOn, Outcome, ShowsAs, Streams, Written, has_lines, is_plain, shows_lines}
 
 lines_in : (form : Form) (output : Output) (head : List ℕ) (ns : List Located) (text : List ℕ) → has_lines form ≡ true → IsLineOfEach output head ns text → AreLinesIn form output head ns text
 lines_in Json output head ns text has h = absurd cc
@@ -33,10 +33,10 @@ path_answered {W} {E} contents path bytes value before after kept nodes none sto
       any = any;
       is = shows builtin_functions before.head.now lines.0 any (nodes, selects, lines_in output.form output before.head.now (chosen output nodes) lines.0 (second (is_plain before.showing.now) (has_lines output.form) plain) line_of_each, refl);
       writes = subst (λ out. Adds (contents before.streams.now.out) (string_bytes before.streams.now.pending) (contents out) (string_bytes kept.pending) lines.0) (sym (ap (λ (s : Streams W E). s.out) is))
-      (subst (λ pending. Adds (contents before.streams.now.out) (string_bytes before.streams.now.pending) (contents after.streams.now.out) (string_bytes pending) lines.0) (sym (ap (λ (s : Streams W E). s.pending) is)) lines.2);
+          (subst (λ pending. Adds (contents before.streams.now.out) (string_bytes before.streams.now.pending) (contents after.streams.now.out) (string_bytes pending) lines.0) (sym (ap (λ (s : Streams W E). s.pending) is)) lines.2);
       selected = ap (λ (s : Streams W E). s.outcome.selected) is
-      ∙ ap (λ (o : Outcome). o.selected || nat_lt 0 after.count) filled.rest.outcome
-      ∙ ap (λ count. before.streams.now.outcome.selected || nat_lt 0 count) (filled.count none stopped ∙ ap (λ (ns : List Located). length ns) these);
+          ∙ ap (λ (o : Outcome). o.selected || nat_lt 0 after.count) filled.rest.outcome
+          ∙ ap (λ count. before.streams.now.outcome.selected || nat_lt 0 count) (filled.count none stopped ∙ ap (λ (ns : List Located). length ns) these);
       right = sym (ap (λ (o : Outcome). o.refused) filled.rest.outcome) ∙ sym (ap (λ (s : Streams W E). s.outcome.refused) is) ∙ refused;
       left = left;
     }

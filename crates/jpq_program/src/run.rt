@@ -27,10 +27,7 @@ use std::alloc::{AllocError, Global};
 use std::io::Write;
 
 /// Writes each path in its canonical form.
-fn check<W: Write, E: Write>(
-    paths: &[AskedPath],
-    streams: &mut Streams<W, E>,
-) -> Result<(), Stop> {
+fn check<W: Write, E: Write>(paths: &[AskedPath], streams: &mut Streams<W, E>) -> Result<(), Stop> {
     for path in paths {
         write!(streams.pending, "{}\n", path.path)?;
     }
@@ -63,9 +60,7 @@ fn hint_at_nothing<W: Write, E: Write>(
     paths: &[AskedPath],
     streams: &mut Streams<W, E>,
 ) -> Result<(), Stop> {
-    let shown = paths
-        .iter()
-        .find_map(|path| reason_of(path.path.tree()));
+    let shown = paths.iter().find_map(|path| reason_of(path.path.tree()));
     if let Some(reason) = shown.or(streams.reason) {
         streams.tell(format!(in alloc; "jpq: nothing was selected: {reason}\n")?.as_str());
     }

@@ -126,6 +126,8 @@ impl Showing<'_> {
     }
 
     /// Appends a node's line after a head.
+    // Inlined: each node passes here.
+    #[inline(always)]
     pub(crate) fn push_line(
         &self,
         to: &mut String,

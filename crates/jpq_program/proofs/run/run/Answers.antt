@@ -1,10 +1,10 @@
-use Rattle.jpq_program.proofs.Words.{◌≡◌, ◌∙◌, ◌⊎◌, ◌≤◌, [], inl, inr, refl, sym, ap, subst, true, arith, common_steps, List, ℕ, string_bytes, AppendsBeginning, Options, Run, Streams, IsStatusOf}
+use Rattle.jpq_program.proofs.Words.{◌∙◌, inl, inr, refl, ap, subst, arith, common_steps, List, ℕ, string_bytes, AppendsBeginning, Streams, IsStatusOf}
 use Rattle.jpq_program.proofs.Ended.{one_of_few, printed_since}
 use Rattle.jpq_program.proofs.run.run.Goals as goal
 
 pub returns-in-Ok-Run-clause-comes : goal.returns-in-Ok-Run-clause-comes
 returns-in-Ok-Run-clause-comes g c =
-    let few = rw (← c.exit_status.ensures.status) at one_of_few c.run_with-ended.result _ c.run_with-ended.new.streams.outcome in
+    let few = one_of_few c.run_with-ended.result _ c.run_with-ended.new.streams.outcome c.exit_status.result c.exit_status.ensures.status in
     let status : IsStatusOf c.in-Ok-Run.options c.exit_status.result = elim few [
       | inl few ↦ inl few
       | inr wrong ↦ inr (wrong.0, λ none. absurd (grind (arith, common_steps, none, wrong.1, c.is_empty.ensures)))
@@ -25,7 +25,7 @@ returns-in-Ok-WrongUse-clause-comes g c =
 
 pub returns-in-Ok-Run-clause-one_of : goal.returns-in-Ok-Run-clause-one_of
 returns-in-Ok-Run-clause-one_of g c =
-    let few = rw (← c.exit_status.ensures.status) at one_of_few c.run_with-ended.result _ c.run_with-ended.new.streams.outcome in
+    let few = one_of_few c.run_with-ended.result _ c.run_with-ended.new.streams.outcome c.exit_status.result c.exit_status.ensures.status in
     elim few [
       | inl few ↦ inl few
       | inr wrong ↦ inr wrong.0

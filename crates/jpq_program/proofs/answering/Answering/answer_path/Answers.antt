@@ -1,4 +1,4 @@
-use Rattle.jpq_program.proofs.Words.{◌≡◌, ◌∙◌, ◌||◌, ap, arith, common_steps, nat_lt, refl, rules, sym, view, Streams}
+use Rattle.jpq_program.proofs.Words.{◌∙◌, ap, refl, sym, view, Streams}
 use Rattle.jpq_program.proofs.Shown.{path_answered}
 use Rattle.jpq_program.proofs.answering.Answering.answer_path.Goals as goal
 

@@ -1,4 +1,4 @@
-use Rattle.jpq_program.proofs.Words.{◌≡◌, ◌∙◌, inl, inr, Bool, List, Located, Ok, IfOk, IfOk-weaker, ap, sym, subst, map, located, rest, cases_Bool, first_places, once, AreEnough, FilledNodes}
+use Rattle.jpq_program.proofs.Words.{◌∙◌, inl, inr, Bool, List, Located, Ok, IfOk-weaker, ap, sym, subst, map, located, rest, cases_Bool, first_places, once, AreEnough, FilledNodes}
 use Rattle.jpq_program.proofs.Nodes.{filled_by_all, filled_by_enough}
 use Rattle.jpq_program.proofs.answering.Answering.write_nodes.Goals as goal
 
@@ -12,7 +12,7 @@ returns-then-self-clause-filled g c =
       nodes,
       c.in_ok-walk.ensures.selects,
       subst (λ (ns : List Located). FilledNodes g.W.Write.contents before ns c.write_each.new.written) unique
-      (filled_by_enough g.W.Write.contents before (first_places nodes) (map located c.deref.result.now) c.write_each.new.written enough filled),
+          (filled_by_enough g.W.Write.contents before (first_places nodes) (map located c.deref.result.now) c.write_each.new.written enough filled),
     )) c.write_each.ensures.filled
 
 pub returns-clause-filled : goal.returns-clause-filled

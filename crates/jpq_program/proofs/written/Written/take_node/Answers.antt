@@ -1,4 +1,4 @@
-use Rattle.jpq_program.proofs.Words.{◌≡◌, ◌∙◌, ap, sym, subst, arith, common_steps, nat_tests, rules, string_bytes, Streams, Written, located, Adds, Option, List, [], refl, ℕ}
+use Rattle.jpq_program.proofs.Words.{◌∙◌, ap, subst, arith, common_steps, rules, string_bytes, Streams, Written, located, Adds, Option, List, [], ℕ}
 use Rattle.jpq_program.proofs.Nodes.{line_written}
 use Rattle.jpq_program.proofs.written.Written.take_node.Goals as goal
 
@@ -19,6 +19,6 @@ returns-clause-taken g c =
       further = λ more. (ap (λ (w : Written g.row.W.Denot g.row.E.Denot). w.stop) pushed.kept, grind (arith, common_steps, more, c.is_reached.ensures));
       enough = λ more _. grind (arith, common_steps, more, c.is_reached.ensures);
       line = λ _ _ plain. line_written c.args.self.now.showing.now.output c.args.self.now.head.now (located c.args.node.now) (g.W.Write.contents c.args.self.now.streams.now.out) _ _ _ _ (pushed.line plain)
-      (subst (λ (out : Option (List ℕ)). Adds out (string_bytes c.push_pending.new.self.streams.now.pending) (g.W.Write.contents c.write_if_full.new.self.out) (string_bytes c.write_if_full.new.self.pending) [])
-        (ap (λ (s : Streams g.row.W.Denot g.row.E.Denot). g.W.Write.contents s.out) pushed.streams) c.in_default.ensures.whole);
+          (subst (λ (out : Option (List ℕ)). Adds out (string_bytes c.push_pending.new.self.streams.now.pending) (g.W.Write.contents c.write_if_full.new.self.out) (string_bytes c.write_if_full.new.self.pending) [])
+          (ap (λ (s : Streams g.row.W.Denot g.row.E.Denot). g.W.Write.contents s.out) pushed.streams) c.in_default.ensures.whole);
     }
