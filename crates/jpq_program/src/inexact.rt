@@ -42,6 +42,24 @@ fn is_inexact(number: &str) -> bool {
     is_whole || significant_digits(number) > DIGITS
 }
 
+/// Whether a byte at a place may stand in a number.
+#[inline(always)]
+fn is_of_number_at(bytes: &[u8], place: usize) -> bool {
+    match bytes.get(place) {
+        Some(byte) => is_of_number(*byte),
+        None => false,
+    }
+}
+
+/// Whether a number around a place may have more than [`DIGITS`] bytes: then it also has the ninth before or after the place.
+#[inline(always)]
+fn may_be_long(bytes: &[u8], index: usize) -> bool {
+    const HALF: usize = DIGITS / 2 + 1;
+    is_of_number_at(bytes, index)
+        && (is_of_number_at(bytes, index.saturating_add(HALF))
+            || is_of_number_at(bytes, index.saturating_sub(HALF)))
+}
+
 /// The bytes around a place that may stand in a number, and how many stand before them.
 fn number_around(bytes: &[u8], index: usize) -> (&[u8], usize) {
     let (before, after) = bytes.split_at(index.min(bytes.len()));
@@ -96,18 +114,16 @@ pub(crate) fn inexact_number(bytes: &[u8]) -> Option<&str> {
     };
     // Where the last token ends, so that a long one is looked at once.
     let mut past = 0usize;
-    for (number, chunk) in bytes.chunks(DIGITS).enumerate() {
+    for number in 0..=bytes.len() / DIGITS {
         let index = number.saturating_mul(DIGITS);
-        match chunk.first() {
-            Some(byte) if is_of_number(*byte) && index >= past => {
-                let (token, start) = number_around(bytes, index);
-                past = start.saturating_add(token.len());
-                let text = from_utf8(token).unwrap_or("");
-                if token.len() > DIGITS && is_inexact(text) && !strings.are_around(start) {
-                    return Some(text);
-                }
-            }
-            _ => {}
+        if index < past || !may_be_long(bytes, index) {
+            continue;
+        }
+        let (token, start) = number_around(bytes, index);
+        past = start.saturating_add(token.len());
+        let text = from_utf8(token).unwrap_or("");
+        if token.len() > DIGITS && is_inexact(text) && !strings.are_around(start) {
+            return Some(text);
         }
     }
     None
