@@ -1,6 +1,8 @@
 -- The words of definitions and lemmas that proofs cite, from one place.
 pub use Rattle.jpq_program.specs.Answers.{AreAnswersOn, CallsNoPattern, IsAnswer, IsAnswerOn}
-pub use Rattle.jpq_program.specs.Inside.{Adds, Answered, FilledNodes, IsFailure, KeepsRest, ShowsAs, TookNodes, Writes, WritesLines, WritesNode, has_lines, is_plain, shows_lines, status_after, status_of, told_after}
+pub use Rattle.jpq_program.specs.Heads.{head_text}
+pub use Rattle.jpq_program.specs.declared.paths.AskedPath.{AskedPath}
+pub use Rattle.jpq_program.specs.Inside.{Adds, Answered, AreAnswerable, FilledNodes, IsFailure, KeepsRest, ShowsAs, TookNodes, Writes, WritesLines, WritesNode, has_lines, is_plain, shows_lines, status_after, status_of, told_after}
 pub use Rattle.jpq_program.specs.Run.{ComesOf, IsPrinted, IsStatusOf, LacksMemory}
 pub use Rattle.jpq_options.specs.declared.options.Options.{Options}
 pub use Rattle.jpq_options.specs.declared.options.Request.TheVariants.{Run}
@@ -13,7 +15,7 @@ pub use Rattle.jpq_program.specs.declared.streams.Streams.{Streams}
 pub use Rattle.jpq_program.specs.declared.written.Written.{Written}
 pub use Rattle.jsonpath_lines.proofs.Chosen.{IsWithin, all_below, reached, within_further}
 pub use Rattle.jsonpath_lines.specs.Distinct.{AreEnough}
-pub use Rattle.serde_json_path_syntax.proofs.Words.{length-map, length-take-le, map-append, map_push, take-append-le, take_more}
+pub use Rattle.serde_json_path_syntax.proofs.Words.{length-map, length-take-le, take_all, map-append, map_push, take-append-le, take_more}
 pub use Rattle.jsonpath_lines.specs.Inside.{once}
 pub use Rattle.std.specs.Prelude.{Err, IfErr, OnOk, Result, codes, ◌≤◌}
 pub use Rattle.serde_json_path_nodes.proofs.Words.{IfOk, IfOk-weaker, Ok, cases_Bool, first_places}

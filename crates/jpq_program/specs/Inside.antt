@@ -1,5 +1,5 @@
 -- What contracts of private functions cite alone.
-use Rattle.std.specs.Prelude.{◌≡◌, ◌+◌, ◌⊎◌, Err, Ok, Result, codes, if◌then◌else◌, ℕ, Bool, true, false, not, ◌&&◌, ◌||◌, List, [], ◌∷◌, ◌++◌, Option, None, length, is_some, string_bytes}
+use Rattle.std.specs.Prelude.{◌≡◌, ◌+◌, ◌<◌, get_or, ◌⊎◌, Err, Ok, Result, codes, if◌then◌else◌, ℕ, Bool, true, false, not, ◌&&◌, ◌||◌, List, [], ◌∷◌, ◌++◌, Option, None, length, is_some, string_bytes}
 use Rattle.std.specs.Io.KnownBytes.{Appends}
 use Rattle.serde_json_path_nodes.specs.Location.{Located}
 use Rattle.jsonpath_lines.specs.Inside.{is_reached}
@@ -11,7 +11,9 @@ use Rattle.jsonpath_lines.specs.declared.forms.Output.{Output}
 use Rattle.serde_json.specs.Data.{Data}
 use Rattle.serde_json_path.specs.declared.path.JsonPath.{JsonPath}
 use Rattle.serde_json_path_functions.specs.Functions.{FunctionSet}
-use Rattle.jpq_program.specs.Answers.{IsAnswer, IsAnswerOn}
+use Rattle.serde_json_path_functions.specs.Patterns.{builtin_functions}
+use Rattle.jpq_program.specs.Answers.{CallsNoPattern, IsAnswer, IsAnswerOn}
+use Rattle.jpq_program.specs.declared.paths.AskedPath.{AskedPath}
 use Rattle.jpq_program.specs.declared.showing.Showing.{Showing}
 use Rattle.jpq_program.specs.declared.streams.Outcome.{Outcome}
 use Rattle.jpq_program.specs.declared.streams.Stop.{Stop}
@@ -45,6 +47,11 @@ pub record Answered {W E : Type 0} (contents : W → Option (List ℕ)) (Is : Li
 abbrev pub ShowsAs : Output → List ℕ → Data → JsonPath → Type 0
 ShowsAs output bytes value path = (F : FunctionSet) (head text : List ℕ) (any : Bool)
     → IsAnswer F path output head value text any → IsAnswerOn F path output head bytes text any
+
+-- none of some paths calls by a pattern, and what they show of a value they show of the document that the bytes are
+abbrev pub AreAnswerable : Output → List ℕ → Data → List AskedPath → Type 0
+AreAnswerable output bytes value paths = (i : ℕ) (path : AskedPath) → i < length paths → path ≡ get_or paths i path
+    → CallsNoPattern builtin_functions path.path × ShowsAs output bytes value path.path
 
 -- ---- how a run ends
 

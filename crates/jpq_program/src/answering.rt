@@ -1,13 +1,14 @@
 //! What is written of a document.
 
-ghost use Rattle.std.specs.Prelude.{◌≡◌, ◌||◌, List, None, IfErr, IfOk, OnOk, false, map, nat_lt, true};
+ghost use Rattle.std.specs.Prelude.{◌≡◌, ◌||◌, List, None, IfErr, IfOk, OnOk, false, map, nat_lt, string_bytes, true};
 ghost use Rattle.serde_json_path_nodes.specs.Views.{located};
 ghost use Rattle.serde_json_path_functions.specs.Patterns.{builtin_functions};
 ghost use Rattle.serde_json_path_core.specs.Inside.Words.{view, Located, OnlyMemoryOrPattern, Selects};
 ghost use Rattle.serde_json_path.specs.Paths.{path_tree, with_rule_of};
 ghost use Rattle.jsonpath_lines.specs.Inside.{is_reached, once};
-ghost use Rattle.jpq_program.specs.Answers.{CallsNoPattern, IsAnswerOn};
-ghost use Rattle.jpq_program.specs.Inside.{Answered, FilledNodes, ShowsAs, shows_lines};
+ghost use Rattle.jpq_program.specs.Answers.{AreAnswersOn, CallsNoPattern, IsAnswerOn};
+ghost use Rattle.jpq_program.specs.Heads.{head_text};
+ghost use Rattle.jpq_program.specs.Inside.{Answered, AreAnswerable, FilledNodes, ShowsAs, shows_lines};
 
 use crate::answers::push_answer;
 use crate::inexact::inexact_number;
@@ -185,7 +186,9 @@ impl Answering<'_> {
         is_later: bool,
         streams: &mut Streams<W, E>,
     ) -> Result<bool, Stop>
-        ensures { IfOk result (λ _. CallsNoPattern builtin_functions path.now.path
+        ensures right { IfOk result (λ _. CallsNoPattern builtin_functions path.now.path
+            → streams.new.outcome.refused ≡ false → streams.old.outcome.refused ≡ false) }
+        ensures answered { IfOk result (λ _. CallsNoPattern builtin_functions path.now.path
             → ShowsAs self.now.showing.output document.entry.bytes.now
             (view document.entry.value.now) path.now.path
             → shows_lines self.now.showing ≡ true → streams.old.left ≡ None
@@ -215,30 +218,50 @@ impl Answering<'_> {
         Ok(is_later)
     }
 
-    /// Writes what each path selects from a document.
-    fn answer_nodes<W: Write, E: Write>(
+    /// Writes the lines of what each path selects from a document.
+    fn answer_lines<W: Write, E: Write>(
+        &self,
+        document: Document<'_>,
+        streams: &mut Streams<W, E>,
+    ) -> Result<(), Stop>
+        ensures { IfOk result (λ _. AreAnswerable self.now.showing.output
+            document.entry.bytes.now (view document.entry.value.now) self.now.paths.now
+            → shows_lines self.now.showing ≡ true → streams.old.left ≡ None
+            → streams.new.outcome.refused ≡ false
+            → Answered W.contents (AreAnswersOn builtin_functions
+            (map (λ path. path.path) self.now.paths.now) self.now.showing.output
+            (head_text self.now.heads document.entry.source.name.now document.entry.source.line) 1
+            document.entry.bytes.now) streams.old streams.new) }
+    {
+        for (index, path) in self.paths.iter().enumerate() {
+            let head = self.head(document.source, index.saturating_add(1))?;
+            self.answer_path(document, path, head.as_str(), false, streams)?;
+        }
+        Ok(())
+    }
+
+    /// Writes an array of what each path selects from a document.
+    fn answer_array<W: Write, E: Write>(
         &self,
         document: Document<'_>,
         streams: &mut Streams<W, E>,
     ) -> Result<(), Stop> {
-        let is_json = self.showing.output.form == Form::Json;
-        if is_json {
-            streams.pending.push('[')?;
-        }
+        streams.pending.push('[')?;
         let mut is_later = false;
         for (index, path) in self.paths.iter().enumerate() {
             let head = self.head(document.source, index.saturating_add(1))?;
             is_later = self.answer_path(document, path, head.as_str(), is_later, streams)?;
         }
-        if is_json {
-            self.showing
-                .push_array_end(&mut streams.pending, !is_later)?;
-        }
+        self.showing
+            .push_array_end(&mut streams.pending, !is_later)?;
         Ok(())
     }
 
     /// What the lines of a path, or the members of its objects, begin with.
-    fn head(&self, source: Source<'_>, number: usize) -> Result<String, Stop> {
+    fn head(&self, source: Source<'_>, number: usize) -> Result<String, Stop>
+        ensures { shows_lines self.now.showing ≡ true → IfOk result (λ head. string_bytes head
+            ≡ head_text self.now.heads source.entry.name.now source.entry.line number) }
+    {
         let Output { form, layout, .. } = self.showing.output;
         if form == Form::Json {
             return Ok(self.heads.members(self.alloc, layout, source, number)?);
@@ -357,7 +380,8 @@ impl Answering<'_> {
         match (separator_of(self.shown), self.showing.output.form) {
             (Some(separator), _) => self.answer_row(separator, document, streams)?,
             (None, Form::Count | Form::Nothing) => self.answer_counts(document, streams)?,
-            (None, _) => self.answer_nodes(document, streams)?,
+            (None, Form::Json) => self.answer_array(document, streams)?,
+            (None, _) => self.answer_lines(document, streams)?,
         }
         if !streams.pending.is_empty() {
             streams.write()?;
