@@ -33,6 +33,10 @@ abbrev pub Writes : {W E : Type 0} → (W → Option (List ℕ)) → Streams W E
 Writes contents before after text =
     Adds (contents before.out) (string_bytes before.pending) (contents after.out) (string_bytes after.pending) text
 
+-- nothing changed but what was written and what is pending
+abbrev pub OnlyWrites : {W E : Type 0} → Streams W E → Streams W E → Type 0
+OnlyWrites before after = after ≡ record before { out = after.out; pending = after.pending }
+
 -- a text was added, where nothing was refused; and what it is, and whether it shows a node
 pub record Answered {W E : Type 0} (contents : W → Option (List ℕ)) (Is : List ℕ → Bool → Type 0) (before after : Streams W E) : Type 0 where
   pub text : List ℕ

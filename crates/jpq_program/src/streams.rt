@@ -2,7 +2,7 @@
 
 ghost use Rattle.std.specs.Prelude.{◌≡◌, [], IfErr, None, OnOk, false, string_bytes, true};
 ghost use Rattle.jsonpath_lines.specs.Sent.{AppendsBeginning};
-ghost use Rattle.jpq_program.specs.Inside.{IsFailure, Writes, status_of};
+ghost use Rattle.jpq_program.specs.Inside.{IsFailure, OnlyWrites, Writes, status_of};
 
 use jsonpath_lines::write_text;
 use std::alloc::{AllocError, AllocFailed, Global};
@@ -180,7 +180,7 @@ impl<W: Write, E: Write> Streams<W, E> {
 
     /// Writes what is pending.
     fn put(&mut self) -> io::Result<()>
-        ensures kept { self.new ≡ record self.old { out = self.new.out; pending = self.new.pending } }
+        ensures kept { OnlyWrites self.old self.new }
         ensures whole { OnOk result (Writes W.contents self.old self.new []) }
         ensures all { OnOk result (string_bytes self.new.pending ≡ []) }
         ensures beginning { AppendsBeginning (W.contents self.old.out) (W.contents self.new.out)
@@ -193,7 +193,7 @@ impl<W: Write, E: Write> Streams<W, E> {
 
     /// Writes what is pending if that is much, so that the texts of many nodes are not held at once.
     pub(crate) fn write_if_full(&mut self) -> Result<(), Stop>
-        ensures kept { self.new ≡ record self.old { out = self.new.out; pending = self.new.pending } }
+        ensures kept { OnlyWrites self.old self.new }
         ensures whole { OnOk result (Writes W.contents self.old self.new []) }
         ensures beginning { AppendsBeginning (W.contents self.old.out) (W.contents self.new.out)
             (string_bytes self.old.pending) }
@@ -206,7 +206,7 @@ impl<W: Write, E: Write> Streams<W, E> {
 
     /// Writes what is pending and flushes it, so that a pipe sees it at once.
     pub(crate) fn write(&mut self) -> Result<(), Stop>
-        ensures kept { self.new ≡ record self.old { out = self.new.out; pending = self.new.pending } }
+        ensures kept { OnlyWrites self.old self.new }
         ensures whole { OnOk result (Writes W.contents self.old self.new []) }
         ensures all { OnOk result (string_bytes self.new.pending ≡ []) }
         ensures beginning { AppendsBeginning (W.contents self.old.out) (W.contents self.new.out)
