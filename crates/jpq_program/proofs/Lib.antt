@@ -1,9 +1,17 @@
 -- Lemmas; the folders have the proofs of functions.
 -- Nodes: nodes that are written, one after the other.
 -- Shown: what was written of a document is what its paths show.
+-- Read: what is shown of what was read is what is shown of the document.
+-- Parsed: the paths of words, one after the other.
+-- Asked: what options ask for, as documents are answered.
+-- Sending: what is sent of inputs, one after the other.
 -- Ended: how a run ends.
 -- Words: the words of definitions and lemmas, from one place.
 mod Nodes
 mod Shown
+mod Read
+mod Parsed
+mod Asked
+mod Sending
 mod Ended
 mod Words

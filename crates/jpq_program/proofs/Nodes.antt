@@ -4,12 +4,12 @@ use Rattle.jpq_program.proofs.Words.{◌≡◌, ℕ, ◌+◌, true, false, List,
 
 -- ---- what goes out
 
+pub appends_nothing : (out : Option (List ℕ)) → Appends out out []
+appends_nothing None = tt
+appends_nothing (Some xs) = sym (append-nil xs)
+
 pub adds_nothing : (out : Option (List ℕ)) (waiting : List ℕ) → Adds out waiting out waiting []
-adds_nothing out waiting = ([], Appends-none out, append-nil waiting)
-  where
-    Appends-none : (out : Option (List ℕ)) → Appends out out []
-    Appends-none None = tt
-    Appends-none (Some xs) = sym (append-nil xs)
+adds_nothing out waiting = ([], appends_nothing out, append-nil waiting)
 
 pub adds_both : (out later last : Option (List ℕ)) (waiting then_waiting last_waiting text more : List ℕ)
     → Adds out waiting later then_waiting text → Adds later then_waiting last last_waiting more → Adds out waiting last last_waiting (text ++ more)

@@ -1,6 +1,6 @@
 -- What was written of a document is what its paths show.
-use Rattle.jpq_program.proofs.Words.{◌≡◌, ◌∙◌, ◌&&◌, ◌||◌, ℕ, Bool, true, false, List, Option, None, length, nat_lt, refl, sym, ap, subst, arith, common_steps, nat_tests, string_bytes, Located, Data, JsonPath, Selects, builtin_functions, path_tree, with_rule_of, AreLinesIn, IsLineOfEach, Form, Json, Count, Nothing, Output, chosen, once, up_to, Adds, Answered, FilledNodes, KeepsRest, IsAnswerOn, Outcome, ShowsAs, Streams, Written, has_lines, is_plain, shows_lines, [], ◌∷◌, ◌++◌, ◌+◌, suc, append-nil, append_assoc, AreAnswersOn}
-use Rattle.jpq_program.proofs.Nodes.{adds_both, adds_nothing}
+use Rattle.jpq_program.proofs.Words.{◌≡◌, ◌∙◌, ◌&&◌, ◌||◌, ℕ, Bool, true, false, List, Option, None, length, nat_lt, refl, sym, ap, subst, arith, common_steps, nat_tests, string_bytes, Located, Data, JsonPath, Selects, builtin_functions, path_tree, with_rule_of, AreLinesIn, IsLineOfEach, Form, Json, Count, Nothing, Output, chosen, once, up_to, Adds, Answered, FilledNodes, KeepsRest, IsAnswer, IsAnswerOn, IsCountIn, AreEach, Counts, OnlyNotes, OnlyWrites, Writes, IfOk, Ok, Err, OnOk, Result, Outcome, ShowsAs, Showing, Streams, String, Global, Written, has_counts, has_lines, is_array, is_plain, shows_lines, zero, [], ◌∷◌, ◌++◌, ◌+◌, suc, append-nil, append_assoc, get_or, length-map, length-take-le, map, take, take_all, ◌<◌, ◌≤◌}
+use Rattle.jpq_program.proofs.Nodes.{adds_both, adds_nothing, appends_nothing, further_mapped}
 
 lines_in : (form : Form) (output : Output) (head : List ℕ) (ns : List Located) (text : List ℕ) → has_lines form ≡ true → IsLineOfEach output head ns text → AreLinesIn form output head ns text
 lines_in Json output head ns text has h = absurd cc
@@ -53,11 +53,51 @@ path_answered {W} {E} contents path bytes value before after kept nodes none sto
       left = left;
     }
 
--- what was written of paths, and of another after them
+-- ---- counts
 
-pub none_answered : {W E : Type 0} (contents : W → Option (List ℕ)) (output : Output) (head : ℕ → List ℕ) (number : ℕ) (bytes : List ℕ) (streams : Streams W E) → streams.left ≡ None → streams.outcome.refused ≡ false
-    → Answered contents (AreAnswersOn builtin_functions [] output head number bytes) streams streams
-none_answered contents output head number bytes streams left refused = record {
+-- so many nodes are chosen, and the count says whether one is
+pub says_any : (form : Form) (ns : List Located) (count : ℕ) → IsCountIn form ns count → nat_lt 0 count ≡ nat_lt 0 (length ns)
+says_any Nothing [] count is = ap (nat_lt 0) (is.1.1 refl)
+says_any Nothing (n ∷ ns) zero is = absurd (some_node n ns (is.1.0 refl))
+  where
+    some_node : (n : Located) (ns : List Located) → (n ∷ ns) ≡ [] → ⊥
+    some_node n ns none = absurd cc
+says_any Nothing (n ∷ ns) (suc count) is = some count ∙ sym (some (length ns))
+  where
+    some : (n : ℕ) → nat_lt 0 (suc n) ≡ true
+    some n = grind (arith, nat_tests, common_steps)
+says_any _ ns count is = ap (nat_lt 0) is
+
+-- a path was answered: what is shown of its result is pending
+pub path_counted : {W E : Type 0} (contents : W → Option (List ℕ)) (path : JsonPath) (output : Output) (head bytes : List ℕ) (value : Data) (limit : Option ℕ) (empty appended : List ℕ) (count : ℕ) (before now : Streams W E)
+    → limit ≡ output.most → empty ≡ [] → Counts builtin_functions path (record output { most = limit }) head value empty appended count → ShowsAs output bytes value path
+    → now.out ≡ before.out → string_bytes now.pending ≡ string_bytes before.pending ++ appended → now.outcome ≡ record before.outcome { selected = before.outcome.selected || nat_lt 0 count }
+    → now.left ≡ None → now.outcome.refused ≡ false → Answered contents (IsAnswerOn builtin_functions path output head bytes) before now
+path_counted {W} {E} contents path output head bytes value limit empty appended count before now most none counts shows out pending outcome left refused =
+    let shown = counts.0 in
+    let is : appended ≡ shown = counts.2 ∙ ap (λ (e : List ℕ). e ++ shown) none in
+    record {
+      text = shown;
+      any = nat_lt 0 count;
+      is = shows builtin_functions head shown (nat_lt 0 count) (subst (λ (l : Option ℕ). IsAnswer builtin_functions path (record output { most = l }) head value shown (nat_lt 0 count)) most counts.1);
+      writes = subst (λ (o : W). Adds (contents before.out) (string_bytes before.pending) (contents o) (string_bytes now.pending) shown) (sym out)
+          ([], appends_nothing (contents before.out), ap (λ (t : List ℕ). string_bytes before.pending ++ t) (sym is) ∙ sym pending);
+      selected = ap (λ (o : Outcome). o.selected) outcome;
+      right = sym (ap (λ (o : Outcome). o.refused) outcome) ∙ refused;
+      left = left;
+    }
+
+-- ---- what was written of paths, and of another after them
+
+pub or_false : (b : Bool) → b ≡ (b || false)
+or_false b = grind (arith, nat_tests, common_steps)
+
+pub or_assoc : (a b c : Bool) → ((a || b) || c) ≡ (a || (b || c))
+or_assoc a b c = grind (arith, nat_tests, common_steps)
+
+pub none_answered : {W E A : Type 0} (contents : W → Option (List ℕ)) (Is : ℕ → A → List ℕ → Bool → Type 0) (number : ℕ) (streams : Streams W E) → streams.left ≡ None → streams.outcome.refused ≡ false
+    → Answered contents (AreEach Is number []) streams streams
+none_answered contents Is number streams left refused = record {
   text = [];
   any = false;
   is = (refl, refl);
@@ -66,59 +106,142 @@ none_answered contents output head number bytes streams left refused = record {
   right = refused;
   left = left;
 }
-  where
-    or_false : (b : Bool) → b ≡ (b || false)
-    or_false b = grind (arith, nat_tests, common_steps)
 
-answers_both : (paths : List JsonPath) (path : JsonPath) (output : Output) (head : ℕ → List ℕ) (number : ℕ) (bytes text own : List ℕ) (any one : Bool) → AreAnswersOn builtin_functions paths output head number bytes text any
-    → IsAnswerOn builtin_functions path output (head (number + length paths)) bytes own one → AreAnswersOn builtin_functions (paths ++ path ∷ []) output head number bytes (text ++ own) (any || one)
-answers_both [] path output head number bytes text own any one are is = (
+-- what is shown of some items, and of another after them
+pub each_both : {A : Type 0} (Is : ℕ → A → List ℕ → Bool → Type 0) (number : ℕ) (items : List A) (item : A) (text own : List ℕ) (any one : Bool) → AreEach Is number items text any → Is (number + length items) item own one
+    → AreEach Is number (items ++ item ∷ []) (text ++ own) (any || one)
+each_both Is number [] item text own any one are is = (
   own,
   [],
   one,
   false,
-  subst (λ n. IsAnswerOn builtin_functions path output (head n) bytes own one) (plus_zero number) is,
+  subst (λ n. Is n item own one) (plus_zero number) is,
   (refl, refl),
   ap (λ (t : List ℕ). t ++ own) are.0 ∙ sym (append-nil own),
-  ap (λ (b : Bool). b || one) are.1 ∙ or_false one,
+  ap (λ (b : Bool). b || one) are.1 ∙ or_comm one,
 )
   where
     plus_zero : (n : ℕ) → n + 0 ≡ n
     plus_zero n = grind arith
 
-    or_false : (b : Bool) → (false || b) ≡ (b || false)
-    or_false b = grind (arith, nat_tests, common_steps)
-answers_both (p ∷ paths) path output head number bytes text own any one are is =
-    let further = answers_both paths path output head (number + 1) bytes are.1 own are.3 one are.5 (subst (λ n. IsAnswerOn builtin_functions path output (head n) bytes own one) (shifted number (length paths)) is) in (
-      are.0,
-      are.1 ++ own,
-      are.2,
-      are.3 || one,
-      are.4,
-      further,
-      ap (λ (t : List ℕ). t ++ own) are.6 ∙ append_assoc are.0 are.1 own,
-      ap (λ (b : Bool). b || one) are.7 ∙ or_assoc are.2 are.3 one,
-    )
+    or_comm : (b : Bool) → (false || b) ≡ (b || false)
+    or_comm b = grind (arith, nat_tests, common_steps)
+each_both Is number (first ∷ items) item text own any one are is = (
+  are.0,
+  are.1 ++ own,
+  are.2,
+  are.3 || one,
+  are.4,
+  each_both Is (number + 1) items item are.1 own are.3 one are.5 (subst (λ n. Is n item own one) (shifted number (length items)) is),
+  ap (λ (t : List ℕ). t ++ own) are.6 ∙ append_assoc are.0 are.1 own,
+  ap (λ (b : Bool). b || one) are.7 ∙ or_assoc are.2 are.3 one,
+)
   where
     shifted : (n k : ℕ) → n + suc k ≡ (n + 1) + k
     shifted n k = grind arith
 
-    or_assoc : (a b c : Bool) → ((a || b) || c) ≡ (a || (b || c))
-    or_assoc a b c = grind (arith, nat_tests, common_steps)
-
--- one more path was answered
-pub answered_further : {W E : Type 0} (contents : W → Option (List ℕ)) (paths : List JsonPath) (path : JsonPath) (output : Output) (head : ℕ → List ℕ) (number : ℕ) (bytes : List ℕ) (before old now : Streams W E)
-    → Answered contents (AreAnswersOn builtin_functions paths output head number bytes) before old → Answered contents (IsAnswerOn builtin_functions path output (head (number + length paths)) bytes) old now
-    → Answered contents (AreAnswersOn builtin_functions (paths ++ path ∷ []) output head number bytes) before now
-answered_further contents paths path output head number bytes before old now first second = record {
+-- one more item was answered
+pub answered_further : {W E A : Type 0} (contents : W → Option (List ℕ)) (Is : ℕ → A → List ℕ → Bool → Type 0) (number : ℕ) (items : List A) (item : A) (before old now : Streams W E) → Answered contents (AreEach Is number items) before old
+    → Answered contents (Is (number + length items) item) old now → Answered contents (AreEach Is number (items ++ item ∷ [])) before now
+answered_further contents Is number items item before old now first second = record {
   text = first.text ++ second.text;
   any = first.any || second.any;
-  is = answers_both paths path output head number bytes first.text second.text first.any second.any first.is second.is;
+  is = each_both Is number items item first.text second.text first.any second.any first.is second.is;
   writes = adds_both (contents before.out) (contents old.out) (contents now.out) (string_bytes before.pending) (string_bytes old.pending) (string_bytes now.pending) first.text second.text first.writes second.writes;
   selected = second.selected ∙ ap (λ (b : Bool). b || second.any) first.selected ∙ or_assoc before.outcome.selected first.any second.any;
   right = first.right;
   left = second.left;
 }
+
+-- one more of what a function makes of some items was answered
+pub mapped_further : {W E A B : Type 0} (contents : W → Option (List ℕ)) (Is : ℕ → B → List ℕ → Bool → Type 0) (f : A → B) (items : List A) (index : ℕ) (item : A) (before old now : Streams W E)
+    → index < length items → item ≡ get_or items index item → Answered contents (AreEach Is 1 (map f (take index items))) before old → Answered contents (Is (index + 1) (f item)) old now
+    → Answered contents (AreEach Is 1 (map f (take (index + 1) items))) before now
+mapped_further {B = B} contents Is f items index item before old now within is first second =
+    let done = map f (take index items) in
+    let many : length done ≡ index = length-map (take index items) f ∙ length-take-le index items (omega (arith, within)) in
+    let number : index + 1 ≡ 1 + length done = plus_one index ∙ ap (λ n. 1 + n) (sym many) in
+    subst (λ (made : List B). Answered contents (AreEach Is 1 made) before now) (sym (further_mapped f items index item within is))
+    (answered_further contents Is 1 done (f item) before old now first (subst (λ n. Answered contents (Is n (f item)) old now) number second))
   where
-    or_assoc : (a b c : Bool) → ((a || b) || c) ≡ (a || (b || c))
-    or_assoc a b c = grind (arith, nat_tests, common_steps)
+    plus_one : (n : ℕ) → n + 1 ≡ 1 + n
+    plus_one n = grind arith
+
+-- all were answered
+pub all_answered : {W E A B : Type 0} (contents : W → Option (List ℕ)) (Is : ℕ → B → List ℕ → Bool → Type 0) (f : A → B) (items : List A) (index : ℕ) (before now : Streams W E)
+    → length items ≤ index → Answered contents (AreEach Is 1 (map f (take index items))) before now → Answered contents (AreEach Is 1 (map f items)) before now
+all_answered {A = A} contents Is f items index before now done answered = subst (λ (some : List A). Answered contents (AreEach Is 1 (map f some)) before now) (take_all index items done) answered
+
+-- what was pending went out
+pub answered_sent : {W E : Type 0} (contents : W → Option (List ℕ)) (Is : List ℕ → Bool → Type 0) (before old now : Streams W E) → Answered contents Is before old → OnlyWrites old now → Writes contents old now []
+    → Answered contents Is before now
+answered_sent {W} {E} contents Is before old now answered kept sent = record {
+  text = answered.text;
+  any = answered.any;
+  is = answered.is;
+  writes = subst (Adds (contents before.out) (string_bytes before.pending) (contents now.out) (string_bytes now.pending)) (append-nil answered.text)
+      (adds_both (contents before.out) (contents old.out) (contents now.out) (string_bytes before.pending) (string_bytes old.pending) (string_bytes now.pending) answered.text [] answered.writes sent);
+  selected = ap (λ (s : Streams W E). s.outcome.selected) kept ∙ answered.selected;
+  right = answered.right;
+  left = ap (λ (s : Streams W E). s.left) kept ∙ answered.left;
+}
+
+-- the same text is also something else
+pub answered_as : {W E : Type 0} (contents : W → Option (List ℕ)) (Is Also : List ℕ → Bool → Type 0) (before now : Streams W E) → ((text : List ℕ) (any : Bool) → Is text any → Also text any) → Answered contents Is before now
+    → Answered contents Also before now
+answered_as contents Is Also before now step answered = record {
+  text = answered.text;
+  any = answered.any;
+  is = step answered.text answered.any answered.is;
+  writes = answered.writes;
+  selected = answered.selected;
+  right = answered.right;
+  left = answered.left;
+}
+
+-- nothing changed before that counts
+pub answered_since : {W E : Type 0} (contents : W → Option (List ℕ)) (Is : List ℕ → Bool → Type 0) (before start now : Streams W E) → start.out ≡ before.out → start.pending ≡ before.pending → start.outcome ≡ before.outcome
+    → Answered contents Is start now → Answered contents Is before now
+answered_since {W} {E} contents Is before start now out pending outcome answered = record {
+  text = answered.text;
+  any = answered.any;
+  is = answered.is;
+  writes = subst (λ (o : W). Adds (contents o) (string_bytes before.pending) (contents now.out) (string_bytes now.pending) answered.text) out
+      (subst (λ (p : String Global). Adds (contents start.out) (string_bytes p) (contents now.out) (string_bytes now.pending) answered.text) pending answered.writes);
+  selected = answered.selected ∙ ap (λ (o : Outcome). o.selected || answered.any) outcome;
+  right = sym (ap (λ (o : Outcome). o.refused) outcome) ∙ answered.right;
+  left = answered.left;
+}
+
+-- something was noted
+pub answered_noted : {W E : Type 0} (contents : W → Option (List ℕ)) (Is : List ℕ → Bool → Type 0) (before old now : Streams W E) → Answered contents Is before old → OnlyNotes old now → Answered contents Is before now
+answered_noted {W} {E} contents Is before old now answered kept = record {
+  text = answered.text;
+  any = answered.any;
+  is = answered.is;
+  writes = subst (λ (o : W). Adds (contents before.out) (string_bytes before.pending) (contents o) (string_bytes now.pending) answered.text) (sym (ap (λ (s : Streams W E). s.out) kept))
+      (subst (λ (p : String Global). Adds (contents before.out) (string_bytes before.pending) (contents old.out) (string_bytes p) answered.text) (sym (ap (λ (s : Streams W E). s.pending) kept)) answered.writes);
+  selected = ap (λ (s : Streams W E). s.outcome.selected) kept ∙ answered.selected;
+  right = answered.right;
+  left = ap (λ (s : Streams W E). s.left) kept ∙ answered.left;
+}
+
+-- nodes that are shown in lines are shown in no array, and neither are those that are counted
+pub no_array : (showing : Showing) → shows_lines showing ≡ true → is_array showing.output.form ≡ false
+no_array showing plain = of_lines showing.output.form (second (is_plain showing) (has_lines showing.output.form) plain)
+  where
+    of_lines : (form : Form) → has_lines form ≡ true → is_array form ≡ false
+    of_lines Json has = absurd cc
+    of_lines _ has = refl
+
+pub counts_no_array : (form : Form) → has_counts form ≡ true → is_array form ≡ false
+counts_no_array Json has = absurd cc
+counts_no_array _ has = refl
+
+-- two facts of a call that went well
+pub if_both : {A E : Type 0} (r : Result A E) (P Q R : Type 0) → OnOk r P → OnOk r Q → (P → Q → R) → OnOk r R
+if_both (Ok x) P Q R p q step = step p q
+if_both (Err e) P Q R p q step = tt
+
+pub of_ok : {A E : Type 0} (P : A → Type 0) (r : Result A E) (x : A) → r ≡ Ok x → IfOk r P → P x
+of_ok {A} {E} P r x is holds = subst (λ (r : Result A E). IfOk r P) is holds

@@ -1,29 +1,42 @@
 -- The words of definitions and lemmas that proofs cite, from one place.
-pub use Rattle.jpq_program.specs.Answers.{AreAnswersOn, CallsNoPattern, IsAnswer, IsAnswerOn}
+pub use Rattle.jpq_program.specs.Answers.{AreAnswersOn, AreEach, CallsNoPattern, IsAnswer, IsAnswerOn}
 pub use Rattle.jpq_program.specs.Heads.{head_text}
-pub use Rattle.jpq_program.specs.declared.paths.AskedPath.{AskedPath}
-pub use Rattle.jpq_program.specs.Inside.{Adds, Answered, AreAnswerable, FilledNodes, IsFailure, KeepsRest, ShowsAs, TookNodes, Writes, WritesLines, WritesNode, has_lines, is_plain, shows_lines, status_after, status_of, told_after}
-pub use Rattle.jpq_program.specs.Run.{ComesOf, IsPrinted, IsStatusOf, LacksMemory}
+pub use Rattle.jpq_program.specs.Inputs.{AreInputsShown, AreKnown, IsInputShown, IsLineShown, IsNamedShown, Shown, lines_of, is_blank, with_byte, without_mark}
+pub use Rattle.jpq_program.specs.declared.asked_path.AskedPath.{AskedPath}
+pub use Rattle.jpq_program.specs.Inside.{Adds, Answered, AreAnswerable, Counts, FilledNodes, IsFailure, IsPlain, IsReadIn, KeepsRest, OnlyNotes, OnlyTells, OnlyWrites, Reads, Sends, ShowsAs, Tells, TookNodes, Writes, WritesLines, WritesNode, has_counts, has_lines, head_by, heads_in, is_array, is_plain, is_plain_answer, shown_by, shows_lines, shows_places, status_after, status_of, told_after}
+pub use Rattle.jpq_program.specs.Run.{AreFree, ArePaths, ComesOf, IsAnswered, IsPathOf, IsPlainRun, IsPrinted, IsShownFor, IsStatusOf, LacksMemory, form_in, is_each, names_in, output_in, rule_in}
+pub use Rattle.jpq_options.specs.Options.{is_table}
+pub use Rattle.jpq_options.specs.declared.options.Shown.{Shown as OptionShown}
+pub use Rattle.jpq_options.specs.declared.options.Shown.TheVariants.{Nodes}
+pub use Rattle.jpq_program.specs.declared.answering.Answering.{Answering}
+pub use Rattle.jpq_program.specs.declared.source.Heads.{Heads}
+pub use Rattle.serde_json_path_reach.specs.Readers.{Keeps}
 pub use Rattle.jpq_options.specs.declared.options.Options.{Options}
+pub use Rattle.jpq_program.specs.declared.documents.Documents.{Documents}
+pub use Rattle.jpq_program.specs.declared.paths.PathReading.{PathReading}
 pub use Rattle.jpq_options.specs.declared.options.Request.TheVariants.{Run}
 pub use Rattle.jpq_program.specs.declared.streams.Outcome.{Outcome}
 pub use Rattle.jpq_program.specs.declared.streams.Stop.{Stop}
-pub use Rattle.jpq_program.specs.declared.streams.Stop.TheVariants.{Enough, Found, Memory, OutputFailed, ReaderGone, Refused, WrongUse}
+pub use Rattle.jpq_program.specs.declared.streams.Next.{Next}
+pub use Rattle.jpq_program.specs.declared.streams.Next.TheVariants.{Enough, Found, More}
+pub use Rattle.jpq_program.specs.declared.streams.Stop.TheVariants.{Memory, OutputFailed, ReaderGone, Refused, WrongUse}
 pub use Rattle.jsonpath_lines.specs.Sent.{AppendsBeginning}
 pub use Rattle.jpq_program.specs.declared.showing.Showing.{Showing}
 pub use Rattle.jpq_program.specs.declared.streams.Streams.{Streams}
 pub use Rattle.jpq_program.specs.declared.written.Written.{Written}
 pub use Rattle.jsonpath_lines.proofs.Chosen.{IsWithin, all_below, reached, within_further}
 pub use Rattle.jsonpath_lines.specs.Distinct.{AreEnough}
-pub use Rattle.serde_json_path_syntax.proofs.Words.{length-map, length-take-le, take_all, map-append, map_push, take-append-le, take_more}
+pub use Rattle.serde_json_path_syntax.proofs.Words.{length-map, length-take-le, take_all, true≢false, map-append, map_push, take-append-le, take_more}
 pub use Rattle.jsonpath_lines.specs.Inside.{once}
-pub use Rattle.std.specs.Prelude.{Err, IfErr, OnOk, Result, codes, ◌≤◌}
+pub use Rattle.std.specs.Prelude.{Err, IfErr, OnOk, Result, String, Vec, codes, ◌≤◌}
+pub use Rattle.std.specs.declared.alloc.Global.{Global}
 pub use Rattle.serde_json_path_nodes.proofs.Words.{IfOk, IfOk-weaker, Ok, cases_Bool, first_places}
 pub use Rattle.serde_json_path_core.proofs.Words.{rest}
 pub use Rattle.jsonpath_lines.proofs.Words.{Appends-trans, Bool, IsLine, IsLineOfEach, List, Located, None, Option, Some, [], ap, append-nil, append_assoc, arith, common_steps, false, is_reached, length, length-append, located, nat_tests, refl, string_bytes, subst, sym, true, up_to, ℕ, ◌++◌, ◌+◌, ◌∙◌, ◌∷◌, ◌≡◌}
-pub use Rattle.jsonpath_lines.specs.Output.{AreLines, AreLinesIn, chosen}
+pub use Rattle.jsonpath_lines.specs.Output.{AreLines, AreLinesIn, IsCountIn, IsText, chosen, end_text}
+pub use Rattle.jsonpath_lines.specs.declared.forms.Layout.{Layout}
 pub use Rattle.jsonpath_lines.specs.declared.forms.Form.{Form}
-pub use Rattle.jsonpath_lines.specs.declared.forms.Form.TheVariants.{Count, Json, Nothing}
+pub use Rattle.jsonpath_lines.specs.declared.forms.Form.TheVariants.{Count, Json, Location, LocationAndValue, Nothing, Pointer, Raw, Value}
 pub use Rattle.jsonpath_lines.specs.declared.forms.Output.{Output}
 pub use Rattle.serde_json.specs.Data.{Data}
 pub use Rattle.serde_json.specs.View.{view}
@@ -32,6 +45,18 @@ pub use Rattle.serde_json_path.specs.declared.path.JsonPath.{JsonPath}
 pub use Rattle.serde_json_path_core.specs.Selects.{Selects}
 pub use Rattle.serde_json_path_functions.specs.Patterns.{builtin_functions}
 pub use Rattle.serde_json_path_syntax.proofs.Words.{Bor}
-pub use Rattle.std.proofs.Common.{drop-cons, get_or, inl, inr, rules, suc, take-append-drop, ◌<◌, ◌⊎◌}
+pub use Rattle.std.proofs.Common.{drop-cons, get_or, inl, inr, rules, suc, zero, take-append-drop, ◌<◌, ◌⊎◌}
 pub use Rattle.std.specs.Io.KnownBytes.{Appends}
-pub use Rattle.std.specs.Prelude.{drop, map, nat_lt, take, ◌&&◌, ◌||◌}
+pub use Rattle.std.specs.Io.BufRead.{drop_through, strip_last, take_through}
+pub use Rattle.std.specs.List.{AllZip, take-map}
+pub use Rattle.std.proofs.lemmas.List.{get_or-map}
+pub use Rattle.serde_json_path_functions.specs.Functions.{Numbers}
+pub use Rattle.serde_json_path_functions.specs.Terms.{numbers_view}
+pub use Rattle.std.specs.Fmt.{decimal}
+pub use Rattle.serde_json_path_syntax.specs.Lists.{IsIn}
+pub use Rattle.serde_json_path_syntax.specs.Tree.{Query}
+pub use Rattle.serde_json_path_nodes.specs.Location.{Step}
+pub use Rattle.serde_json_path_nodes.specs.Lists.{first_places_after, is_among}
+pub use Rattle.serde_json_path_nodes.specs.Text.{normal, pointer}
+pub use Rattle.serde_json_path_functions.specs.Functions.{FunctionSet}
+pub use Rattle.std.specs.Prelude.{IfSome, MatchBool, MatchOption, drop, is_some, map, nat_eq, nat_lt, not, take, if◌then◌else◌, ◌&&◌, ◌==◌, ◌||◌}

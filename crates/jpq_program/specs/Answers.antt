@@ -24,9 +24,13 @@ IsAnswer F path output head d text any = (nodes : List Located) × Selects (with
 abbrev pub IsAnswerOn : FunctionSet → JsonPath → Output → List ℕ → List ℕ → List ℕ → Bool → Type 0
 IsAnswerOn F path output head bytes text any = (d : Data) × ReadsAs bytes d × IsAnswer F path output head d text any
 
--- the same of several paths, in order, each after the head of its number
-abbrev pub AreAnswersOn : FunctionSet → List JsonPath → Output → (ℕ → List ℕ) → ℕ → List ℕ → List ℕ → Bool → Type 0
-AreAnswersOn F [] output head number bytes text any = (text ≡ []) × (any ≡ false)
-AreAnswersOn F (path ∷ paths) output head number bytes text any =
-    (own rest : List ℕ) × (one others : Bool) × IsAnswerOn F path output (head number) bytes own one
-    × AreAnswersOn F paths output head (number + 1) bytes rest others × (text ≡ own ++ rest) × (any ≡ (one || others))
+-- what is shown of each of some items, in order, of which the first has this number, and whether a node is
+abbrev pub AreEach : {A : Type 0} → (ℕ → A → List ℕ → Bool → Type 0) → ℕ → List A → List ℕ → Bool → Type 0
+AreEach Is number [] text any = (text ≡ []) × (any ≡ false)
+AreEach Is number (item ∷ items) text any =
+    (own rest : List ℕ) × (one others : Bool) × Is number item own one × AreEach Is (number + 1) items rest others
+    × (text ≡ own ++ rest) × (any ≡ (one || others))
+
+-- the same of several paths of a document, each after the head of its number, which is 1 for the first
+abbrev pub AreAnswersOn : FunctionSet → List JsonPath → Output → (ℕ → List ℕ) → List ℕ → List ℕ → Bool → Type 0
+AreAnswersOn F paths output head bytes text any = AreEach (λ number path. IsAnswerOn F path output (head number) bytes) 1 paths text any

@@ -2,7 +2,6 @@
 use Rattle.std.specs.Prelude.{ℕ, Bool, List, [], ◌++◌, codes, if◌then◌else◌}
 use Rattle.std.specs.Fmt.{decimal}
 use Rattle.std.specs.Str.{bytes_eq}
-use Rattle.jpq_program.specs.declared.source.Heads.{Heads}
 
 -- an input's name, as it is shown: `-` is standard input
 abbrev pub shown_name : List ℕ → List ℕ
@@ -13,6 +12,6 @@ abbrev pub tabbed : Bool → List ℕ → List ℕ
 tabbed is text = if is then text ++ codes "\t" else []
 
 -- the input's name, the number of the document's line in it, and the path's number, each where it is asked for and with a tab after it
-abbrev pub head_text : Heads → List ℕ → ℕ → ℕ → List ℕ
-head_text heads name line number = tabbed heads.file (shown_name name)
-    ++ (tabbed heads.line (decimal line) ++ tabbed heads.number (decimal number))
+abbrev pub head_text : Bool → Bool → Bool → List ℕ → ℕ → ℕ → List ℕ
+head_text has_name has_line has_number name line number = tabbed has_name (shown_name name)
+    ++ (tabbed has_line (decimal line) ++ tabbed has_number (decimal number))

@@ -1,23 +1,37 @@
 -- What contracts of private functions cite alone.
-use Rattle.std.specs.Prelude.{◌≡◌, ◌+◌, ◌<◌, get_or, ◌⊎◌, Err, Ok, Result, codes, if◌then◌else◌, ℕ, Bool, true, false, not, ◌&&◌, ◌||◌, List, [], ◌∷◌, ◌++◌, Option, None, length, is_some, string_bytes}
+use Rattle.std.specs.Prelude.{◌≡◌, ◌+◌, ◌<◌, get_or, ◌⊎◌, Err, Ok, Result, codes, if◌then◌else◌, ℕ, Bool, true, false, not, ◌&&◌, ◌||◌, List, [], ◌∷◌, ◌++◌, map, MatchBool, Option, None, Some, IfSome, length, is_some, nat_lt, string_bytes}
 use Rattle.std.specs.Io.KnownBytes.{Appends}
 use Rattle.serde_json_path_nodes.specs.Location.{Located}
 use Rattle.jsonpath_lines.specs.Inside.{is_reached}
 use Rattle.jsonpath_lines.specs.Inside as lines
 use Rattle.jsonpath_lines.specs.Output.{IsLine, IsLineOfEach, up_to}
 use Rattle.jsonpath_lines.specs.declared.forms.Form.{Form}
-use Rattle.jsonpath_lines.specs.declared.forms.Form.TheVariants.{Json, Count, Nothing}
+use Rattle.jsonpath_lines.specs.declared.forms.Form.TheVariants.{Json, Count, Location, Nothing, Pointer}
 use Rattle.jsonpath_lines.specs.declared.forms.Output.{Output}
 use Rattle.serde_json.specs.Data.{Data}
+use Rattle.serde_json_path.specs.Paths.{path_tree}
 use Rattle.serde_json_path.specs.declared.path.JsonPath.{JsonPath}
+use Rattle.serde_json_path_reach.specs.Alike.{IsReadFor, IsReadForPlaces}
+use Rattle.serde_json_path_reach.specs.Readers.{Keeps}
+use Rattle.serde_json_path_syntax.specs.Tree.{Query}
 use Rattle.serde_json_path_functions.specs.Functions.{FunctionSet}
 use Rattle.serde_json_path_functions.specs.Patterns.{builtin_functions}
-use Rattle.jpq_program.specs.Answers.{CallsNoPattern, IsAnswer, IsAnswerOn}
-use Rattle.jpq_program.specs.declared.paths.AskedPath.{AskedPath}
+use Rattle.jpq_options.specs.Options.{is_table}
+use Rattle.jpq_program.specs.Answers.{AreAnswersOn, CallsNoPattern, IsAnswer, IsAnswerOn}
+use Rattle.jpq_program.specs.Heads.{head_text}
+use Rattle.jpq_program.specs.Inputs.{Shown}
+use Rattle.jpq_program.specs.Run.{has_names, has_numbers}
+use Rattle.jpq_options.specs.declared.options.Options.{Options}
+use Rattle.jpq_program.specs.declared.documents.Documents.{Documents}
+use Rattle.jpq_program.specs.declared.answering.Answering.{Answering}
+use Rattle.jpq_program.specs.declared.asked_path.AskedPath.{AskedPath}
+use Rattle.jpq_program.specs.declared.paths.PathReading.{PathReading}
 use Rattle.jpq_program.specs.declared.showing.Showing.{Showing}
+use Rattle.jpq_program.specs.declared.source.Heads.{Heads}
 use Rattle.jpq_program.specs.declared.streams.Outcome.{Outcome}
 use Rattle.jpq_program.specs.declared.streams.Stop.{Stop}
-use Rattle.jpq_program.specs.declared.streams.Stop.TheVariants.{Enough, Found, Memory, OutputFailed, ReaderGone, Refused, WrongUse}
+use Rattle.jpq_program.specs.declared.streams.Next.{Next}
+use Rattle.jpq_program.specs.declared.streams.Stop.TheVariants.{Memory, OutputFailed, ReaderGone, Refused, WrongUse}
 use Rattle.jpq_program.specs.declared.streams.Streams.{Streams}
 use Rattle.jpq_program.specs.declared.written.Written.{Written}
 
@@ -36,6 +50,32 @@ Writes contents before after text =
 -- nothing changed but what was written and what is pending
 abbrev pub OnlyWrites : {W E : Type 0} → Streams W E → Streams W E → Type 0
 OnlyWrites before after = after ≡ record before { out = after.out; pending = after.pending }
+
+-- nothing changed but what was told, and what is kept of notes
+abbrev pub OnlyNotes : {W E : Type 0} → Streams W E → Streams W E → Type 0
+OnlyNotes before after = after ≡ record before {
+  err = after.err;
+  may_be_inexact = after.may_be_inexact;
+  told_inexact = after.told_inexact;
+  asked_reasons = after.asked_reasons;
+  reason = after.reason;
+}
+
+-- nothing changed but what was told
+abbrev pub OnlyTells : {W E : Type 0} → Streams W E → Streams W E → Type 0
+OnlyTells before after = after ≡ record before { err = after.err }
+
+-- nothing changed but what was told, and whether something was refused
+abbrev pub Tells : {W E : Type 0} → Streams W E → Streams W E → Type 0
+Tells before after = after ≡ record before { err = after.err; outcome = record before.outcome { refused = after.outcome.refused } }
+
+-- paths are read as before
+abbrev pub Reads : PathReading → PathReading → Type 0
+Reads before after = after ≡ record before { used = after.used }
+
+-- what is shown of the path's result on a value was appended, and the count says whether a node is
+abbrev pub Counts : FunctionSet → JsonPath → Output → List ℕ → Data → List ℕ → List ℕ → ℕ → Type 0
+Counts F path output head d old new count = (shown : List ℕ) × IsAnswer F path output head d shown (nat_lt 0 count) × (new ≡ old ++ shown)
 
 -- a text was added, where nothing was refused; and what it is, and whether it shows a node
 pub record Answered {W E : Type 0} (contents : W → Option (List ℕ)) (Is : List ℕ → Bool → Type 0) (before after : Streams W E) : Type 0 where
@@ -67,24 +107,22 @@ status_of outcome = if outcome.refused then 2 else if outcome.selected then 0 el
 abbrev pub IsFailure : Stop → Type 0
 IsFailure stop = (stop ≡ OutputFailed) ⊎ (stop ≡ ReaderGone)
 
--- the status of a run that ended so, where values are bound to names or not
-abbrev pub status_after : Result (Unit {0}) Stop → Bool → Outcome → ℕ
-status_after (Ok _) binds outcome = status_of outcome
-status_after (Err Enough) binds outcome = status_of outcome
-status_after (Err Found) binds outcome = 0
-status_after (Err WrongUse) binds outcome = if binds then 64 else 2
-status_after (Err Refused) binds outcome = 2
-status_after (Err Memory) binds outcome = 2
-status_after (Err OutputFailed) binds outcome = 3
-status_after (Err ReaderGone) binds outcome = 3
+-- the status of a run that ended so, where values are bound to names or not, and nothing is shown or not
+abbrev pub status_after : Result Next Stop → Bool → Bool → Outcome → ℕ
+status_after (Ok next) binds quiet outcome = if quiet && outcome.selected then 0 else status_of outcome
+status_after (Err WrongUse) binds quiet outcome = if binds then 64 else 2
+status_after (Err Refused) binds quiet outcome = 2
+status_after (Err Memory) binds quiet outcome = 2
+status_after (Err OutputFailed) binds quiet outcome = 3
+status_after (Err ReaderGone) binds quiet outcome = 3
 
 -- what is told of that
-abbrev pub told_after : Result (Unit {0}) Stop → List ℕ
+abbrev pub told_after : Result Next Stop → List ℕ
 told_after (Err Memory) = codes "jpq: no memory\n"
 told_after (Err OutputFailed) = codes "jpq: the output failed\n"
 told_after _ = []
 
--- ---- nodes as they are written
+-- ---- how nodes are shown
 
 -- each node has a line of its own
 abbrev pub has_lines : Form → Bool
@@ -93,12 +131,67 @@ has_lines Count = false
 has_lines Nothing = false
 has_lines _ = true
 
+-- of all nodes it is shown how many there are
+abbrev pub has_counts : Form → Bool
+has_counts Count = true
+has_counts _ = false
+
+-- all nodes are shown in one array
+abbrev pub is_array : Form → Bool
+is_array Json = true
+is_array _ = false
+
 -- lines are shown as `push_line` makes them: indented by no other unit, not escaped, and without colours
 abbrev pub is_plain : Showing → Bool
-is_plain showing = not (is_some showing.indent) && (not showing.ascii && not showing.colored)
+is_plain showing = not (is_some showing.dress)
 
 abbrev pub shows_lines : Showing → Bool
 shows_lines showing = is_plain showing && has_lines showing.output.form
+
+-- the nodes are shown in such lines, or counted for each path
+abbrev pub is_plain_answer : Answering → Bool
+is_plain_answer answering = not (is_table answering.shown)
+    && (shows_lines answering.showing || (has_counts answering.showing.output.form && not answering.total))
+
+-- ---- documents and inputs
+
+-- what lines begin with
+abbrev pub head_by : Heads → List ℕ → ℕ → ℕ → List ℕ
+head_by heads name line number = head_text heads.file heads.line heads.number name line number
+
+-- the heads that options ask for, for so many paths
+abbrev pub heads_in : Options → ℕ → Heads
+heads_in options count = record { file = has_names options; line = options.line_number; number = has_numbers options count }
+
+-- what is shown of a document in such an answer
+abbrev pub shown_by : Answering → Shown
+shown_by answering name number bytes text any = AreAnswersOn builtin_functions (map (λ (path : AskedPath). path.path) answering.paths.now)
+    answering.showing.output (head_by answering.heads name number) bytes text any
+
+-- nodes are shown without their values
+abbrev pub shows_places : Form → Bool
+shows_places Location = true
+shows_places Pointer = true
+shows_places Count = true
+shows_places Nothing = true
+shows_places _ = false
+
+-- the bytes read as some document, of which the value has what these queries select, or of that the places alone
+abbrev pub IsReadIn : Bool → List ℕ → List Query → Data → Type 0
+IsReadIn places bytes queries value = MatchBool places (IsReadForPlaces bytes queries value) (IsReadFor bytes queries value)
+
+-- the paths call by no pattern, their answers are plain, and documents are read for them
+pub record IsPlain (documents : Documents) : Type 0 where
+  pub answer : is_plain_answer documents.answering ≡ true
+  pub free : (i : ℕ) (path : AskedPath) → i < length documents.answering.paths.now → path ≡ get_or documents.answering.paths.now i path → CallsNoPattern builtin_functions path.path
+  pub read : IfSome documents.reader (λ reader. Keeps reader (shows_places documents.answering.showing.output.form)
+      (map (λ (path : AskedPath). path_tree path.path) documents.answering.paths.now))
+
+-- a text was sent, and nothing is pending after it
+abbrev pub Sends : {W E : Type 0} → (W → Option (List ℕ)) → (List ℕ → Bool → Type 0) → Streams W E → Streams W E → Type 0
+Sends contents Is before after = Answered contents Is before after × (string_bytes after.pending ≡ [])
+
+-- ---- nodes as they are written
 
 -- a node's line is added to what is pending
 pub record Pends {W E : Type 0} (n : Located) (before after : Written W E) : Type 0 where

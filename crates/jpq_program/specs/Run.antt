@@ -1,16 +1,113 @@
 -- What comes of a run: the exit status, what went out, and what was told.
-use Rattle.std.specs.Prelude.{◌≡◌, ◌≢◌, ◌≤◌, ◌⊎◌, ℕ, List, [], Option, codes, string_bytes}
+use Rattle.std.specs.List.{AllZip}
+use Rattle.std.specs.Prelude.{◌≡◌, ◌≢◌, ◌<◌, ◌≤◌, ◌⊎◌, ◌&&◌, ◌||◌, not, ℕ, Bool, true, false, List, [], ◌∷◌, get_or, length, map, nat_eq, nat_lt, Option, None, Ok, codes, if◌then◌else◌, string_bytes}
 use Rattle.std.specs.Io.KnownBytes.{Appends}
+use Rattle.serde_json_path_functions.specs.Functions.{Numbers, all_numbers, whole_numbers}
+use Rattle.serde_json_path_functions.specs.Patterns.{builtin_functions}
+use Rattle.serde_json_path_parser.specs.Parse.{IsParseOf}
+use Rattle.serde_json_path.specs.Paths.{path_view}
+use Rattle.serde_json_path.specs.declared.path.JsonPath.{JsonPath}
 use Rattle.jsonpath_lines.specs.Sent.{AppendsBeginning}
+use Rattle.jsonpath_lines.specs.declared.forms.Form.{Form}
+use Rattle.jsonpath_lines.specs.declared.forms.Form.TheVariants.{Json, Nothing, Raw}
+use Rattle.jsonpath_lines.specs.declared.forms.Output.{Output}
+use Rattle.jpq_options.specs.declared.options.Color.{Color}
+use Rattle.jpq_options.specs.declared.options.Color.TheVariants.{Always, Auto, Never}
 use Rattle.jpq_options.specs.declared.options.Options.{Options}
 use Rattle.jpq_options.specs.declared.options.Request.{Request}
 use Rattle.jpq_options.specs.declared.options.Request.TheVariants.{Run, Print, WrongUse}
+use Rattle.jpq_options.specs.declared.options.Shown.{Shown}
+use Rattle.jpq_options.specs.declared.options.Shown.TheVariants.{Nodes}
+use Rattle.jpq_program.specs.Answers.{AreAnswersOn, CallsNoPattern}
+use Rattle.jpq_program.specs.Heads.{head_text}
+use Rattle.jpq_program.specs.Inputs.{AreInputsShown, AreKnown}
 use Rattle.jpq_program.specs.declared.streams.Streams.{Streams}
 
 -- the exit status of a run with options: 64 only where values are bound to names, as no path may have one; else 0 where something is
 -- selected, 1 where nothing is, 2 where something is refused, and 3 where the output fails; no clause says which
 abbrev pub IsStatusOf : Options → ℕ → Type 0
 IsStatusOf options status = (status ≤ 3) ⊎ ((status ≡ 64) × (options.bindings.items ≢ []))
+
+-- ---- what options ask for
+
+-- the rule for numbers
+abbrev pub rule_in : Options → Numbers
+rule_in options = if options.whole_numbers then whole_numbers else all_numbers
+
+-- the text is a path of the built-in functions, by a rule for numbers
+abbrev pub IsPathOf : Numbers → List ℕ → JsonPath → Type 0
+IsPathOf rule text path = IsParseOf path_view rule builtin_functions.signature text (Ok path)
+
+-- the same of several texts
+abbrev pub ArePaths : Numbers → List (List ℕ) → List JsonPath → Type 0
+ArePaths rule texts paths = AllZip (IsPathOf rule) texts paths
+
+-- what is shown of nodes
+abbrev pub form_in : Shown → Form
+form_in (Nodes form) = form
+form_in _ = Raw
+
+abbrev pub output_in : Options → Output
+output_in options = record { form = form_in options.shown; layout = options.layout; end = options.end; unique = options.unique; most = options.most }
+
+-- whether lines begin with the name of the input, the number of the line, and the number of the path, for so many paths
+abbrev pub has_names : Options → Bool
+has_names options = options.with_filename || (nat_lt 1 (length options.files.items) && not options.no_filename)
+
+abbrev pub has_numbers : Options → ℕ → Bool
+has_numbers options count = nat_lt 1 count && not options.no_path_number
+
+-- what is shown of a document for the paths: a name, the number of its line, its bytes, the text, and whether a node is shown
+abbrev pub IsShownFor : Options → List JsonPath → List ℕ → ℕ → List ℕ → List ℕ → Bool → Type 0
+IsShownFor options paths name number bytes text any = AreAnswersOn builtin_functions paths (output_in options)
+    (head_text (has_names options) options.line_number (has_numbers options (length paths)) name number) bytes text any
+
+-- the inputs' names, in order; `-` is standard input
+abbrev pub names_in : Options → List (List ℕ)
+names_in options = if nat_eq (length options.files.items) 0 then codes "-" ∷ [] else map (λ file. file.now) options.files.items
+
+-- lines have colours: always, or where the output takes them and the options do not say never
+abbrev pub is_colored : Color → Bool → Bool
+is_colored Always taken = true
+is_colored Never taken = false
+is_colored Auto taken = taken
+
+-- each node is shown in a line of its own, or the nodes are counted
+abbrev pub is_each : Shown → Bool
+is_each (Nodes Json) = false
+is_each (Nodes Nothing) = false
+is_each (Nodes _) = true
+is_each _ = false
+
+-- Nodes are shown so, neither indented by another unit than two spaces, nor escaped, nor in colours, and neither summed up nor bounded
+-- over all documents. The paths are words alone, in which no values are bound to names, and are not only checked.
+pub record IsPlainRun (options : Options) (taken : Bool) : Type 0 where
+  pub each : is_each options.shown ≡ true
+  pub header : options.header ≡ false
+  pub indent : options.indent ≡ None
+  pub tab : options.tab ≡ false
+  pub ascii : options.ascii ≡ false
+  pub colored : is_colored options.color taken ≡ false
+  pub total : options.total ≡ false
+  pub most_of_all : options.most_of_all ≡ None
+  pub bindings : options.bindings.items ≡ []
+  pub paths_files : options.paths_files.items ≡ []
+  pub check : options.check ≡ false
+
+-- none of some paths calls by a pattern that `regex` reads
+abbrev pub AreFree : List JsonPath → Type 0
+AreFree paths = (i : ℕ) (path : JsonPath) → i < length paths → path ≡ get_or paths i path → CallsNoPattern builtin_functions path
+
+-- What comes of such a run in which nothing is refused and no writing fails, where the bytes of the inputs are known: what is shown of
+-- them for the paths went out, and nothing else, and the status says whether a node is shown. No path calls by a pattern.
+pub record IsAnswered {W : Type 0} (contents : W → Option (List ℕ)) (bytes_of : List ℕ → Option (List ℕ)) (options : Options) (before after : W) (status : ℕ) : Type 0 where
+  pub paths : List JsonPath
+  pub are : ArePaths (rule_in options) (map (λ text. text.now) options.paths.items) paths
+  pub shown : AreFree paths → (text : List ℕ) × (any : Bool)
+      × AreInputsShown (IsShownFor options paths) options.lines bytes_of (names_in options) text any
+      × Appends (contents before) (contents after) text × (status ≡ (if any then 0 else 1))
+
+-- ---- what is printed
 
 -- a text went out, and nothing was told; or the output failed: then a beginning of the text is out, and that may be told
 abbrev pub IsPrinted : {W E : Type 0} → (W → Option (List ℕ)) → (E → Option (List ℕ)) → List ℕ → Streams W E → Streams W E → ℕ → Type 0
@@ -19,13 +116,15 @@ IsPrinted out err text before after status =
     ⊎ ((status ≡ 3) × AppendsBeginning (out before.out) (out after.out) text
     × AppendsBeginning (err before.err) (err after.err) (codes "jpq: the output failed\n"))
 
--- What comes of a run whose words ask for this. `out` and `err` say what is known of the bytes of the two writers. Of wrong use the
--- message is told, or a beginning of it. Neither then, nor where a text is printed, is an input opened.
-abbrev pub ComesOf : {I W E : Type 0} → (W → Option (List ℕ)) → (E → Option (List ℕ)) → Request → I → I → Streams W E → Streams W E → ℕ → Type 0
-ComesOf out err (WrongUse kind text) inputs later before after status = (status ≡ 64) × (later ≡ inputs) × (after.out ≡ before.out)
+-- What comes of a run whose words ask for this. `out` and `err` say what is known of the bytes of the two writers, and `bytes_of` of
+-- the inputs; the output takes colours or not. Of wrong use the message is told, or a beginning of it. Neither then, nor where a text is
+-- printed, is an input opened.
+abbrev pub ComesOf : {I W E : Type 0} → (W → Option (List ℕ)) → (E → Option (List ℕ)) → (List ℕ → Option (List ℕ)) → Bool → Request → I → I → Streams W E → Streams W E → ℕ → Type 0
+ComesOf out err bytes_of taken (WrongUse kind text) inputs later before after status = (status ≡ 64) × (later ≡ inputs) × (after.out ≡ before.out)
     × AppendsBeginning (err before.err) (err after.err) (string_bytes text)
-ComesOf out err (Print text) inputs later before after status = (later ≡ inputs) × IsPrinted out err (string_bytes text) before after status
-ComesOf out err (Run options) inputs later before after status = IsStatusOf options status
+ComesOf out err bytes_of taken (Print text) inputs later before after status = (later ≡ inputs) × IsPrinted out err (string_bytes text) before after status
+ComesOf out err bytes_of taken (Run options) inputs later before after status = IsStatusOf options status
+    × (IsPlainRun options taken → AreKnown bytes_of (names_in options) → status ≤ 1 → IsAnswered out bytes_of options before.out after.out status)
 
 -- memory for the words was refused: no input is opened, nothing goes out, and that is told
 abbrev pub LacksMemory : {I W E : Type 0} → (E → Option (List ℕ)) → I → I → Streams W E → Streams W E → ℕ → Type 0

@@ -1,21 +1,20 @@
 //! What is written of a document.
 
-ghost use Rattle.std.specs.Prelude.{◌≡◌, ◌||◌, List, None, IfErr, IfOk, OnOk, false, map, nat_lt, string_bytes, true};
+ghost use Rattle.std.specs.Prelude.{◌≡◌, ◌||◌, [], List, None, IfErr, IfOk, OnOk, false, map, nat_lt, string_bytes, true};
 ghost use Rattle.serde_json_path_nodes.specs.Views.{located};
 ghost use Rattle.serde_json_path_functions.specs.Patterns.{builtin_functions};
 ghost use Rattle.serde_json_path_core.specs.Inside.Words.{view, Located, OnlyMemoryOrPattern, Selects};
 ghost use Rattle.serde_json_path.specs.Paths.{path_tree, with_rule_of};
 ghost use Rattle.jsonpath_lines.specs.Inside.{is_reached, once};
 ghost use Rattle.jpq_program.specs.Answers.{AreAnswersOn, CallsNoPattern, IsAnswerOn};
-ghost use Rattle.jpq_program.specs.Heads.{head_text};
-ghost use Rattle.jpq_program.specs.Inside.{Answered, AreAnswerable, FilledNodes, ShowsAs, shows_lines};
+ghost use Rattle.jpq_program.specs.Inside.{Answered, AreAnswerable, Counts, FilledNodes, OnlyNotes, Sends, ShowsAs, has_counts, head_by, is_array, is_plain_answer, shown_by, shows_lines};
 
 use crate::answers::push_answer;
+use crate::asked_path::AskedPath;
 use crate::inexact::inexact_number;
-use crate::paths::AskedPath;
 use crate::showing::{Showing, end_of};
 use crate::source::{Heads, Source, shown_name};
-use crate::streams::{Stop, Streams};
+use crate::streams::{Next, Stop, Streams};
 use crate::tables::separator_of;
 use crate::written::Written;
 use jpq_options::options::Shown;
@@ -26,6 +25,7 @@ use serde_json_path::functions::CachedPatterns;
 use serde_json_path::{LocatedNode, QueryError};
 use std::alloc::Global;
 use std::io::Write;
+use std::mem::replace;
 
 /// A document, or what of it the paths can reach, and where it comes from.
 #[derive(Clone, Copy, Drop)]
@@ -224,13 +224,16 @@ impl Answering<'_> {
         document: Document<'_>,
         streams: &mut Streams<W, E>,
     ) -> Result<(), Stop>
-        ensures { IfOk result (λ _. AreAnswerable self.now.showing.output
+        ensures right { IfOk result (λ _. AreAnswerable self.now.showing.output
+            document.entry.bytes.now (view document.entry.value.now) self.now.paths.now
+            → streams.new.outcome.refused ≡ false → streams.old.outcome.refused ≡ false) }
+        ensures answered { IfOk result (λ _. AreAnswerable self.now.showing.output
             document.entry.bytes.now (view document.entry.value.now) self.now.paths.now
             → shows_lines self.now.showing ≡ true → streams.old.left ≡ None
             → streams.new.outcome.refused ≡ false
             → Answered W.contents (AreAnswersOn builtin_functions
             (map (λ path. path.path) self.now.paths.now) self.now.showing.output
-            (head_text self.now.heads document.entry.source.name.now document.entry.source.line) 1
+            (head_by self.now.heads document.entry.source.name.now document.entry.source.line)
             document.entry.bytes.now) streams.old streams.new) }
     {
         for (index, path) in self.paths.iter().enumerate() {
@@ -259,8 +262,9 @@ impl Answering<'_> {
 
     /// What the lines of a path, or the members of its objects, begin with.
     fn head(&self, source: Source<'_>, number: usize) -> Result<String, Stop>
-        ensures { shows_lines self.now.showing ≡ true → IfOk result (λ head. string_bytes head
-            ≡ head_text self.now.heads source.entry.name.now source.entry.line number) }
+        ensures { is_array self.now.showing.output.form ≡ false → IfOk result (λ head.
+            string_bytes head
+            ≡ head_by self.now.heads source.entry.name.now source.entry.line number) }
     {
         let Output { form, layout, .. } = self.showing.output;
         if form == Form::Json {
@@ -277,7 +281,14 @@ impl Answering<'_> {
         limit: Option<u64>,
         document: &Value,
         text: &mut String,
-    ) -> Result<u64, QueryError> {
+    ) -> Result<u64, QueryError>
+        ensures counted { IfOk result (λ count. Counts builtin_functions path.now.path
+            (record self.now.showing.output { most = limit }) head.now (view document.now)
+            (string_bytes text.old) (string_bytes text.new) count) }
+        ensures unchanged { IfErr result (λ e. string_bytes text.new ≡ string_bytes text.old) }
+        ensures refused { OnlyMemoryOrPattern (with_rule_of path.now.path builtin_functions)
+            (path_tree path.now.path) (view document.now) result }
+    {
         let output = Output {
             most: limit,
             ..self.showing.output
@@ -286,18 +297,26 @@ impl Answering<'_> {
         push_answer(self.alloc, &output, head, path, functions, document, text)
     }
 
-    /// The same of a path of which a pattern was refused, on the whole document, so that what is told is true of that.
-    fn count_of_whole(
+    /// The same of a document. Where a pattern is refused, the whole document is asked, so that what is told is true of that.
+    fn count_path(
         &self,
         path: &AskedPath,
         head: &str,
         limit: Option<u64>,
-        bytes: &[u8],
+        document: Document<'_>,
         text: &mut String,
-    ) -> Result<u64, QueryError> {
-        match read_document(self.alloc, bytes) {
-            Ok(document) => self.count(path, head, limit, &document, text),
-            Err(_) => Err(QueryError::Memory),
+    ) -> Result<u64, QueryError>
+        ensures { IfOk result (λ count. CallsNoPattern builtin_functions path.now.path
+            → Counts builtin_functions path.now.path
+            (record self.now.showing.output { most = limit }) head.now
+            (view document.entry.value.now) (string_bytes text.old) (string_bytes text.new) count) }
+    {
+        match self.count(path, head, limit, document.value, text) {
+            Err(QueryError::Pattern) => match read_document(self.alloc, document.bytes) {
+                Ok(whole) => self.count(path, head, limit, &whole, text),
+                Err(_) => Err(QueryError::Memory),
+            },
+            answer => answer,
         }
     }
 
@@ -308,16 +327,20 @@ impl Answering<'_> {
         path: &AskedPath,
         head: &str,
         streams: &mut Streams<W, E>,
-    ) -> Result<(), Stop> {
+    ) -> Result<(), Stop>
+        ensures right { IfOk result (λ _.
+            streams.new.outcome.refused ≡ false → streams.old.outcome.refused ≡ false) }
+        ensures answered { IfOk result (λ _. CallsNoPattern builtin_functions path.now.path
+            → ShowsAs self.now.showing.output document.entry.bytes.now
+            (view document.entry.value.now) path.now.path
+            → self.now.total ≡ false → streams.old.left ≡ None
+            → streams.new.outcome.refused ≡ false
+            → Answered W.contents (IsAnswerOn builtin_functions path.now.path
+            self.now.showing.output head.now document.entry.bytes.now) streams.old streams.new) }
+    {
         let limit = least(self.showing.output.most, streams.left);
         let mut text = String::new(self.alloc);
-        let answer = match self.count(path, head, limit, document.value, &mut text) {
-            Err(QueryError::Pattern) => {
-                self.count_of_whole(path, head, limit, document.bytes, &mut text)
-            }
-            answer => answer,
-        };
-        match answer {
+        match self.count_path(path, head, limit, document, &mut text) {
             Ok(count) => {
                 self.keep_count(count, streams);
                 if !self.total {
@@ -334,7 +357,18 @@ impl Answering<'_> {
         &self,
         document: Document<'_>,
         streams: &mut Streams<W, E>,
-    ) -> Result<(), Stop> {
+    ) -> Result<(), Stop>
+        ensures right { IfOk result (λ _.
+            streams.new.outcome.refused ≡ false → streams.old.outcome.refused ≡ false) }
+        ensures answered { IfOk result (λ _. AreAnswerable self.now.showing.output
+            document.entry.bytes.now (view document.entry.value.now) self.now.paths.now
+            → has_counts self.now.showing.output.form ≡ true → self.now.total ≡ false
+            → streams.old.left ≡ None → streams.new.outcome.refused ≡ false
+            → Answered W.contents (AreAnswersOn builtin_functions
+            (map (λ path. path.path) self.now.paths.now) self.now.showing.output
+            (head_by self.now.heads document.entry.source.name.now document.entry.source.line)
+            document.entry.bytes.now) streams.old streams.new) }
+    {
         for (index, path) in self.paths.iter().enumerate() {
             let head = self.head(document.source, index.saturating_add(1))?;
             self.answer_count(document, path, head.as_str(), streams)?;
@@ -356,7 +390,9 @@ impl Answering<'_> {
         &self,
         document: Document<'_>,
         streams: &mut Streams<W, E>,
-    ) -> Result<(), Stop> {
+    ) -> Result<(), Stop>
+        ensures { OnlyNotes streams.old streams.new }
+    {
         if streams.told_inexact {
             return Ok(());
         }
@@ -370,30 +406,82 @@ impl Answering<'_> {
         Ok(())
     }
 
-    /// Answers a document: writes what is shown of it, and tells what is refused.
+    /// Answers a document: writes what is shown of it, and tells what is refused. Says whether more documents are wanted.
     pub(crate) fn answer<W: Write, E: Write>(
         &self,
         document: Document<'_>,
         streams: &mut Streams<W, E>,
-    ) -> Result<(), Stop> {
-        streams.may_be_inexact = false;
-        match (separator_of(self.shown), self.showing.output.form) {
-            (Some(separator), _) => self.answer_row(separator, document, streams)?,
-            (None, Form::Count | Form::Nothing) => self.answer_counts(document, streams)?,
-            (None, Form::Json) => self.answer_array(document, streams)?,
-            (None, _) => self.answer_lines(document, streams)?,
-        }
-        if !streams.pending.is_empty() {
-            streams.write()?;
-        }
+    ) -> Result<Next, Stop>
+        ensures right { IfOk result (λ _. AreAnswerable self.now.showing.output
+            document.entry.bytes.now (view document.entry.value.now) self.now.paths.now
+            → is_plain_answer self.now ≡ true
+            → streams.new.outcome.refused ≡ false → streams.old.outcome.refused ≡ false) }
+        ensures answered { IfOk result (λ next. AreAnswerable self.now.showing.output
+            document.entry.bytes.now (view document.entry.value.now) self.now.paths.now
+            → is_plain_answer self.now ≡ true → streams.old.left ≡ None
+            → streams.new.outcome.refused ≡ false
+            → (next ≡ Next.More) × Sends W.contents (shown_by self.now
+            document.entry.source.name.now document.entry.source.line document.entry.bytes.now)
+            streams.old streams.new) }
+    {
+        self.write_answer(document, streams)?;
         self.tell_notes(document, streams)?;
-        if self.shown == Shown::Nodes(Form::Nothing) && streams.outcome.selected {
-            return Err(Stop::Found);
+        if self.showing.output.form == Form::Nothing && streams.outcome.selected {
+            return Ok(Next::Found);
         }
         if streams.left == Some(0) {
-            return Err(Stop::Enough);
+            return Ok(Next::Enough);
         }
-        Ok(())
+        Ok(Next::More)
+    }
+
+    /// Writes what is shown of a document.
+    fn write_answer<W: Write, E: Write>(
+        &self,
+        document: Document<'_>,
+        streams: &mut Streams<W, E>,
+    ) -> Result<(), Stop>
+        ensures right { IfOk result (λ _. AreAnswerable self.now.showing.output
+            document.entry.bytes.now (view document.entry.value.now) self.now.paths.now
+            → is_plain_answer self.now ≡ true
+            → streams.new.outcome.refused ≡ false → streams.old.outcome.refused ≡ false) }
+        ensures answered { IfOk result (λ _. AreAnswerable self.now.showing.output
+            document.entry.bytes.now (view document.entry.value.now) self.now.paths.now
+            → is_plain_answer self.now ≡ true → streams.old.left ≡ None
+            → streams.new.outcome.refused ≡ false
+            → Sends W.contents (shown_by self.now document.entry.source.name.now
+            document.entry.source.line document.entry.bytes.now) streams.old streams.new) }
+    {
+        self.make_answer(document, streams)?;
+        if streams.pending.is_empty() {
+            return Ok(());
+        }
+        streams.write()
+    }
+
+    /// Makes what is shown of a document. Of many nodes some is written.
+    fn make_answer<W: Write, E: Write>(
+        &self,
+        document: Document<'_>,
+        streams: &mut Streams<W, E>,
+    ) -> Result<(), Stop>
+        ensures right { IfOk result (λ _. AreAnswerable self.now.showing.output
+            document.entry.bytes.now (view document.entry.value.now) self.now.paths.now
+            → is_plain_answer self.now ≡ true
+            → streams.new.outcome.refused ≡ false → streams.old.outcome.refused ≡ false) }
+        ensures answered { IfOk result (λ _. AreAnswerable self.now.showing.output
+            document.entry.bytes.now (view document.entry.value.now) self.now.paths.now
+            → is_plain_answer self.now ≡ true → streams.old.left ≡ None
+            → streams.new.outcome.refused ≡ false
+            → Answered W.contents (shown_by self.now document.entry.source.name.now
+            document.entry.source.line document.entry.bytes.now) streams.old streams.new) }
+    {
+        match (separator_of(self.shown), self.showing.output.form) {
+            (Some(separator), _) => self.answer_row(separator, document, streams),
+            (None, Form::Count | Form::Nothing) => self.answer_counts(document, streams),
+            (None, Form::Json) => self.answer_array(document, streams),
+            (None, _) => self.answer_lines(document, streams),
+        }
     }
 
     /// Tells, or keeps, what is to be noted of a document that was answered.
@@ -401,11 +489,14 @@ impl Answering<'_> {
         &self,
         document: Document<'_>,
         streams: &mut Streams<W, E>,
-    ) -> Result<(), Stop> {
+    ) -> Result<(), Stop>
+        ensures { OnlyNotes streams.old streams.new }
+    {
+        let may_be_inexact = replace(&mut streams.may_be_inexact, false);
         if self.silent {
             return Ok(());
         }
-        if streams.may_be_inexact && self.shows_values() {
+        if may_be_inexact && self.shows_values() {
             self.tell_inexact(document, streams)?;
         }
         if streams.total == 0 {

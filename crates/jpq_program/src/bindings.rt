@@ -1,5 +1,7 @@
 //! Values for names that stand in paths, such as `'$title'`.
 
+ghost use Rattle.std.specs.Prelude.{◌≡◌, [], IfOk};
+
 use std::alloc::{AllocError, Global};
 
 /// A name, and the text that stands for it.
@@ -13,7 +15,9 @@ pub(crate) struct Binding<'a> {
 pub(crate) fn bindings_of<'a>(
     alloc: Global,
     words: &[&'a str],
-) -> Result<Result<Vec<Binding<'a>>, &'a str>, AllocError> {
+) -> Result<Result<Vec<Binding<'a>>, &'a str>, AllocError>
+    ensures { words.now ≡ [] → IfOk result (λ read. IfOk read (λ bindings. bindings.items ≡ [])) }
+{
     let mut bindings = Vec::new(alloc);
     for word in words {
         match word.split_once('=') {

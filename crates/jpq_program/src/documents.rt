@@ -1,11 +1,21 @@
 //! The documents of the inputs, and what is told of those that are none.
 
+ghost use Rattle.std.specs.Char.{is_ascii_whitespace};
+ghost use Rattle.std.specs.Io.BufRead.{strip_last};
+ghost use Rattle.std.specs.List.{list_all};
+ghost use Rattle.std.specs.Prelude.{◌≡◌, ℕ, [], Bool, List, None, IfOk, IfSome, false, map, string_bytes, true};
+ghost use Rattle.serde_json.specs.View.{view};
+ghost use Rattle.serde_json_path_syntax.specs.Tree.{Query};
+ghost use Rattle.serde_json_path_reach.specs.Readers.{Keeps};
+ghost use Rattle.jpq_program.specs.Inputs.{AreInputsShown, AreKnown, IsInputShown, IsLineShown, is_blank, without_mark};
+ghost use Rattle.jpq_program.specs.Inside.{IsPlain, IsReadIn, OnlyNotes, Sends, shown_by};
+
 use crate::answering::{Answering, Document};
 use crate::encodings::{encoding_of, without_mark};
 use crate::inputs::Inputs;
 use crate::refusal::push_document_refusal;
 use crate::source::{Source, shown_name};
-use crate::streams::{Stop, Streams};
+use crate::streams::{Next, Stop, Streams};
 use jsonpath_document::{DocumentError, read_document};
 use serde_json::Value;
 use serde_json_path::DocumentReader;
@@ -33,6 +43,28 @@ pub(crate) struct Documents<'a> {
 /// How many lines of an input that are no documents are told, each by itself.
 const TOLD_LINES: usize = 10;
 
+/// Whether a line has blanks alone.
+fn is_blank(line: &[u8]) -> bool
+    ensures { result ≡ is_blank line.now }
+{
+    for byte in line {
+        if !byte.is_ascii_whitespace() {
+            return false;
+        }
+    }
+    true
+}
+
+/// The document of a line: without a byte order mark, and without the line feed.
+fn document_of(line: &[u8]) -> &[u8]
+    ensures { result.now ≡ without_mark (strip_last 10 line.now) }
+{
+    match line.split_last() {
+        Some((b'\n', document)) => without_mark(document),
+        _ => without_mark(line),
+    }
+}
+
 /// Whether a line is an opening bracket or brace alone, as indented documents begin.
 fn opens_alone(line: &[u8]) -> bool {
     matches!(without_mark(line).trim_ascii(), b"[" | b"{")
@@ -40,7 +72,11 @@ fn opens_alone(line: &[u8]) -> bool {
 
 impl Documents<'_> {
     /// The document of some bytes, or what of it the paths can reach.
-    fn document(&self, bytes: &[u8]) -> Result<Value, DocumentError> {
+    fn document(&self, bytes: &[u8]) -> Result<Value, DocumentError>
+        ensures { (places : Bool) (queries : List Query)
+            → IfSome self.now.reader (λ reader. Keeps reader places queries)
+            → IfOk result (λ value. IsReadIn places bytes.now queries (view value)) }
+    {
         if let Some(reader) = &self.reader {
             if let Ok(document) = reader.read(self.alloc, bytes) {
                 return Ok(document);
@@ -55,7 +91,14 @@ impl Documents<'_> {
         source: Source<'_>,
         bytes: &[u8],
         streams: &mut Streams<W, E>,
-    ) -> Result<(), Stop> {
+    ) -> Result<Next, Stop>
+        ensures right { IfOk result (λ _. IsPlain self.now
+            → streams.new.outcome.refused ≡ false → streams.old.outcome.refused ≡ false) }
+        ensures answered { IfOk result (λ next. IsPlain self.now → streams.old.left ≡ None
+            → streams.new.outcome.refused ≡ false
+            → (next ≡ Next.More) × Sends W.contents (shown_by self.now.answering source.entry.name.now
+            source.entry.line bytes.now) streams.old streams.new) }
+    {
         let e = match self.document(bytes) {
             Ok(document) => {
                 let answered = self.answering.answer(
@@ -83,7 +126,9 @@ impl Documents<'_> {
         bytes: &[u8],
         e: DocumentError,
         streams: &mut Streams<W, E>,
-    ) -> Result<(), Stop> {
+    ) -> Result<Next, Stop>
+        ensures { IfOk result (λ _. streams.new.outcome.refused ≡ true) }
+    {
         streams.outcome.refused = true;
         streams.refused_documents = streams.refused_documents.saturating_add(1);
         if streams.refused_documents <= TOLD_LINES {
@@ -101,7 +146,7 @@ impl Documents<'_> {
         if self.strict {
             Err(Stop::Refused)
         } else {
-            Ok(())
+            Ok(Next::More)
         }
     }
 
@@ -110,7 +155,9 @@ impl Documents<'_> {
         &self,
         name: &str,
         streams: &mut Streams<W, E>,
-    ) -> Result<(), Stop> {
+    ) -> Result<(), Stop>
+        ensures { OnlyNotes streams.old streams.new }
+    {
         let more = streams.refused_documents.saturating_sub(TOLD_LINES);
         if more > 0 {
             let name = shown_name(name);
@@ -126,12 +173,14 @@ impl Documents<'_> {
         name: &str,
         e: &io::Error,
         streams: &mut Streams<W, E>,
-    ) -> Result<(), Stop> {
+    ) -> Result<Next, Stop>
+        ensures { IfOk result (λ _. streams.new.outcome.refused ≡ true) }
+    {
         let name = shown_name(name);
         streams.tell_refusal(format!(in self.alloc;
             "jpq: {name}: cannot be read: {e}\n"
         )?.as_str());
-        Ok(())
+        Ok(Next::More)
     }
 
     /// Tells that an input is one document in many lines, where each line should be one.
@@ -139,7 +188,9 @@ impl Documents<'_> {
         &self,
         name: &str,
         streams: &mut Streams<W, E>,
-    ) -> Result<(), Stop> {
+    ) -> Result<Next, Stop>
+        ensures { IfOk result (λ _. streams.new.outcome.refused ≡ true) }
+    {
         let name = shown_name(name);
         streams.tell_refusal(format!(in self.alloc;
             "jpq: {name}: line 1 is only the beginning of a document (is it one document? leave out -L)\n"
@@ -147,7 +198,7 @@ impl Documents<'_> {
         if self.strict {
             return Err(Stop::Refused);
         }
-        Ok(())
+        Ok(Next::More)
     }
 
     /// Answers an input that is one document.
@@ -156,7 +207,14 @@ impl Documents<'_> {
         name: &str,
         mut input: I,
         streams: &mut Streams<W, E>,
-    ) -> Result<(), Stop> {
+    ) -> Result<Next, Stop>
+        ensures right { IfOk result (λ _. IsPlain self.now
+            → streams.new.outcome.refused ≡ false → streams.old.outcome.refused ≡ false) }
+        ensures answered { IfOk result (λ next. IsPlain self.now → streams.old.left ≡ None
+            → streams.new.outcome.refused ≡ false → IfSome (I.remaining input) (λ bytes.
+            (next ≡ Next.More) × Sends W.contents (IsInputShown (shown_by self.now.answering) false name.now bytes)
+            streams.old streams.new)) }
+    {
         let mut bytes = Vec::new(self.alloc);
         match input.read_to_end(&mut bytes) {
             Ok(_) => self.answer_bytes(Source { name, line: 1 }, without_mark(&bytes), streams),
@@ -170,12 +228,18 @@ impl Documents<'_> {
         source: Source<'_>,
         line: &[u8],
         streams: &mut Streams<W, E>,
-    ) -> Result<(), Stop> {
-        if line.trim_ascii().is_empty() {
-            return Ok(());
+    ) -> Result<Next, Stop>
+        ensures right { IfOk result (λ _. IsPlain self.now
+            → streams.new.outcome.refused ≡ false → streams.old.outcome.refused ≡ false) }
+        ensures answered { IfOk result (λ next. IsPlain self.now → streams.old.left ≡ None
+            → streams.new.outcome.refused ≡ false → string_bytes streams.old.pending ≡ []
+            → (next ≡ Next.More) × Sends W.contents (IsLineShown (shown_by self.now.answering) source.entry.name.now
+            source.entry.line line.now) streams.old streams.new) }
+    {
+        if is_blank(line) {
+            return Ok(Next::More);
         }
-        let document = line.strip_suffix(b"\n").unwrap_or(line);
-        self.answer_bytes(source, without_mark(document), streams)
+        self.answer_bytes(source, document_of(line), streams)
     }
 
     /// Answers an input of which each line is a document. One line is held at a time.
@@ -184,7 +248,15 @@ impl Documents<'_> {
         name: &str,
         input: I,
         streams: &mut Streams<W, E>,
-    ) -> Result<(), Stop> {
+    ) -> Result<Next, Stop>
+        ensures right { IfOk result (λ _. IsPlain self.now
+            → streams.new.outcome.refused ≡ false → streams.old.outcome.refused ≡ false) }
+        ensures answered { IfOk result (λ next. IsPlain self.now → streams.old.left ≡ None
+            → streams.new.outcome.refused ≡ false → string_bytes streams.old.pending ≡ []
+            → IfSome (I.remaining input) (λ bytes. (next ≡ Next.More) × Sends W.contents
+            (IsInputShown (shown_by self.now.answering) true name.now bytes)
+            streams.old streams.new)) }
+    {
         let Ok(mut reader) = BufReader::new(self.alloc, input) else {
             return Err(Stop::Memory);
         };
@@ -192,15 +264,53 @@ impl Documents<'_> {
         for number in 1..usize::MAX {
             line.clear();
             match reader.read_until(b'\n', &mut line) {
-                Ok(0) => return self.tell_more_lines(name, streams),
+                Ok(0) => {
+                    self.tell_more_lines(name, streams)?;
+                    return Ok(Next::More);
+                }
                 Ok(_) if number == 1 && opens_alone(&line) => {
                     return self.refuse_many_lines(name, streams);
                 }
-                Ok(_) => self.answer_line(Source { name, line: number }, &line, streams)?,
+                Ok(_) => {
+                    let source = Source { name, line: number };
+                    match self.answer_line(source, &line, streams)? {
+                        Next::More => {}
+                        ended => return Ok(ended),
+                    }
+                }
                 Err(e) => return self.refuse_input(name, &e, streams),
             }
         }
-        Ok(())
+        // No input has so many lines.
+        self.refuse_input(name, &io::Error::from(io::ErrorKind::TimedOut), streams)
+    }
+
+    /// Answers an input.
+    fn answer_input<I: Inputs, W: Write, E: Write>(
+        &self,
+        name: &str,
+        inputs: &mut I,
+        streams: &mut Streams<W, E>,
+    ) -> Result<Next, Stop>
+        ensures same { (name : List ℕ) → I.bytes_of inputs.new name ≡ I.bytes_of inputs.old name }
+        ensures right { IfOk result (λ _. IsPlain self.now
+            → streams.new.outcome.refused ≡ false → streams.old.outcome.refused ≡ false) }
+        ensures answered { IfOk result (λ next. IsPlain self.now → streams.old.left ≡ None
+            → streams.new.outcome.refused ≡ false → string_bytes streams.old.pending ≡ []
+            → IfSome (I.bytes_of inputs.old name.now) (λ bytes. (next ≡ Next.More) × Sends W.contents
+            (IsInputShown (shown_by self.now.answering) self.now.lines name.now bytes)
+            streams.old streams.new)) }
+    {
+        streams.refused_documents = 0;
+        let input = match inputs.open(name) {
+            Ok(input) => input,
+            Err(e) => return self.refuse_input(name, &e, streams),
+        };
+        if self.lines {
+            self.answer_lines(name, input, streams)
+        } else {
+            self.answer_whole(name, input, streams)
+        }
     }
 
     /// Answers all inputs, in order.
@@ -209,15 +319,20 @@ impl Documents<'_> {
         names: &[&str],
         inputs: &mut I,
         streams: &mut Streams<W, E>,
-    ) -> Result<(), Stop> {
+    ) -> Result<Next, Stop>
+        ensures { IfOk result (λ next. IsPlain self.now → streams.old.left ≡ None
+            → streams.new.outcome.refused ≡ false → string_bytes streams.old.pending ≡ []
+            → AreKnown (I.bytes_of inputs.old) (map (λ name. name.now) names.now)
+            → (next ≡ Next.More) × Sends W.contents (AreInputsShown (shown_by self.now.answering) self.now.lines
+            (I.bytes_of inputs.old) (map (λ name. name.now) names.now))
+            streams.old streams.new) }
+    {
         for name in names {
-            streams.refused_documents = 0;
-            match inputs.open(*name) {
-                Ok(input) if self.lines => self.answer_lines(*name, input, streams)?,
-                Ok(input) => self.answer_whole(*name, input, streams)?,
-                Err(e) => self.refuse_input(*name, &e, streams)?,
+            match self.answer_input(*name, inputs, streams)? {
+                Next::More => {}
+                ended => return Ok(ended),
             }
         }
-        Ok(())
+        Ok(Next::More)
     }
 }

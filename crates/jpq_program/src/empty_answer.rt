@@ -163,20 +163,57 @@ impl Slip {
             _ => own.contains('.'),
         }
     }
+}
 
-    /// Whether this part is one of some parts of a tree, or below them.
+/// Which slips of a table a tree has.
+#[derive(Drop)]
+struct Marks<'s> {
+    slips: &'s [(Slip, &'static str)],
+    /// For each slip, in the table's order, whether the tree has it.
+    found: Vec<bool>,
+}
+
+impl<'s> Marks<'s> {
+    /// Those of a table that a tree has. It fails where memory is refused.
+    fn of(
+        alloc: Global,
+        slips: &'s [(Slip, &'static str)],
+        tree: &Checked,
+    ) -> Result<Marks<'s>, AllocError> {
+        let mut found = Vec::new(alloc);
+        for _ in slips {
+            found.push(false)?;
+        }
+        let mut marks = Marks { slips, found };
+        marks.mark_below(tree, tree.segments());
+        Ok(marks)
+    }
+
+    /// Marks the slips that a node of a tree is.
+    fn mark(&mut self, tree: &Checked, node: &Node)
+        requires { NamesBelow (length (nodes_in tree.now)) node.now }
+    {
+        for (index, (slip, _)) in self.slips.iter().enumerate() {
+            if slip.is_at(tree, node) {
+                if let Some(found) = self.found.get_mut(index) {
+                    *found = true;
+                }
+            }
+        }
+    }
+
+    /// Marks those that some parts of a tree are, or what is below them.
     #[tactic(auto, using(serde_json_path_syntax::proofs::Tree::NamedParts::within_get))]
-    fn is_below(&self, tree: &Checked, parts: &[Part]) -> bool
+    fn mark_below(&mut self, tree: &Checked, parts: &[Part])
         requires { parts_bound parts.now ≤ length (nodes_in tree.now) }
     {
         for part in parts {
             let node = tree.node(*part);
             let (below, others) = parts_below(node);
-            if self.is_at(tree, node) || self.is_below(tree, below) || self.is_below(tree, others) {
-                return true;
-            }
+            self.mark(tree, node);
+            self.mark_below(tree, below);
+            self.mark_below(tree, others);
         }
-        false
     }
 }
 
@@ -229,22 +266,24 @@ pub(crate) fn parts_below(node: &Node) -> (&[Part], &[Part])
     }
 }
 
-/// A reason why a path selects nothing, if its tree shows one, whatever the document.
-pub(crate) fn reason_of(tree: &Checked) -> Option<&'static str> {
-    for (slip, reason) in REASONS {
-        if slip.is_below(tree, tree.segments()) {
-            return Some(*reason);
+/// A reason why a path selects nothing, if its tree shows one, whatever the document: the first of the table. It fails where memory
+/// is refused.
+pub(crate) fn reason_of(alloc: Global, tree: &Checked) -> Result<Option<&'static str>, AllocError> {
+    let marks = Marks::of(alloc, REASONS, tree)?;
+    for ((_, reason), found) in REASONS.iter().zip(&marks.found) {
+        if *found {
+            return Ok(Some(*reason));
         }
     }
-    None
+    Ok(None)
 }
 
 /// The reasons why a path may select nothing, each with what must be in the document.
 pub(crate) fn signs_of(alloc: Global, path: &JsonPath) -> Result<Vec<Sign>, AllocError> {
-    let tree = path.tree();
+    let marks = Marks::of(alloc, REASONS_OF_DOCUMENTS, path.tree())?;
     let mut signs = Vec::new(alloc);
-    for (slip, reason) in REASONS_OF_DOCUMENTS {
-        if !slip.is_below(tree, tree.segments()) {
+    for ((slip, reason), found) in REASONS_OF_DOCUMENTS.iter().zip(&marks.found) {
+        if !*found {
             continue;
         }
         if let Some(path) = slip.sign(alloc, path.to_text(alloc)?.as_str())? {

@@ -1,8 +1,19 @@
 //! Inputs that do not begin as JSON in UTF-8 does.
 
+ghost use Rattle.std.specs.Prelude.{◌≡◌};
+ghost use Rattle.jpq_program.specs.Inputs.{without_mark};
+
+/// The byte order mark of UTF-8.
+const MARK: &[u8] = b"\xef\xbb\xbf";
+
 /// The bytes after a byte order mark, if they begin with one: a reader may pass over it (RFC 8259, section 8.1).
-pub(crate) fn without_mark(bytes: &[u8]) -> &[u8] {
-    bytes.strip_prefix(b"\xef\xbb\xbf").unwrap_or(bytes)
+pub(crate) fn without_mark(bytes: &[u8]) -> &[u8]
+    ensures { result.now ≡ without_mark bytes.now }
+{
+    if bytes.starts_with(MARK) {
+        return &bytes[MARK.len()..];
+    }
+    bytes
 }
 
 /// What bytes are, and which command makes UTF-8 of them, where their beginning shows that they are compressed or UTF-16.

@@ -42,8 +42,13 @@ fn is_inexact(number: &str) -> bool {
     is_whole || significant_digits(number) > DIGITS
 }
 
-/// Whether a byte at a place may stand in a number.
+/// Whether a byte may stand in a number, or is one of two others: this is asked of many bytes.
 #[inline(always)]
+fn may_be_of_number(byte: &u8) -> bool {
+    matches!(*byte, b'+'..=b'9' | b'e' | b'E')
+}
+
+/// Whether a byte at a place may stand in a number.
 fn is_of_number_at(bytes: &[u8], place: usize) -> bool {
     match bytes.get(place) {
         Some(byte) => is_of_number(*byte),
@@ -52,7 +57,6 @@ fn is_of_number_at(bytes: &[u8], place: usize) -> bool {
 }
 
 /// Whether a number around a place may have more than [`DIGITS`] bytes: then it also has the ninth before or after the place.
-#[inline(always)]
 fn may_be_long(bytes: &[u8], index: usize) -> bool {
     const HALF: usize = DIGITS / 2 + 1;
     is_of_number_at(bytes, index)
@@ -114,7 +118,10 @@ pub(crate) fn inexact_number(bytes: &[u8]) -> Option<&str> {
     };
     // Where the last token ends, so that a long one is looked at once.
     let mut past = 0usize;
-    for number in 0..=bytes.len() / DIGITS {
+    for (number, piece) in bytes.chunks(DIGITS).enumerate() {
+        if !piece.first().is_some_and(may_be_of_number) {
+            continue;
+        }
         let index = number.saturating_mul(DIGITS);
         if index < past || !may_be_long(bytes, index) {
             continue;

@@ -1,5 +1,7 @@
 //! Where documents and files of paths come from.
 
+ghost use Rattle.std.specs.Prelude.{◌≡◌, ℕ, List, None, Option, Some, IfOk, IfSome};
+
 use std::io;
 use std::io::Read;
 
@@ -8,6 +10,12 @@ pub trait Inputs {
     /// A reader of an input.
     type Input: Read + Drop;
 
+    /// What is known of the bytes of an input, by its name.
+    ghost bytes_of: { Self → List ℕ → Option (List ℕ) } = { λ _ _. None };
+
     /// Opens the file of a name, or standard input for `-`.
-    fn open(&mut self, name: &str) -> io::Result<Self::Input>;
+    fn open(&mut self, name: &str) -> io::Result<Self::Input>
+        ensures known { IfOk result (λ input. IfSome (bytes_of self.old name.now)
+            (λ bytes. Self.Input.remaining input ≡ Some bytes)) }
+        ensures same { (name : List ℕ) → bytes_of self.new name ≡ bytes_of self.old name };
 }

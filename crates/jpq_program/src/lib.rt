@@ -7,6 +7,7 @@
 
 mod answering;
 pub mod answers;
+mod asked_path;
 mod bindings;
 mod caret;
 pub mod colours;

@@ -1,8 +1,10 @@
 //! Why a path may have selected nothing, as a document shows.
 
+ghost use Rattle.jpq_program.specs.Inside.{OnlyNotes};
+
 use crate::answering::Answering;
+use crate::asked_path::AskedPath;
 use crate::empty_answer::{Sign, signs_of};
-use crate::paths::AskedPath;
 use crate::streams::{Stop, Streams};
 use jsonpath_document::read_document;
 use serde_json::Value;
@@ -38,18 +40,30 @@ impl Answering<'_> {
         &self,
         bytes: &[u8],
         streams: &mut Streams<W, E>,
-    ) -> Result<(), Stop> {
+    ) -> Result<(), Stop>
+        ensures { OnlyNotes streams.old streams.new }
+    {
         if streams.reason.is_some() || streams.asked_reasons == DOCUMENTS {
             return Ok(());
         }
         streams.asked_reasons = streams.asked_reasons.saturating_add(1);
+        streams.reason = self.reason_in(bytes)?;
+        Ok(())
+    }
+
+    /// Why nothing may have been selected from the document of some bytes: of the first path of which it shows that.
+    fn reason_in(&self, bytes: &[u8]) -> Result<Option<&'static str>, Stop> {
         for path in self.paths {
             let signs = signs_of(self.alloc, &path.path)?;
-            if !signs.is_empty() {
-                streams.reason = self.reason_among(&signs, path.path.numbers(), bytes)?;
+            if signs.is_empty() {
+                continue;
+            }
+            let reason = self.reason_among(&signs, path.path.numbers(), bytes)?;
+            if reason.is_some() {
+                return Ok(reason);
             }
         }
-        Ok(())
+        Ok(None)
     }
 
     /// The reason of the first sign that a document has.

@@ -1,9 +1,13 @@
 //! The paths that a command line asks for.
 
-ghost use Rattle.std.specs.Prelude.{IfOk};
+ghost use Rattle.std.specs.Prelude.{◌≡◌, ℕ, [], List, IfOk, MatchOption, false, map, true};
+ghost use Rattle.serde_json_path_functions.specs.Terms.{numbers_view};
 ghost use Rattle.serde_json_path.specs.Paths.{path_signatures};
-ghost use Rattle.serde_json_path.specs.Fitting.{FitsBuiltin, FitsBuiltin-prop};
+ghost use Rattle.serde_json_path.specs.Fitting.{FitsBuiltin};
+ghost use Rattle.jpq_program.specs.Inside.{OnlyTells, Reads, Tells};
+ghost use Rattle.jpq_program.specs.Run.{ArePaths, IsPathOf, rule_in};
 
+use crate::asked_path::AskedPath;
 use crate::bindings::{Binding, bindings_of, with_values};
 use crate::inputs::Inputs;
 use crate::refusal::push_refusal;
@@ -14,17 +18,6 @@ use serde_json_path::{JsonPath, Numbers, ParseErrorKind};
 use serde_json_path_hints::hint;
 use std::alloc::Global;
 use std::io::{Read, Write};
-
-/// A path that fits the built-in functions.
-#[derive(Drop)]
-pub(crate) struct AskedPath {
-    pub(crate) path: JsonPath,
-    /// The text that it was read from.
-    pub(crate) text: String,
-    /// What messages call it, unless it is the only one.
-    pub(crate) name: Option<String>,
-    ghost fits: { FitsBuiltin (path_signatures path) } by { FitsBuiltin-prop (path_signatures path) },
-}
 
 /// How paths are read.
 #[derive(Drop)]
@@ -52,7 +45,9 @@ impl PathReading<'_> {
     /// A path with values for the names that it has. It fails where memory is refused.
     fn with_values(&mut self, path: JsonPath) -> Result<JsonPath, Stop>
         requires { FitsBuiltin (path_signatures path) }
-        ensures { IfOk result (λ path. FitsBuiltin (path_signatures path)) }
+        ensures fits { IfOk result (λ path. FitsBuiltin (path_signatures path)) }
+        ensures kept { Reads self.old self.new }
+        ensures same { self.old.bindings.items ≡ [] → IfOk result (λ read. read ≡ path) }
     {
         if self.bindings.is_empty() {
             return Ok(path);
@@ -73,7 +68,14 @@ impl PathReading<'_> {
         text: &str,
         name: Option<String>,
         streams: &mut Streams<W, E>,
-    ) -> Result<Option<AskedPath>, Stop> {
+    ) -> Result<Option<AskedPath>, Stop>
+        ensures kept { Reads self.old self.new }
+        ensures told { Tells streams.old streams.new }
+        ensures read { IfOk result (λ read. MatchOption read
+            (streams.new.outcome.refused ≡ true)
+            (λ path. (streams.new ≡ streams.old) × (self.old.bindings.items ≡ []
+            → IsPathOf (numbers_view self.old.numbers) text.now path.path))) }
+    {
         let e = match JsonPath::parse_by(self.alloc, text, self.numbers) {
             Ok(path) => {
                 let path = self.with_values(path)?;
@@ -103,7 +105,13 @@ impl PathReading<'_> {
         several: bool,
         paths: &mut Vec<AskedPath>,
         streams: &mut Streams<W, E>,
-    ) -> Result<(), Stop> {
+    ) -> Result<(), Stop>
+        ensures kept { Reads self.old self.new }
+        ensures told { IfOk result (λ _. Tells streams.old streams.new) }
+        ensures read { IfOk result (λ _. self.old.bindings.items ≡ [] → paths.old.items ≡ []
+            → streams.new.outcome.refused ≡ false → ArePaths (numbers_view self.old.numbers)
+            (map (λ text. text.now) texts.now) (map (λ path. path.path) paths.new.items)) }
+    {
         for (index, text) in texts.iter().enumerate() {
             let name = if several {
                 Some(format!(in self.alloc; "path {}", index.saturating_add(1))?)
@@ -124,7 +132,10 @@ impl PathReading<'_> {
         text: &str,
         paths: &mut Vec<AskedPath>,
         streams: &mut Streams<W, E>,
-    ) -> Result<(), Stop> {
+    ) -> Result<(), Stop>
+        ensures kept { Reads self.old self.new }
+        ensures told { IfOk result (λ _. Tells streams.old streams.new) }
+    {
         for (index, text) in path_lines(self.alloc, text)?.iter().enumerate() {
             if text.is_empty() {
                 continue;
@@ -140,7 +151,9 @@ impl PathReading<'_> {
 
 impl PathReading<'_> {
     /// Tells of the first binding whose name no path has.
-    fn tell_unused<W: Write, E: Write>(&self, streams: &mut Streams<W, E>) -> Result<(), Stop> {
+    fn tell_unused<W: Write, E: Write>(&self, streams: &mut Streams<W, E>) -> Result<(), Stop>
+        ensures { OnlyTells streams.old streams.new }
+    {
         for (number, binding) in self.bindings.iter().enumerate() {
             if !self.used.contains(&number) {
                 let name = binding.name;
@@ -160,7 +173,10 @@ fn paths_text<I: Inputs, W: Write, E: Write>(
     name: &str,
     inputs: &mut I,
     streams: &mut Streams<W, E>,
-) -> Result<String, Stop> {
+) -> Result<String, Stop>
+    ensures same { (name : List ℕ) → I.bytes_of inputs.new name ≡ I.bytes_of inputs.old name }
+    ensures told { IfOk result (λ _. streams.new ≡ streams.old) }
+{
     let mut text = String::new(alloc);
     let read = match inputs.open(name) {
         Ok(mut input) => input.read_to_string(&mut text),
@@ -200,7 +216,9 @@ fn tell_order<I: Inputs, W: Write, E: Write>(
 }
 
 /// The rule for numbers, as the options say.
-fn numbers_of(options: &Options<'_>) -> Numbers {
+fn numbers_of(options: &Options<'_>) -> Numbers
+    ensures { numbers_view result ≡ rule_in options.now }
+{
     if options.whole_numbers {
         Numbers::Whole
     } else {
@@ -214,7 +232,15 @@ pub(crate) fn asked_paths<I: Inputs, W: Write, E: Write>(
     options: &Options<'_>,
     inputs: &mut I,
     streams: &mut Streams<W, E>,
-) -> Result<Vec<AskedPath>, Stop> {
+) -> Result<Vec<AskedPath>, Stop>
+    ensures same { IfOk result (λ _.
+        (name : List ℕ) → I.bytes_of inputs.new name ≡ I.bytes_of inputs.old name) }
+    ensures told { IfOk result (λ _. streams.old.outcome.refused ≡ false
+        → OnlyTells streams.old streams.new) }
+    ensures read { IfOk result (λ paths. options.now.bindings.items ≡ []
+        → options.now.paths_files.items ≡ [] → ArePaths (rule_in options.now)
+        (map (λ text. text.now) options.now.paths.items) (map (λ path. path.path) paths.items)) }
+{
     let bindings = match bindings_of(alloc, &options.bindings)? {
         Ok(bindings) => bindings,
         Err(word) => {

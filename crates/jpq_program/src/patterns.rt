@@ -4,17 +4,17 @@ ghost use Rattle.std.specs.Prelude.{◌≤◌, length};
 ghost use Rattle.serde_json_path_syntax.specs.Words.{NamesBelow, nodes_in, parts_bound};
 
 use crate::empty_answer::{parts_below, takes_pattern};
-use regex::{Error, Regex};
+use regex_syntax::{Config, ErrorKind, parse};
 use serde_json_path_syntax::{Checked, LiteralValue, Node, Operand, Part};
 use std::alloc::{AllocError, Global};
 
 /// Whether `regex` can't read a pattern.
 fn is_none(alloc: Global, pattern: &str) -> Result<bool, AllocError> {
     let text = format!(in alloc; "(?R)({pattern})")?;
-    match Regex::new(alloc, text.as_str()) {
-        Err(Error::Syntax(_)) => Ok(true),
-        Err(Error::OutOfMemory) => Err(AllocError),
-        _ => Ok(false),
+    match parse(alloc, text.as_str(), &Config::default()) {
+        Ok(_) => Ok(false),
+        Err(e) if e.kind == ErrorKind::OutOfMemory => Err(AllocError),
+        Err(_) => Ok(true),
     }
 }
 

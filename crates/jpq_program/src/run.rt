@@ -1,22 +1,27 @@
 //! The program over its inputs and two writers.
 
-ghost use Rattle.std.specs.Prelude.{◌≡◌, ◌≤◌, ◌⊎◌, [], false, map, string_bytes};
+ghost use Rattle.std.specs.Prelude.{◌≡◌, ◌≤◌, ◌⊎◌, [], None, IfOk, IfSome, false, map, string_bytes, true};
+ghost use Rattle.serde_json_path.specs.Paths.{path_tree};
+ghost use Rattle.serde_json_path_reach.specs.Alike.{trees_of};
+ghost use Rattle.serde_json_path_reach.specs.Readers.{Keeps};
 ghost use Rattle.jsonpath_lines.specs.Sent.{AppendsBeginning};
 ghost use Rattle.jpq_options.specs.Options.{AsksFor};
 ghost use Rattle.jpq_options.specs.declared.options.Request as input;
-ghost use Rattle.jpq_program.specs.Inside.{status_after, told_after};
-ghost use Rattle.jpq_program.specs.Run.{ComesOf, IsPrinted, LacksMemory};
+ghost use Rattle.jpq_program.specs.Inputs.{AreInputsShown, AreKnown};
+ghost use Rattle.jpq_program.specs.Inside.{IsPlain, OnlyTells, Sends, heads_in, shown_by, shows_places, status_after, status_of, told_after};
+ghost use Rattle.jpq_program.specs.Run.{AreFree, ComesOf, IsAnswered, IsPlainRun, IsPrinted, IsShownFor, LacksMemory, is_colored, is_each, names_in, output_in};
 
 use crate::answering::Answering;
+use crate::asked_path::AskedPath;
 use crate::colours::{Colours, Palette};
 use crate::documents::Documents;
 use crate::empty_answer::reason_of;
 use crate::inputs::Inputs;
-use crate::paths::{AskedPath, asked_paths};
+use crate::paths::asked_paths;
 use crate::patterns::no_pattern;
-use crate::showing::Showing;
+use crate::showing::{Dress, Showing};
 use crate::source::Heads;
-use crate::streams::{OUTPUT_FAILED, REFUSED, SELECTED, Stop, Streams, WRONG_USE};
+use crate::streams::{Next, OUTPUT_FAILED, REFUSED, SELECTED, Stop, Streams, WRONG_USE};
 use jpq_options::options::{Color, Options, Request, Shown, read};
 use jsonpath_lines::{Form, Output};
 use serde_json::Value;
@@ -35,12 +40,18 @@ fn check<W: Write, E: Write>(paths: &[AskedPath], streams: &mut Streams<W, E>) -
     streams.write()
 }
 
-/// Tells of the first pattern in paths that is none.
+/// Tells of the first pattern in paths that is none, unless hints are left out.
 fn hint_at_patterns<W: Write, E: Write>(
     alloc: Global,
+    silent: bool,
     paths: &[AskedPath],
     streams: &mut Streams<W, E>,
-) -> Result<(), Stop> {
+) -> Result<(), Stop>
+    ensures { OnlyTells streams.old streams.new }
+{
+    if silent {
+        return Ok(());
+    }
     for path in paths {
         let tree = path.path.tree();
         if let Some(pattern) = no_pattern(alloc, tree, tree.segments())? {
@@ -54,13 +65,30 @@ fn hint_at_patterns<W: Write, E: Write>(
     Ok(())
 }
 
-/// Tells why nothing may have been selected, where a path shows it, or else a document.
+/// A reason why some path selects nothing, as its tree shows.
+fn first_reason(alloc: Global, paths: &[AskedPath]) -> Result<Option<&'static str>, AllocError> {
+    for path in paths {
+        let reason = reason_of(alloc, path.path.tree())?;
+        if reason.is_some() {
+            return Ok(reason);
+        }
+    }
+    Ok(None)
+}
+
+/// Tells why nothing may have been selected, where that is so and a path shows it, or else a document.
 fn hint_at_nothing<W: Write, E: Write>(
     alloc: Global,
+    silent: bool,
     paths: &[AskedPath],
     streams: &mut Streams<W, E>,
-) -> Result<(), Stop> {
-    let shown = paths.iter().find_map(|path| reason_of(path.path.tree()));
+) -> Result<(), Stop>
+    ensures { OnlyTells streams.old streams.new }
+{
+    if silent || streams.outcome.selected || streams.outcome.refused {
+        return Ok(());
+    }
+    let shown = first_reason(alloc, paths)?;
     if let Some(reason) = shown.or(streams.reason) {
         streams.tell(format!(in alloc; "jpq: nothing was selected: {reason}\n")?.as_str());
     }
@@ -68,7 +96,9 @@ fn hint_at_nothing<W: Write, E: Write>(
 }
 
 /// What is shown of nodes, as the options say. In a table it is their texts.
-fn output_of(options: &Options<'_>) -> Output {
+fn output_of(options: &Options<'_>) -> Output
+    ensures { result ≡ output_in options.now }
+{
     Output {
         form: match options.shown {
             Shown::Nodes(form) => form,
@@ -82,7 +112,10 @@ fn output_of(options: &Options<'_>) -> Output {
 }
 
 /// What a level is indented by, where the options say another than two spaces.
-fn indent_of(alloc: Global, options: &Options<'_>) -> Result<Option<String>, AllocError> {
+fn indent_of(alloc: Global, options: &Options<'_>) -> Result<Option<String>, AllocError>
+    ensures { options.now.tab ≡ false → options.now.indent ≡ None
+        → IfOk result (λ unit. unit ≡ None) }
+{
     if options.tab {
         return Ok(Some(String::from_str(alloc, "\t")?));
     }
@@ -97,7 +130,9 @@ fn indent_of(alloc: Global, options: &Options<'_>) -> Result<Option<String>, All
 }
 
 /// What is written of where a node comes from, as the options say. A row has no more than they name.
-fn heads_of(options: &Options<'_>, paths: usize) -> Heads {
+fn heads_of(options: &Options<'_>, paths: usize) -> Heads
+    ensures { is_each options.now.shown ≡ true → result ≡ heads_in options.now paths }
+{
     let is_json = options.shown == Shown::Nodes(Form::Json);
     let is_table = matches!(options.shown, Shown::Tsv | Shown::Csv);
     let several_files = options.files.len() > 1 && !options.no_filename && !is_table;
@@ -109,7 +144,9 @@ fn heads_of(options: &Options<'_>, paths: usize) -> Heads {
 }
 
 /// Whether lines have colours, as the options or else the environment say.
-fn is_colored(options: &Options<'_>, colours: Colours<'_>) -> bool {
+fn is_colored(options: &Options<'_>, colours: Colours<'_>) -> bool
+    ensures { result ≡ is_colored options.now.color colours.entry.taken }
+{
     match options.color {
         Color::Always => true,
         Color::Never => false,
@@ -122,7 +159,9 @@ fn palette_of<'a, W: Write, E: Write>(
     colours: Colours<'a>,
     silent: bool,
     streams: &mut Streams<W, E>,
-) -> Option<Palette<'a>> {
+) -> Option<Palette<'a>>
+    ensures { OnlyTells streams.old streams.new }
+{
     let palette = Palette::of(colours.palette?);
     if palette.is_none() && !silent {
         streams.tell("jpq: JPQ_COLORS is not in jq's form, as 0;90:0;37:0;37:0;36:0;32\n");
@@ -130,12 +169,45 @@ fn palette_of<'a, W: Write, E: Write>(
     palette
 }
 
+/// How lines are dressed, as the options and the environment say; `None` where they are shown as they are made.
+fn dress_of<'a, W: Write, E: Write>(
+    alloc: Global,
+    options: &Options<'_>,
+    colours: Colours<'a>,
+    streams: &mut Streams<W, E>,
+) -> Result<Option<Dress<'a>>, AllocError>
+    ensures told { OnlyTells streams.old streams.new }
+    ensures plain { IsPlainRun options.now colours.entry.taken
+        → IfOk result (λ dress. dress ≡ None) }
+{
+    let indent = indent_of(alloc, options)?;
+    let colored = is_colored(options, colours);
+    if indent.is_none() && !options.ascii && !colored {
+        return Ok(None);
+    }
+    let palette = if colored {
+        palette_of(colours, options.silent, streams)
+    } else {
+        None
+    };
+    Ok(Some(Dress {
+        alloc,
+        form: output_of(options).form,
+        indent,
+        ascii: options.ascii,
+        colored,
+        palette,
+    }))
+}
+
 /// For more paths than these documents are read whole: to see what each can reach takes longer.
 const FEW_PATHS: usize = 8;
 
 /// A reader of documents for the paths, unless they are many, or memory for it is refused. Where nodes are shown without their
 /// values, their places are enough.
-fn reader_for<'q>(alloc: Global, trees: &[&'q Checked], form: Form) -> Option<DocumentReader<'q>> {
+fn reader_for<'q>(alloc: Global, trees: &[&'q Checked], form: Form) -> Option<DocumentReader<'q>>
+    ensures { IfSome result (λ reader. Keeps reader (shows_places form) (trees_of trees.now)) }
+{
     if trees.len() > FEW_PATHS {
         return None;
     }
@@ -147,25 +219,67 @@ fn reader_for<'q>(alloc: Global, trees: &[&'q Checked], form: Form) -> Option<Do
     }
 }
 
-/// Answers all documents of the inputs, after the first row of a table and before the sum of all counts.
+/// Answers all documents of the inputs; of standard input where no file is named.
+fn answer_inputs<I: Inputs, W: Write, E: Write>(
+    documents: &Documents<'_>,
+    options: &Options<'_>,
+    inputs: &mut I,
+    streams: &mut Streams<W, E>,
+) -> Result<Next, Stop>
+    ensures { IfOk result (λ next. IsPlain documents.now → streams.old.left ≡ None
+        → streams.new.outcome.refused ≡ false → string_bytes streams.old.pending ≡ []
+        → AreKnown (I.bytes_of inputs.old) (names_in options.now)
+        → (next ≡ Next.More) × Sends W.contents (AreInputsShown
+        (shown_by documents.now.answering) documents.now.lines (I.bytes_of inputs.old)
+        (names_in options.now)) streams.old streams.new) }
+{
+    if options.files.is_empty() {
+        documents.answer_all(&["-"], inputs, streams)
+    } else {
+        documents.answer_all(&options.files, inputs, streams)
+    }
+}
+
+/// The same after the first row of a table and before the sum of all counts.
 fn answer_documents<I: Inputs, W: Write, E: Write>(
     documents: &Documents<'_>,
     options: &Options<'_>,
     inputs: &mut I,
     streams: &mut Streams<W, E>,
-) -> Result<(), Stop> {
+) -> Result<Next, Stop>
+    ensures { IfOk result (λ next. IsPlain documents.now → options.now.header ≡ false
+        → options.now.total ≡ false → streams.old.left ≡ None
+        → streams.new.outcome.refused ≡ false → string_bytes streams.old.pending ≡ []
+        → AreKnown (I.bytes_of inputs.old) (names_in options.now)
+        → (next ≡ Next.More) × Sends W.contents (AreInputsShown
+        (shown_by documents.now.answering) documents.now.lines (I.bytes_of inputs.old)
+        (names_in options.now)) streams.old streams.new) }
+{
     if options.header {
         documents.answering.write_header(streams)?;
     }
-    let answered = if options.files.is_empty() {
-        documents.answer_all(&["-"], inputs, streams)
-    } else {
-        documents.answer_all(&options.files, inputs, streams)
-    };
-    match answered {
-        Ok(()) | Err(Stop::Enough) if options.total => documents.answering.write_total(streams),
-        answered => answered,
+    let next = answer_inputs(documents, options, inputs, streams)?;
+    if options.total {
+        documents.answering.write_total(streams)?;
     }
+    Ok(next)
+}
+
+/// The trees of paths.
+fn trees_of(alloc: Global, paths: &[AskedPath]) -> Result<Vec<&Checked>, AllocError>
+    ensures { IfOk result (λ trees. trees_of trees.items
+        ≡ map (λ path. path_tree path.path) paths.now) }
+{
+    let mut trees = Vec::new(alloc);
+    for path in paths {
+        trees.push(path.path.tree())?;
+    }
+    Ok(trees)
+}
+
+/// Whether there is one document alone.
+fn is_only(options: &Options<'_>) -> bool {
+    options.files.len() <= 1 && !options.lines
 }
 
 /// Answers the documents for some paths, as the options say.
@@ -176,19 +290,19 @@ fn answer_paths<I: Inputs, W: Write, E: Write>(
     paths: &[AskedPath],
     inputs: &mut I,
     streams: &mut Streams<W, E>,
-) -> Result<(), Stop> {
+) -> Result<Next, Stop>
+    ensures { IfOk result (λ next. IsPlainRun options.now colours.entry.taken
+        → AreFree (map (λ path. path.path) paths.now)
+        → streams.new.outcome.refused ≡ false → string_bytes streams.old.pending ≡ []
+        → AreKnown (I.bytes_of inputs.old) (names_in options.now)
+        → (next ≡ Next.More) × Sends W.contents (AreInputsShown (IsShownFor options.now
+        (map (λ path. path.path) paths.now)) options.now.lines (I.bytes_of inputs.old)
+        (names_in options.now)) streams.old streams.new) }
+{
     let store = PatternStore::new();
-    let mut trees = Vec::new(alloc);
-    for path in paths {
-        trees.push(path.path.tree())?;
-    }
+    let trees = trees_of(alloc, paths)?;
     let output = output_of(options);
-    let colored = is_colored(options, colours);
-    let palette = if colored {
-        palette_of(colours, options.silent, streams)
-    } else {
-        None
-    };
+    let dress = dress_of(alloc, options, colours, streams)?;
     let documents = Documents {
         alloc,
         answering: Answering {
@@ -199,10 +313,7 @@ fn answer_paths<I: Inputs, W: Write, E: Write>(
             showing: Showing {
                 alloc,
                 output,
-                indent: indent_of(alloc, options)?,
-                ascii: options.ascii,
-                colored,
-                palette,
+                dress,
             },
             heads: heads_of(options, paths.len()),
             total: options.total,
@@ -210,7 +321,7 @@ fn answer_paths<I: Inputs, W: Write, E: Write>(
         },
         reader: reader_for(alloc, trees.as_slice(), output.form),
         lines: options.lines,
-        is_only: options.files.len() <= 1 && !options.lines,
+        is_only: is_only(options),
         strict: options.strict,
     };
     streams.left = options.most_of_all;
@@ -224,37 +335,49 @@ fn run_with<I: Inputs, W: Write, E: Write>(
     colours: Colours<'_>,
     inputs: &mut I,
     streams: &mut Streams<W, E>,
-) -> Result<(), Stop> {
+) -> Result<Next, Stop>
+    ensures { IfOk result (λ _. IsPlainRun options.now colours.entry.taken
+        → streams.old.outcome ≡ record { selected = false; refused = false }
+        → string_bytes streams.old.pending ≡ [] → streams.new.outcome.refused ≡ false
+        → AreKnown (I.bytes_of inputs.old) (names_in options.now)
+        → IsAnswered W.contents (I.bytes_of inputs.old) options.now
+        streams.old.out streams.new.out (status_of streams.new.outcome)) }
+{
     let paths = asked_paths(alloc, options, inputs, streams)?;
-    if !options.silent {
-        hint_at_patterns(alloc, &paths, streams)?;
-    }
+    hint_at_patterns(alloc, options.silent, &paths, streams)?;
     if options.check {
-        return check(&paths, streams);
+        check(&paths, streams)?;
+        return Ok(Next::More);
     }
-    answer_paths(alloc, options, colours, &paths, inputs, streams)?;
-    if streams.outcome.selected || streams.outcome.refused || options.silent {
-        return Ok(());
-    }
-    hint_at_nothing(alloc, &paths, streams)
+    let next = answer_paths(alloc, options, colours, &paths, inputs, streams)?;
+    hint_at_nothing(alloc, options.silent, &paths, streams)?;
+    Ok(next)
+}
+
+/// Whether nothing is shown.
+fn is_quiet(shown: Shown) -> bool
+    ensures { is_each shown ≡ true → result ≡ false }
+{
+    matches!(shown, Shown::Nodes(Form::Nothing))
 }
 
 /// The exit status of a run that ended so; tells what ended it. `binds` says whether values are bound to names, which alone may turn
-/// out to be wrong use once paths are read.
+/// out to be wrong use once paths are read, and `quiet` whether nothing is shown: then a node is enough, whatever was refused.
 fn exit_status<W: Write, E: Write>(
-    ended: Result<(), Stop>,
+    ended: Result<Next, Stop>,
     binds: bool,
+    quiet: bool,
     streams: &mut Streams<W, E>,
 ) -> u8
-    ensures status { result ≡ status_after ended binds streams.old.outcome }
+    ensures status { result ≡ status_after ended binds quiet streams.old.outcome }
     ensures out { streams.new.out ≡ streams.old.out }
     ensures told { AppendsBeginning (E.contents streams.old.err) (E.contents streams.new.err)
         (told_after ended) }
     ensures quiet { told_after ended ≡ [] → streams.new.err ≡ streams.old.err }
 {
     match ended {
-        Ok(()) | Err(Stop::Enough) => streams.outcome.status(),
-        Err(Stop::Found) => SELECTED,
+        Ok(_) if quiet && streams.outcome.selected => SELECTED,
+        Ok(_) => streams.outcome.status(),
         Err(Stop::ReaderGone) => OUTPUT_FAILED,
         Err(Stop::WrongUse) if binds => WRONG_USE,
         Err(Stop::Refused | Stop::WrongUse) => REFUSED,
@@ -276,8 +399,10 @@ fn print<W: Write, E: Write>(text: String, streams: &mut Streams<W, E>) -> u8
 {
     streams.outcome.selected = true;
     streams.pending = text;
-    let ended = streams.write();
-    exit_status(ended, false, streams)
+    match streams.write() {
+        Ok(()) => exit_status(Ok(Next::More), false, false, streams),
+        Err(stop) => exit_status(Err(stop), false, false, streams),
+    }
 }
 
 /// The program: `jpq [OPTIONS] PATH [FILE]...`. The first word is the program's name; `colours` is what the environment says
@@ -302,20 +427,22 @@ pub fn run<I: Inputs, W: Write, E: Write>(
 ) -> u8
     ensures one_of { (result ≤ 3) ⊎ (result ≡ 64) }
     ensures comes { ((asked : input.Request) × AsksFor (map string_bytes words.now) asked
-        × ComesOf W.contents E.contents asked inputs.old inputs.new streams.old streams.new result)
+        × ComesOf W.contents E.contents (I.bytes_of inputs.old) colours.entry.taken asked
+        inputs.old inputs.new streams.old streams.new result)
         ⊎ LacksMemory E.contents inputs.old inputs.new streams.old streams.new result }
 {
     streams.restart();
     match read(alloc, words) {
         Ok(Request::Run(options)) => {
             let ended = run_with(alloc, &options, colours, inputs, streams);
-            exit_status(ended, !options.bindings.is_empty(), streams)
+            let (binds, quiet) = (!options.bindings.is_empty(), is_quiet(options.shown));
+            exit_status(ended, binds, quiet, streams)
         }
         Ok(Request::Print(text)) => print(text, streams),
         Ok(Request::WrongUse(_, text)) => {
             streams.tell(text.as_str());
             WRONG_USE
         }
-        Err(_) => exit_status(Err(Stop::Memory), false, streams),
+        Err(_) => exit_status(Err(Stop::Memory), false, false, streams),
     }
 }

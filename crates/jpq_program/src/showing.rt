@@ -12,11 +12,11 @@ use serde_json::Value;
 use serde_json_path::LocatedNode;
 use std::alloc::{AllocError, Global};
 
-/// How nodes are shown.
+/// How lines are dressed: indented by another unit, escaped and coloured.
 #[derive(Drop)]
-pub(crate) struct Showing<'a> {
+pub(crate) struct Dress<'a> {
     pub(crate) alloc: Global,
-    pub(crate) output: Output,
+    pub(crate) form: Form,
     /// What a level is indented by, where that is not two spaces.
     pub(crate) indent: Option<String>,
     /// Whether characters above U+007F are escaped.
@@ -25,6 +25,15 @@ pub(crate) struct Showing<'a> {
     pub(crate) colored: bool,
     /// Which ones, where they are not the usual ones.
     pub(crate) palette: Option<Palette<'a>>,
+}
+
+/// How nodes are shown.
+#[derive(Drop)]
+pub(crate) struct Showing<'a> {
+    pub(crate) alloc: Global,
+    pub(crate) output: Output,
+    /// How lines are dressed, where they are not shown as they are made.
+    pub(crate) dress: Option<Dress<'a>>,
 }
 
 /// What ends a line.
@@ -83,17 +92,10 @@ fn put_after_lines(alloc: Global, json: &str, more: &str) -> Result<String, Allo
     Ok(text)
 }
 
-impl Showing<'_> {
-    /// Whether lines are shown as they are made.
-    fn is_plain(&self) -> bool
-        ensures { result ≡ is_plain self.now }
-    {
-        self.indent.is_none() && !self.ascii && !self.colored
-    }
-
+impl Dress<'_> {
     /// Whether a node is shown as JSON or as a normalised path, which have escapes.
     fn has_escapes(&self, node: &LocatedNode<'_>) -> bool {
-        match (self.output.form, node.node()) {
+        match (self.form, node.node()) {
             (Form::Raw, Value::String(_)) | (Form::Pointer, _) => false,
             _ => true,
         }
@@ -116,7 +118,7 @@ impl Showing<'_> {
         if !self.colored {
             return to.push_str(text);
         }
-        let line = colored(self.alloc, text, self.output.form)?;
+        let line = colored(self.alloc, text, self.form)?;
         match &self.palette {
             Some(palette) if !text.contains('\u{1b}') => {
                 to.push_str(recolored(self.alloc, line.as_str(), palette)?.as_str())
@@ -125,6 +127,25 @@ impl Showing<'_> {
         }
     }
 
+    /// Appends a node's line, dressed, after a head.
+    fn push_line(
+        &self,
+        output: &Output,
+        to: &mut String,
+        head: &str,
+        node: &LocatedNode<'_>,
+    ) -> Result<(), AllocError> {
+        let mut line = String::new(self.alloc);
+        push_line(self.alloc, output, "", &mut line, node)?;
+        if self.has_escapes(node) {
+            line = self.dressed(line)?;
+        }
+        to.push_str(head)?;
+        self.push_colored(to, line.as_str())
+    }
+}
+
+impl Showing<'_> {
     /// Appends a node's line after a head.
     // Inlined: each node passes here.
     #[inline(always)]
@@ -137,16 +158,10 @@ impl Showing<'_> {
         ensures { is_plain self.now ≡ true → OnOk result (Appends (IsLine self.now.output head.now
             (located node.now)) (string_bytes to.old) (string_bytes to.new)) }
     {
-        if self.is_plain() {
-            return push_line(self.alloc, &self.output, head, to, node);
+        match &self.dress {
+            None => push_line(self.alloc, &self.output, head, to, node),
+            Some(dress) => dress.push_line(&self.output, to, head, node),
         }
-        let mut line = String::new(self.alloc);
-        push_line(self.alloc, &self.output, "", &mut line, node)?;
-        if self.has_escapes(node) {
-            line = self.dressed(line)?;
-        }
-        to.push_str(head)?;
-        self.push_colored(to, line.as_str())
     }
 
     /// A node's value in JSON, as a member of an object in an array.
@@ -184,8 +199,13 @@ impl Showing<'_> {
                 "{comma}\n  {{\n    {members}\"path\": {path},\n    \"value\": {value}\n  }}"
             )?,
         };
-        let object = self.dressed(object)?;
-        self.push_colored(to, object.as_str())
+        match &self.dress {
+            None => to.push_str(object.as_str()),
+            Some(dress) => {
+                let object = dress.dressed(object)?;
+                dress.push_colored(to, object.as_str())
+            }
+        }
     }
 
     /// Appends the end of an array, and of its line.

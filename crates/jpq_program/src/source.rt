@@ -1,7 +1,8 @@
 //! Where documents come from, and what is written of that.
 
 ghost use Rattle.std.specs.Prelude.{◌≡◌, IfOk, string_bytes};
-ghost use Rattle.jpq_program.specs.Heads.{head_text, shown_name};
+ghost use Rattle.jpq_program.specs.Heads.{shown_name};
+ghost use Rattle.jpq_program.specs.Inside.{head_by};
 
 use jsonpath_lines::Layout;
 use serde_json::Value;
@@ -43,7 +44,7 @@ impl Heads {
         number: usize,
     ) -> Result<String, AllocError>
         ensures { IfOk result (λ head. string_bytes head
-            ≡ head_text self source.entry.name.now source.entry.line number) }
+            ≡ head_by self source.entry.name.now source.entry.line number) }
     {
         let mut head = String::new(alloc);
         if self.file {

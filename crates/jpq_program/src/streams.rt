@@ -42,7 +42,18 @@ impl Outcome {
     }
 }
 
-/// Why a run ends before its documents do.
+/// Whether a run goes on after a document.
+#[derive(Clone, Copy, Debug, PartialEq, Eq, Drop)]
+pub(crate) enum Next {
+    /// It does.
+    More,
+    /// Something was selected, and nothing is shown.
+    Found,
+    /// As many nodes were shown as are wanted of all documents.
+    Enough,
+}
+
+/// Why a run ends before its documents do: something failed, or was refused.
 #[derive(Clone, Copy, Debug, PartialEq, Eq, Drop)]
 pub(crate) enum Stop {
     /// Writing failed.
@@ -53,10 +64,6 @@ pub(crate) enum Stop {
     Refused,
     /// The words were used wrongly, and that was reported.
     WrongUse,
-    /// Something was selected, and nothing is shown.
-    Found,
-    /// As many nodes were shown as are wanted of all documents.
-    Enough,
     /// Memory was refused.
     Memory,
 }
@@ -192,6 +199,8 @@ impl<W: Write, E: Write> Streams<W, E> {
     }
 
     /// Writes what is pending if that is much, so that the texts of many nodes are not held at once.
+    // Inlined: each node passes here.
+    #[inline(always)]
     pub(crate) fn write_if_full(&mut self) -> Result<(), Stop>
         ensures kept { OnlyWrites self.old self.new }
         ensures whole { OnOk result (Writes W.contents self.old self.new []) }

@@ -1,7 +1,10 @@
 //! Rows of tables: of each document one, with the first node of each path.
 
+ghost use Rattle.std.specs.Prelude.{◌≡◌, is_some};
+ghost use Rattle.jpq_options.specs.Options.{is_table};
+
 use crate::answering::{Answering, Document};
-use crate::paths::AskedPath;
+use crate::asked_path::AskedPath;
 use crate::rows::{FirstNode, Separator, push_row};
 use crate::source::{Source, shown_name};
 use crate::streams::{Stop, Streams};
@@ -12,7 +15,9 @@ use serde_json_path::QueryError;
 use std::io::Write;
 
 /// What stands between the cells of a row, where rows are shown.
-pub(crate) fn separator_of(shown: Shown) -> Option<Separator> {
+pub(crate) fn separator_of(shown: Shown) -> Option<Separator>
+    ensures { is_some result ≡ is_table shown }
+{
     match shown {
         Shown::Tsv => Some(Separator::Tab),
         Shown::Csv => Some(Separator::Comma),

@@ -13,7 +13,6 @@ use jsonpath_lines::Form;
 use serde_json_path::{LocatedNode, QueryError, Sink, Taken};
 use std::alloc::AllocError;
 use std::io::Write;
-use std::mem::replace;
 
 /// The nodes of a path as they are written.
 #[derive(Drop)]
@@ -32,14 +31,12 @@ pub(crate) struct Written<'v, 'p, 's, 'h, W, E> {
 }
 
 impl<W: Write, E: Write> Written<'_, '_, '_, '_, W, E> {
-    /// Appends what is shown of a node to a text.
+    /// Appends what is shown of a node to what is pending.
     #[inline(always)]
-    fn push(&mut self, text: &mut String, node: &LocatedNode<'_>) -> Result<(), AllocError>
-        ensures kept { self.new ≡ record self.old { is_later = self.new.is_later } }
-        ensures line { shows_lines self.old.showing.now ≡ true
-            → OnOk result (Appends (IsLine self.old.showing.now.output self.old.head.now
-            (located node.now)) (string_bytes text.old) (string_bytes text.new)) }
+    fn push_pending(&mut self, node: &LocatedNode<'_>) -> Result<(), AllocError>
+        ensures { OnOk result (Pends (located node.now) self.old self.new) }
     {
+        let text = &mut self.streams.pending;
         if self.showing.output.form == Form::Json {
             self.showing
                 .push_object(text, self.head, self.is_later, node)?;
@@ -47,19 +44,6 @@ impl<W: Write, E: Write> Written<'_, '_, '_, '_, W, E> {
             return Ok(());
         }
         self.showing.push_line(text, self.head, node)
-    }
-
-    /// Appends what is shown of a node to what is pending.
-    #[inline(always)]
-    fn push_pending(&mut self, node: &LocatedNode<'_>) -> Result<(), AllocError>
-        ensures { OnOk result (Pends (located node.now) self.old self.new) }
-    {
-        let empty = String::new(self.showing.alloc);
-        // Taken out, so that what is lent to a call is the text alone, and put back whatever comes of it.
-        let mut text = replace(&mut self.streams.pending, empty);
-        let pushed = self.push(&mut text, node);
-        self.streams.pending = text;
-        pushed
     }
 
     /// Whether as many nodes were written as are wanted.

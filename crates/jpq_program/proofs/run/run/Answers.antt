@@ -1,15 +1,26 @@
-use Rattle.jpq_program.proofs.Words.{◌∙◌, inl, inr, refl, ap, subst, arith, common_steps, List, ℕ, string_bytes, AppendsBeginning, Streams, IsStatusOf}
-use Rattle.jpq_program.proofs.Ended.{one_of_few, printed_since}
+use Rattle.jpq_program.proofs.Words.{◌≡◌, ◌≤◌, ◌∙◌, Bool, inl, inr, refl, ap, subst, arith, common_steps, List, ℕ, string_bytes, AppendsBeginning, Streams, AreKnown, IsAnswered, IsPlainRun, IsStatusOf, names_in, not, status_after}
+use Rattle.jpq_program.proofs.Asked.{run_ended}
+use Rattle.jpq_program.proofs.Ended.{ended_well, one_of_few, printed_since}
+use Rattle.jpq_program.proofs.Shown.{of_ok}
 use Rattle.jpq_program.proofs.run.run.Goals as goal
 
 pub returns-in-Ok-Run-clause-comes : goal.returns-in-Ok-Run-clause-comes
 returns-in-Ok-Run-clause-comes g c =
-    let few = one_of_few c.run_with-ended.result _ c.run_with-ended.new.streams.outcome c.exit_status.result c.exit_status.ensures.status in
-    let status : IsStatusOf c.in-Ok-Run.options c.exit_status.result = elim few [
+    let options = c.in-Ok-Run.options in
+    let ended = c.run_with-ended.result in
+    let outcome = c.run_with-ended.new.streams.outcome in
+    let few = one_of_few ended _ _ outcome c.exit_status.result c.exit_status.ensures.status in
+    let status : IsStatusOf options c.exit_status.result = elim few [
       | inl few ↦ inl few
       | inr wrong ↦ inr (wrong.0, λ none. absurd (grind (arith, common_steps, none, wrong.1, c.is_empty.ensures)))
     ] in
-    inl (c.in-Ok-Run.field-0, rw c.in-Ok-Run.is at c.read.ensures, rw c.in-Ok-Run.field-0-is status)
+    let answered : IsPlainRun options c.args.colours.taken → AreKnown (g.I.Inputs.bytes_of c.args.inputs.now) (names_in options) → c.exit_status.result ≤ 1
+    → IsAnswered g.W.Write.contents (g.I.Inputs.bytes_of c.args.inputs.now) options c.args.streams.now.out c.exit_status.new.streams.out c.exit_status.result = λ run known few.
+    let well = ended_well ended (not c.is_empty.result) outcome c.exit_status.result (subst (λ (quiet : Bool). c.exit_status.result ≡ status_after ended (not c.is_empty.result) quiet outcome) (c.is_quiet-quiet.ensures run.each) c.exit_status.ensures.status) few in
+    run_ended g.W.Write.contents (g.I.Inputs.bytes_of c.args.inputs.now) options c.args.streams.now.out c.restart.new.self.out c.run_with-ended.new.streams.out c.exit_status.new.streams.out outcome c.exit_status.result
+    c.restart.ensures.out c.exit_status.ensures.out well.3
+    (of_ok _ ended well.0 well.1 c.run_with-ended.ensures run c.restart.ensures.outcome c.restart.ensures.pending well.2 known) in
+    inl (c.in-Ok-Run.field-0, rw c.in-Ok-Run.is at c.read.ensures, rw c.in-Ok-Run.field-0-is (status, answered))
 
 pub returns-in-Ok-Print-clause-comes : goal.returns-in-Ok-Print-clause-comes
 returns-in-Ok-Print-clause-comes g c =
@@ -25,7 +36,7 @@ returns-in-Ok-WrongUse-clause-comes g c =
 
 pub returns-in-Ok-Run-clause-one_of : goal.returns-in-Ok-Run-clause-one_of
 returns-in-Ok-Run-clause-one_of g c =
-    let few = one_of_few c.run_with-ended.result _ c.run_with-ended.new.streams.outcome c.exit_status.result c.exit_status.ensures.status in
+    let few = one_of_few c.run_with-ended.result _ _ c.run_with-ended.new.streams.outcome c.exit_status.result c.exit_status.ensures.status in
     elim few [
       | inl few ↦ inl few
       | inr wrong ↦ inr wrong.0

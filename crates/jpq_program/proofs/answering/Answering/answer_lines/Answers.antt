@@ -1,35 +1,35 @@
-use Rattle.jpq_program.proofs.Words.{◌≡◌, ◌∙◌, ◌+◌, List, ℕ, ap, sym, subst, arith, common_steps, length, length-map, length-take-le, map, take, take_all, builtin_functions, Answered, AreAnswersOn, AskedPath, IsAnswerOn, JsonPath, head_text}
-use Rattle.jpq_program.proofs.Nodes.{further_mapped}
-use Rattle.jpq_program.proofs.Shown.{answered_further, none_answered}
+use Rattle.jpq_program.proofs.Words.{◌≡◌, ◌∙◌, ◌+◌, List, ℕ, Bool, JsonPath, ap, subst, arith, common_steps, builtin_functions, Answered, AskedPath, IsAnswerOn, head_by}
+use Rattle.jpq_program.proofs.Shown.{all_answered, mapped_further, no_array, none_answered}
 use Rattle.jpq_program.proofs.answering.Answering.answer_lines.Goals as goal
 
 pub loop-index-init : goal.loop-index-init
-loop-index-init g c = λ are plain left refused.
-    none_answered g.W.Write.contents c.args.self.now.showing.output (head_text c.args.self.now.heads c.args.document.source.name.now c.args.document.source.line) 1 c.args.document.bytes.now c.args.streams.now left refused
+loop-index-init g c =
+    let head = head_by c.args.self.now.heads c.args.document.source.name.now c.args.document.source.line in (
+      λ are refused. refused,
+      λ are plain left refused. none_answered g.W.Write.contents (λ (number : ℕ) (path : JsonPath). IsAnswerOn builtin_functions path c.args.self.now.showing.output (head number) c.args.document.bytes.now) 1 c.args.streams.now left refused,
+    )
 
 pub loop-index-preserved : goal.loop-index-preserved
-loop-index-preserved g c = λ are plain left refused.
-    let paths = c.args.self.now.paths.now in
-    let index = c.loop-index.index in
+loop-index-preserved g c =
+    let head = head_by c.args.self.now.heads c.args.document.source.name.now c.args.document.source.line in
     let path = c.path-item.result in
-    let done = map (λ (path : AskedPath). path.path) (take index paths) in
-    let head = head_text c.args.self.now.heads c.args.document.source.name.now c.args.document.source.line in
-    let here = are index path c.loop-index-test.true c.path-item.is in
-    let right = c.in_ok-answer_path.ensures.right here.0 refused in
-    let first = c.loop-index.invariant are plain left right in
-    let second = c.in_ok-answer_path.ensures.answered here.0 here.1 plain first.left refused in
-    let many : length done ≡ index = length-map (take index paths) (λ (path : AskedPath). path.path) ∙ length-take-le index paths (omega (arith, c.loop-index-test.true)) in
-    let number : c.saturating_add.result ≡ 1 + length done = grind (arith, common_steps, c.saturating_add.ensures, many) in
-    let head_is = c.as_str.ensures.value ∙ c.in_ok-head.ensures plain ∙ ap head number in
-    subst (λ (ps : List JsonPath). Answered g.W.Write.contents (AreAnswersOn builtin_functions ps c.args.self.now.showing.output head 1 c.args.document.bytes.now) c.args.streams.now c.answer_path.new.streams)
-    (sym (further_mapped (λ (path : AskedPath). path.path) paths index path c.loop-index-test.true c.path-item.is))
-    (answered_further g.W.Write.contents done path.path c.args.self.now.showing.output head 1 c.args.document.bytes.now c.args.streams.now c.loop-index.streams c.answer_path.new.streams first
-    (subst (λ (h : List ℕ). Answered g.W.Write.contents (IsAnswerOn builtin_functions path.path c.args.self.now.showing.output h c.args.document.bytes.now) c.loop-index.streams c.answer_path.new.streams) head_is second))
+    let number : c.saturating_add.result ≡ c.loop-index.index + 1 = grind (arith, common_steps, c.saturating_add.ensures) in (
+      λ are refused. c.loop-index.invariant.0 are (c.in_ok-answer_path.ensures.right (are c.loop-index.index c.path-item.result c.loop-index-test.true c.path-item.is).0 refused),
+      λ are plain left refused.
+          let here = are c.loop-index.index path c.loop-index-test.true c.path-item.is in
+          let first = c.loop-index.invariant.1 are plain left (c.in_ok-answer_path.ensures.right here.0 refused) in
+          let second = c.in_ok-answer_path.ensures.answered here.0 here.1 plain first.left refused in
+          let head_is = c.as_str.ensures.value ∙ c.in_ok-head.ensures (no_array c.args.self.now.showing plain) ∙ ap head number in
+          mapped_further g.W.Write.contents (λ (number : ℕ) (path : JsonPath). IsAnswerOn builtin_functions path c.args.self.now.showing.output (head number) c.args.document.bytes.now) (λ (path : AskedPath). path.path)
+          c.args.self.now.paths.now c.loop-index.index path c.args.streams.now c.loop-index.streams c.answer_path.new.streams c.loop-index-test.true c.path-item.is first
+          (subst (λ (h : List ℕ). Answered g.W.Write.contents (IsAnswerOn builtin_functions path.path c.args.self.now.showing.output h c.args.document.bytes.now) c.loop-index.streams c.answer_path.new.streams) head_is second),
+    )
 
-pub returns : goal.returns
-returns g c = λ are plain left refused.
-    let paths = c.args.self.now.paths.now in
-    let index = c.loop-index.index in
-    let all : take index paths ≡ paths = take_all index paths c.loop-index-test.false in
-    subst (λ (ps : List AskedPath). Answered g.W.Write.contents (AreAnswersOn builtin_functions (map (λ (path : AskedPath). path.path) ps) c.args.self.now.showing.output
-    (head_text c.args.self.now.heads c.args.document.source.name.now c.args.document.source.line) 1 c.args.document.bytes.now) c.args.streams.now c.loop-index.streams) all (c.loop-index.invariant are plain left refused)
+pub returns-clause-right : goal.returns-clause-right
+returns-clause-right g c = c.loop-index.invariant.0
+
+pub returns-clause-answered : goal.returns-clause-answered
+returns-clause-answered g c = λ are plain left refused.
+    let head = head_by c.args.self.now.heads c.args.document.source.name.now c.args.document.source.line in
+    all_answered g.W.Write.contents (λ (number : ℕ) (path : JsonPath). IsAnswerOn builtin_functions path c.args.self.now.showing.output (head number) c.args.document.bytes.now) (λ (path : AskedPath). path.path)
+    c.args.self.now.paths.now c.loop-index.index c.args.streams.now c.loop-index.streams c.loop-index-test.false (c.loop-index.invariant.1 are plain left refused)

@@ -1,0 +1,88 @@
+-- What options ask for, as documents are answered.
+use Rattle.jpq_program.proofs.Words.{◌≡◌, ◌∙◌, ◌&&◌, ◌||◌, ℕ, Bool, true, false, List, [], Option, None, length, length-map, map, is_some, not, nat_eq, refl, sym, ap, subst, string_bytes, Appends, AreAnswersOn, AreFree, AreInputsShown, ArePaths, Bor, IsAnswered, Outcome, names_in, rule_in, status_of, Answered, AskedPath, Answering, Documents, Form, Heads, IsPlain, IsPlainRun, IsShownFor, JsonPath, Keeps, IfSome, Nodes, OptionShown, Options, Output, Query, Sends, Streams, builtin_functions, form_in, has_counts, has_lines, head_by, heads_in, is_each, is_plain_answer, is_table, output_in, path_tree, shown_by, shows_places, LocationAndValue, Value, Raw, Location, Pointer, Json, Count, Nothing}
+use Rattle.jpq_program.proofs.Parsed.{free_asked}
+use Rattle.jpq_program.proofs.Ended.{sent_out, status_is}
+use Rattle.jpq_program.proofs.Shown.{answered_since}
+
+-- ---- plain answers
+
+each_plain : (shown : OptionShown) → is_each shown ≡ true → (not (is_table shown) && ((not false && has_lines (form_in shown)) || (has_counts (form_in shown) && not false))) ≡ true
+each_plain (Nodes LocationAndValue) is = refl
+each_plain (Nodes Value) is = refl
+each_plain (Nodes Raw) is = refl
+each_plain (Nodes Location) is = refl
+each_plain (Nodes Pointer) is = refl
+each_plain (Nodes Count) is = refl
+each_plain (Nodes Json) is = absurd cc
+each_plain (Nodes Nothing) is = absurd cc
+each_plain _ is = absurd cc
+
+plain_answer : (answering : Answering) (options : Options) → is_each options.shown ≡ true → answering.shown ≡ options.shown → answering.showing.output ≡ output_in options → answering.showing.dress ≡ None → answering.total ≡ false
+    → is_plain_answer answering ≡ true
+plain_answer answering options each shown output dress total =
+    ap (λ (s : OptionShown). not (is_table s) && ((not (is_some answering.showing.dress) && has_lines answering.showing.output.form) || (has_counts answering.showing.output.form && not answering.total))) shown
+    ∙ ap (λ (o : Output). not (is_table options.shown) && ((not (is_some answering.showing.dress) && has_lines o.form) || (has_counts o.form && not answering.total))) output
+    ∙ ap (λ d. not (is_table options.shown) && ((not (is_some d) && has_lines (form_in options.shown)) || (has_counts (form_in options.shown) && not answering.total))) dress
+    ∙ ap (λ t. not (is_table options.shown) && ((not false && has_lines (form_in options.shown)) || (has_counts (form_in options.shown) && not t))) total
+    ∙ each_plain options.shown each
+
+pub plain_documents : (documents : Documents) (options : Options) (taken : Bool) → IsPlainRun options taken → AreFree (map (λ (path : AskedPath). path.path) documents.answering.paths.now)
+    → documents.answering.shown ≡ options.shown → documents.answering.showing.output ≡ output_in options → documents.answering.showing.dress ≡ None → documents.answering.total ≡ options.total
+    → IfSome documents.reader (λ reader. Keeps reader (shows_places documents.answering.showing.output.form) (map (λ (path : AskedPath). path_tree path.path) documents.answering.paths.now))
+    → IsPlain documents
+plain_documents documents options taken run free shown output dress total read = record {
+  answer = plain_answer documents.answering options run.each shown output dress (total ∙ run.total);
+  free = free_asked documents.answering.paths.now free;
+  read = read;
+}
+
+-- ---- what was sent
+
+-- what was sent of the inputs is what the options ask for
+pub sent_for : {W E : Type 0} (contents : W → Option (List ℕ)) (options : Options) (asked : List AskedPath) (output : Output) (heads : Heads) (bytes_of : List ℕ → Option (List ℕ)) (names : List (List ℕ)) (before start now : Streams W E)
+    → output ≡ output_in options → heads ≡ heads_in options (length asked) → start.out ≡ before.out → start.pending ≡ before.pending → start.outcome ≡ before.outcome
+    → Sends contents (AreInputsShown (λ name number bytes text any. AreAnswersOn builtin_functions (map (λ (path : AskedPath). path.path) asked) output (head_by heads name number) bytes text any) options.lines bytes_of names) start now
+    → Sends contents (AreInputsShown (IsShownFor options (map (λ (path : AskedPath). path.path) asked)) options.lines bytes_of names) before now
+sent_for contents options asked output heads bytes_of names before start now output_is heads_is out pending outcome sent = (
+  answered_since contents (AreInputsShown (IsShownFor options paths) options.lines bytes_of names) before start now out pending outcome
+      (subst (λ (h : Heads). Answered contents (AreInputsShown (λ name number bytes text any. AreAnswersOn builtin_functions paths (output_in options) (head_by h name number) bytes text any) options.lines bytes_of names) start now) heads_are
+      (subst (λ (o : Output). Answered contents (AreInputsShown (λ name number bytes text any. AreAnswersOn builtin_functions paths o (head_by heads name number) bytes text any) options.lines bytes_of names) start now) output_is sent.0)),
+  sent.1,
+)
+  where
+    paths : List JsonPath
+    paths = map (λ (path : AskedPath). path.path) asked
+
+    heads_are : heads ≡ heads_in options (length paths)
+    heads_are = heads_is ∙ ap (heads_in options) (sym (length-map asked (λ (path : AskedPath). path.path)))
+
+-- a run was answered
+pub run_answered : {W E : Type 0} (contents : W → Option (List ℕ)) (bytes_of : List ℕ → Option (List ℕ)) (options : Options) (asked : List AskedPath) (old start answer final : Streams W E)
+    → ArePaths (rule_in options) (map (λ (text : Bor (List ℕ)). text.now) options.paths.items) (map (λ (path : AskedPath). path.path) asked)
+    → old.outcome ≡ record { selected = false; refused = false } → start.out ≡ old.out → start.outcome ≡ old.outcome → string_bytes start.pending ≡ []
+    → final.out ≡ answer.out → final.outcome ≡ answer.outcome → final.outcome.refused ≡ false
+    → (AreFree (map (λ (path : AskedPath). path.path) asked) → Sends contents (AreInputsShown (IsShownFor options (map (λ (path : AskedPath). path.path) asked)) options.lines bytes_of (names_in options)) start answer)
+    → IsAnswered contents bytes_of options old.out final.out (status_of final.outcome)
+run_answered {W} {E} contents bytes_of options asked old start answer final are fresh out outcome empty final_out final_outcome right sent = record {
+  paths = map (λ (path : AskedPath). path.path) asked;
+  are = are;
+  shown = λ free.
+      let it = sent free in
+      let any = it.0.any in
+      let appends = sent_out (contents start.out) (contents answer.out) (string_bytes start.pending) (string_bytes answer.pending) it.0.text empty it.1 it.0.writes in
+      let selected : final.outcome.selected ≡ any = ap (λ (o : Outcome). o.selected) final_outcome ∙ it.0.selected ∙ ap (λ (o : Outcome). o.selected || any) (outcome ∙ fresh) in (
+        it.0.text,
+        any,
+        it.0.is,
+        subst (λ (o : W). Appends (contents o) (contents final.out) it.0.text) out (subst (λ (o : W). Appends (contents start.out) (contents o) it.0.text) (sym final_out) appends),
+        status_is final.outcome any right selected,
+      );
+}
+
+-- the same of a run that ended so
+pub run_ended : {W : Type 0} (contents : W → Option (List ℕ)) (bytes_of : List ℕ → Option (List ℕ)) (options : Options) (old start final last : W) (outcome : Outcome) (status : ℕ) → start ≡ old → last ≡ final → status ≡ status_of outcome
+    → IsAnswered contents bytes_of options start final (status_of outcome) → IsAnswered contents bytes_of options old last status
+run_ended {W} contents bytes_of options old start final last outcome status begins ends is answered =
+    subst (λ (o : W). IsAnswered contents bytes_of options o last status) begins
+    (subst (λ (o : W). IsAnswered contents bytes_of options start o status) (sym ends)
+    (subst (λ (n : ℕ). IsAnswered contents bytes_of options start final n) (sym is) answered))

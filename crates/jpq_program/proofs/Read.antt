@@ -1,0 +1,118 @@
+-- What is shown of what was read of a document is what is shown of the document.
+use Rattle.jpq_program.proofs.Words.{◌≡◌, ◌∙◌, ◌<◌, ◌⊎◌, ℕ, Bool, true, false, List, [], ◌∷◌, ◌++◌, Option, None, Some, length, map, nat_lt, refl, sym, ap, subst, inl, inr, suc, get_or, AreAnswerable, AskedPath, Documents, IsPlain, Data, Form, Json, Count, Nothing, Location, Pointer, FunctionSet, IsAnswer, IsIn, IsLineOfEach, IsReadIn, JsonPath, Located, Output, AreLinesIn, Query, ShowsAs, Step, chosen, first_places, first_places_after, is_among, map-append, path_tree, shows_places, take-map, up_to, with_rule_of, length-map, common_steps, arith, Layout, IsText, normal, pointer, has_lines, decimal, end_text, take, zero, if◌then◌else◌}
+
+abbrev places_of : List Located → List (List Step)
+places_of nodes = map (λ node. node.location) nodes
+
+-- ---- lists with the same locations
+
+head_same : {A : Type 0} (x y : A) (xs ys : List A) → (x ∷ xs) ≡ (y ∷ ys) → x ≡ y
+head_same x y xs ys same = cc
+
+tail_same : {A : Type 0} (x y : A) (xs ys : List A) → (x ∷ xs) ≡ (y ∷ ys) → xs ≡ ys
+tail_same x y xs ys same = cc
+
+first_after : (earlier : List (List Step)) (ns ms : List Located) → places_of ns ≡ places_of ms → places_of (first_places_after earlier ns) ≡ places_of (first_places_after earlier ms)
+first_after earlier [] [] same = refl
+first_after earlier [] (m ∷ ms) same = absurd cc
+first_after earlier (n ∷ ns) [] same = absurd cc
+first_after earlier (n ∷ ns) (m ∷ ms) same =
+    let here = head_same n.location m.location (places_of ns) (places_of ms) same in
+    let rest = first_after (earlier ++ n.location ∷ []) ns ms (tail_same n.location m.location (places_of ns) (places_of ms) same) in
+    let later = rest ∙ ap (λ (place : List Step). places_of (first_places_after (earlier ++ place ∷ []) ms)) here in
+    map-append (λ (node : Located). node.location) (own n) (first_places_after (earlier ++ n.location ∷ []) ns)
+    ∙ ap (λ (front : List (List Step)). front ++ places_of (first_places_after (earlier ++ n.location ∷ []) ns)) (owns n ∙ ap own_place here ∙ sym (owns m))
+    ∙ ap (λ (back : List (List Step)). places_of (own m) ++ back) later
+    ∙ sym (map-append (λ (node : Located). node.location) (own m) (first_places_after (earlier ++ m.location ∷ []) ms))
+  where
+    own : Located → List Located
+    own node = if is_among node.location earlier then [] else node ∷ []
+
+    own_place : List Step → List (List Step)
+    own_place place = if is_among place earlier then [] else place ∷ []
+
+    owns : (node : Located) → places_of (own node) ≡ own_place node.location
+    owns node = by_case (is_among node.location earlier)
+      where
+        by_case : (among : Bool) → places_of (if among then [] else node ∷ []) ≡ (if among then [] else node.location ∷ [])
+        by_case true = refl
+        by_case false = refl
+
+same_up_to : (most : Option ℕ) (ns ms : List Located) → places_of ns ≡ places_of ms → places_of (up_to most ns) ≡ places_of (up_to most ms)
+same_up_to None ns ms same = same
+same_up_to (Some most) ns ms same = sym (take-map (λ (node : Located). node.location) most ns) ∙ ap (take most) same ∙ take-map (λ (node : Located). node.location) most ms
+
+same_chosen : (output : Output) (ns ms : List Located) → places_of ns ≡ places_of ms → places_of (chosen output ns) ≡ places_of (chosen output ms)
+same_chosen output ns ms same = by_case output.unique
+  where
+    by_case : (unique : Bool) → places_of (up_to output.most (if unique then first_places ns else ns)) ≡ places_of (up_to output.most (if unique then first_places ms else ms))
+    by_case true = same_up_to output.most (first_places ns) (first_places ms) (first_after [] ns ms same)
+    by_case false = same_up_to output.most ns ms same
+
+same_length : (ns ms : List Located) → places_of ns ≡ places_of ms → length ns ≡ length ms
+same_length ns ms same = sym (length-map ns (λ (node : Located). node.location)) ∙ ap (λ (places : List (List Step)). length places) same ∙ length-map ms (λ (node : Located). node.location)
+
+-- ---- what is shown of them
+
+same_text : (form : Form) (layout : Layout) (n m : Located) (text : List ℕ) → has_lines form ≡ true → shows_places form ≡ true → n.location ≡ m.location → IsText form layout n text → IsText form layout m text
+same_text Location layout n m text has shows same is = is ∙ ap normal same
+same_text Pointer layout n m text has shows same is = is ∙ ap pointer same
+same_text _ layout n m text has shows same is = absurd cc
+
+same_lines : (output : Output) (head : List ℕ) (ns ms : List Located) (text : List ℕ) → has_lines output.form ≡ true → shows_places output.form ≡ true → places_of ns ≡ places_of ms → IsLineOfEach output head ns text → IsLineOfEach output head ms text
+same_lines output head [] [] text has shows same are = are
+same_lines output head [] (m ∷ ms) text has shows same are = absurd cc
+same_lines output head (n ∷ ns) [] text has shows same are = absurd cc
+same_lines output head (n ∷ ns) (m ∷ ms) text has shows same are = (
+  are.0,
+  are.1,
+  (are.2.0, same_text output.form output.layout n m are.2.0 has shows (head_same n.location m.location (places_of ns) (places_of ms) same) are.2.1, are.2.2),
+  same_lines output head ns ms are.1 has shows (tail_same n.location m.location (places_of ns) (places_of ms) same) are.3,
+  are.4,
+)
+
+same_shown : (form : Form) (output : Output) (head : List ℕ) (ns ms : List Located) (text : List ℕ) → form ≡ output.form → shows_places form ≡ true → places_of ns ≡ places_of ms → AreLinesIn form output head ns text → AreLinesIn form output head ms text
+same_shown Count output head ns ms text is shows same are = are ∙ ap (λ n. head ++ (decimal n ++ end_text output.end)) (same_length ns ms same)
+same_shown Nothing output head ns ms text is shows same are = are
+same_shown Location output head ns ms text is shows same are = same_lines output head ns ms text (ap has_lines (sym is)) (ap shows_places (sym is)) same are
+same_shown Pointer output head ns ms text is shows same are = same_lines output head ns ms text (ap has_lines (sym is)) (ap shows_places (sym is)) same are
+same_shown _ output head ns ms text is shows same are = absurd cc
+
+-- ---- what was read
+
+shows_by_places : (output : Output) (bytes : List ℕ) (queries : List Query) (value : Data) (path : JsonPath) → shows_places output.form ≡ true → IsIn (path_tree path) queries → IsReadIn true bytes queries value → ShowsAs output bytes value path
+shows_by_places output bytes queries value path shows asked read = λ F head text any is.
+    let alike = read.1.2 (with_rule_of path F) (path_tree path) (places_of is.0) in
+    let there = (alike asked).1 (is.0, is.1, refl) in
+    let same = same_chosen output is.0 there.0 (sym there.2) in (
+      read.1.0,
+      (read.0, read.1.1),
+      (there.0, there.1, same_shown output.form output head (chosen output is.0) (chosen output there.0) text refl shows same is.2, is.3 ∙ ap (nat_lt 0) (same_length (chosen output is.0) (chosen output there.0) same)),
+    )
+
+shows_by_values : (output : Output) (bytes : List ℕ) (queries : List Query) (value : Data) (path : JsonPath) → IsIn (path_tree path) queries → IsReadIn false bytes queries value → ShowsAs output bytes value path
+shows_by_values output bytes queries value path asked read = λ F head text any is.
+    (read.1.0, (read.0, read.1.1), (is.0, (read.1.2 (with_rule_of path F) (path_tree path) is.0 asked).1 is.1, is.2, is.3))
+
+-- what a path shows of what was read for it, it shows of the document
+pub shows_as_read : (output : Output) (bytes : List ℕ) (queries : List Query) (value : Data) (path : JsonPath) → IsIn (path_tree path) queries → IsReadIn (shows_places output.form) bytes queries value → ShowsAs output bytes value path
+shows_as_read output bytes queries value path asked read = by_case (shows_places output.form) refl read
+  where
+    by_case : (places : Bool) → shows_places output.form ≡ places → IsReadIn places bytes queries value → ShowsAs output bytes value path
+    by_case true is read = shows_by_places output bytes queries value path is asked read
+    by_case false is read = shows_by_values output bytes queries value path asked read
+
+-- an item of a list is in what a function makes of its items
+pub item_in : {A B : Type 0} (f : A → B) (xs : List A) (i : ℕ) (x : A) → i < length xs → x ≡ get_or xs i x → IsIn (f x) (map f xs)
+item_in f [] i x within is = absurd (omega (arith, within))
+item_in f (y ∷ ys) zero x within is = inl (ap f is)
+item_in f (y ∷ ys) (suc i) x within is = inr (item_in f ys i x (omega (arith, within)) is)
+
+-- what was read of a document can be asked for the paths
+pub answerable : (documents : Documents) (bytes : List ℕ) (value : Data) → IsPlain documents
+    → IsReadIn (shows_places documents.answering.showing.output.form) bytes (map (λ (path : AskedPath). path_tree path.path) documents.answering.paths.now) value
+    → AreAnswerable documents.answering.showing.output bytes value documents.answering.paths.now
+answerable documents bytes value plain read = λ i path within is. (
+  plain.free i path within is,
+  shows_as_read documents.answering.showing.output bytes (map (λ (path : AskedPath). path_tree path.path) documents.answering.paths.now) value path.path (item_in (λ (path : AskedPath). path_tree path.path) documents.answering.paths.now i path within is) read,
+)

@@ -1,0 +1,52 @@
+-- What is shown of inputs.
+use Rattle.std.specs.Char.{is_ascii_whitespace}
+use Rattle.std.specs.Io.BufRead.{strip_last}
+use Rattle.std.specs.List.{list_all}
+use Rattle.std.specs.Prelude.{◌≡◌, ◌==◌, ◌<◌, ℕ, Bool, false, List, [], ◌∷◌, drop, get_or, length, if◌then◌else◌, MatchBool, Option, Some}
+use Rattle.jsonpath_document.specs.Begins.{begins}
+use Rattle.jpq_program.specs.Answers.{AreEach}
+
+-- what is shown of a document: of its input's name, the number of its line in that, and its bytes, the text, and whether a node is
+-- shown
+abbrev pub Shown : Type 1
+Shown = List ℕ → ℕ → List ℕ → List ℕ → Bool → Type 0
+
+-- the bytes after a byte order mark, which a reader may pass over (RFC 8259, section 8.1)
+abbrev pub without_mark : List ℕ → List ℕ
+without_mark bytes = if begins bytes (239 ∷ 187 ∷ 191 ∷ []) then drop 3 bytes else bytes
+
+-- lines of which the first has one more byte before it
+abbrev pub with_byte : ℕ → List (List ℕ) → List (List ℕ)
+with_byte byte [] = (byte ∷ []) ∷ []
+with_byte byte (line ∷ lines) = (byte ∷ line) ∷ lines
+
+-- the lines of a text, each with its line feed; the last one may have none
+abbrev pub lines_of : List ℕ → List (List ℕ)
+lines_of [] = []
+lines_of (byte ∷ bytes) = if byte == 10 then (byte ∷ []) ∷ lines_of bytes else with_byte byte (lines_of bytes)
+
+-- a line has blanks alone
+abbrev pub is_blank : List ℕ → Bool
+is_blank line = list_all is_ascii_whitespace line
+
+-- what is shown of a line: of its document, or nothing where it is blank
+abbrev pub IsLineShown : Shown → List ℕ → ℕ → List ℕ → List ℕ → Bool → Type 0
+IsLineShown Is name number line text any =
+    MatchBool (is_blank line) ((text ≡ []) × (any ≡ false)) (Is name number (without_mark (strip_last 10 line)) text any)
+
+-- what is shown of an input: of each of its lines, or of the one document that it is
+abbrev pub IsInputShown : Shown → Bool → List ℕ → List ℕ → List ℕ → Bool → Type 0
+IsInputShown Is lines name bytes text any =
+    MatchBool lines (AreEach (IsLineShown Is name) 1 (lines_of bytes) text any) (Is name 1 (without_mark bytes) text any)
+
+-- what is shown of the input of a name, by what is known of the bytes of each
+abbrev pub IsNamedShown : Shown → Bool → (List ℕ → Option (List ℕ)) → List ℕ → List ℕ → Bool → Type 0
+IsNamedShown Is lines bytes_of name text any = (bytes : List ℕ) × (bytes_of name ≡ Some bytes) × IsInputShown Is lines name bytes text any
+
+-- the same of several inputs, in order
+abbrev pub AreInputsShown : Shown → Bool → (List ℕ → Option (List ℕ)) → List (List ℕ) → List ℕ → Bool → Type 0
+AreInputsShown Is lines bytes_of names text any = AreEach (λ number name. IsNamedShown Is lines bytes_of name) 1 names text any
+
+-- the bytes of each input are known
+abbrev pub AreKnown : (List ℕ → Option (List ℕ)) → List (List ℕ) → Type 0
+AreKnown bytes_of names = (i : ℕ) → i < length names → (bytes : List ℕ) × (bytes_of (get_or names i []) ≡ Some bytes)
