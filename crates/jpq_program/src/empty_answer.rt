@@ -26,7 +26,7 @@ enum Slip {
     Match,
 }
 
-/// What a path has, and what that means where nothing is selected.
+/// What a path has, and what that means where nothing is selected; last what means that in some documents alone.
 const REASONS: &[(Slip, &str)] = &[
     (
         Slip::Dotted("length"),
@@ -49,10 +49,6 @@ const REASONS: &[(Slip, &str)] = &[
         Slip::Swapped,
         "the text comes first, then the pattern: match(@.a, 'b.*')",
     ),
-];
-
-/// The same of what means that in some documents alone.
-const REASONS_OF_DOCUMENTS: &[(Slip, &str)] = &[
     (
         Slip::QuotedDot,
         "a name in quotes is one member's, with its dots; $.a.b goes down by two",
@@ -156,6 +152,11 @@ impl Slip {
         }
     }
 
+    /// Whether this part is a slip in some documents alone.
+    fn is_of_documents(&self) -> bool {
+        matches!(self, Slip::QuotedDot | Slip::RootCompared | Slip::Match)
+    }
+
     /// Whether a name alone in brackets is this part.
     fn is_quoted(&self, own: &str) -> bool {
         match self {
@@ -165,35 +166,29 @@ impl Slip {
     }
 }
 
-/// Which slips of a table a tree has.
+/// Which rows of [`REASONS`] a tree has.
 #[derive(Drop)]
-struct Marks<'s> {
-    slips: &'s [(Slip, &'static str)],
-    /// For each slip, in the table's order, whether the tree has it.
+pub(crate) struct Marks {
     found: Vec<bool>,
 }
 
-impl<'s> Marks<'s> {
-    /// Those of a table that a tree has. It fails where memory is refused.
-    fn of(
-        alloc: Global,
-        slips: &'s [(Slip, &'static str)],
-        tree: &Checked,
-    ) -> Result<Marks<'s>, AllocError> {
+impl Marks {
+    /// Those of a tree. It fails where memory is refused.
+    pub(crate) fn of(alloc: Global, tree: &Checked) -> Result<Marks, AllocError> {
         let mut found = Vec::new(alloc);
-        for _ in slips {
+        for _ in REASONS {
             found.push(false)?;
         }
-        let mut marks = Marks { slips, found };
+        let mut marks = Marks { found };
         marks.mark_below(tree, tree.segments());
         Ok(marks)
     }
 
-    /// Marks the slips that a node of a tree is.
+    /// Marks the rows of a node of a tree.
     fn mark(&mut self, tree: &Checked, node: &Node)
         requires { NamesBelow (length (nodes_in tree.now)) node.now }
     {
-        for (index, (slip, _)) in self.slips.iter().enumerate() {
+        for (index, (slip, _)) in REASONS.iter().enumerate() {
             if slip.is_at(tree, node) {
                 if let Some(found) = self.found.get_mut(index) {
                     *found = true;
@@ -202,7 +197,7 @@ impl<'s> Marks<'s> {
         }
     }
 
-    /// Marks those that some parts of a tree are, or what is below them.
+    /// Marks the rows of some parts of a tree, and of what is below them.
     #[tactic(auto, using(serde_json_path_syntax::proofs::Tree::NamedParts::within_get))]
     fn mark_below(&mut self, tree: &Checked, parts: &[Part])
         requires { parts_bound parts.now ≤ length (nodes_in tree.now) }
@@ -210,11 +205,51 @@ impl<'s> Marks<'s> {
         for part in parts {
             let node = tree.node(*part);
             let (below, others) = parts_below(node);
-            self.mark(tree, node);
+            if may_slip(node) {
+                self.mark(tree, node);
+            }
             self.mark_below(tree, below);
             self.mark_below(tree, others);
         }
     }
+
+    /// A reason why a path selects nothing, whatever the document: the first of the table.
+    pub(crate) fn reason(&self) -> Option<&'static str> {
+        for ((slip, reason), found) in REASONS.iter().zip(&self.found) {
+            if *found && !slip.is_of_documents() {
+                return Some(*reason);
+            }
+        }
+        None
+    }
+
+    /// The reasons why a path may select nothing, each with what must be in the document.
+    pub(crate) fn signs(&self, alloc: Global, path: &JsonPath) -> Result<Vec<Sign>, AllocError> {
+        let mut signs = Vec::new(alloc);
+        for ((slip, reason), found) in REASONS.iter().zip(&self.found) {
+            if !*found || !slip.is_of_documents() {
+                continue;
+            }
+            if let Some(path) = slip.sign(alloc, path.to_text(alloc)?.as_str())? {
+                signs.push(Sign {
+                    path,
+                    reason: *reason,
+                })?;
+            }
+        }
+        Ok(signs)
+    }
+}
+
+/// Whether a node is of a kind that has a slip.
+fn may_slip(node: &Node) -> bool {
+    matches!(
+        node,
+        Node::Segment { .. }
+            | Node::Selector(Selector::Slice(_))
+            | Node::Basic(Basic::Relation { .. })
+            | Node::Call { .. }
+    )
 }
 
 /// Whether a function's second argument is a pattern.
@@ -264,34 +299,4 @@ pub(crate) fn parts_below(node: &Node) -> (&[Part], &[Part])
         | Node::Operand(Operand::Query(part) | Operand::Call(part)) => (slice::from_ref(part), &[]),
         Node::Segment { .. } | Node::Selector(_) | Node::Operand(_) => (&[], &[]),
     }
-}
-
-/// A reason why a path selects nothing, if its tree shows one, whatever the document: the first of the table. It fails where memory
-/// is refused.
-pub(crate) fn reason_of(alloc: Global, tree: &Checked) -> Result<Option<&'static str>, AllocError> {
-    let marks = Marks::of(alloc, REASONS, tree)?;
-    for ((_, reason), found) in REASONS.iter().zip(&marks.found) {
-        if *found {
-            return Ok(Some(*reason));
-        }
-    }
-    Ok(None)
-}
-
-/// The reasons why a path may select nothing, each with what must be in the document.
-pub(crate) fn signs_of(alloc: Global, path: &JsonPath) -> Result<Vec<Sign>, AllocError> {
-    let marks = Marks::of(alloc, REASONS_OF_DOCUMENTS, path.tree())?;
-    let mut signs = Vec::new(alloc);
-    for ((slip, reason), found) in REASONS_OF_DOCUMENTS.iter().zip(&marks.found) {
-        if !*found {
-            continue;
-        }
-        if let Some(path) = slip.sign(alloc, path.to_text(alloc)?.as_str())? {
-            signs.push(Sign {
-                path,
-                reason: *reason,
-            })?;
-        }
-    }
-    Ok(signs)
 }

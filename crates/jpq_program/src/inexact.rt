@@ -42,26 +42,23 @@ fn is_inexact(number: &str) -> bool {
     is_whole || significant_digits(number) > DIGITS
 }
 
-/// Whether a byte may stand in a number, or is one of two others: this is asked of many bytes.
-#[inline(always)]
-fn may_be_of_number(byte: &u8) -> bool {
-    matches!(*byte, b'+'..=b'9' | b'e' | b'E')
-}
-
-/// Whether a byte at a place may stand in a number.
-fn is_of_number_at(bytes: &[u8], place: usize) -> bool {
-    match bytes.get(place) {
-        Some(byte) => is_of_number(*byte),
-        None => false,
+/// Whether all of some bytes stand in numbers.
+fn are_of_numbers(bytes: &[u8]) -> bool {
+    for byte in bytes {
+        if !is_of_number(*byte) {
+            return false;
+        }
     }
+    true
 }
 
-/// Whether a number around a place may have more than [`DIGITS`] bytes: then it also has the ninth before or after the place.
+/// Whether a number around a place may have more than [`DIGITS`] bytes: then nine of them stand before the place, or after it.
 fn may_be_long(bytes: &[u8], index: usize) -> bool {
     const HALF: usize = DIGITS / 2 + 1;
-    is_of_number_at(bytes, index)
-        && (is_of_number_at(bytes, index.saturating_add(HALF))
-            || is_of_number_at(bytes, index.saturating_sub(HALF)))
+    let start = index.saturating_sub(HALF);
+    let end = index.saturating_add(HALF + 1);
+    bytes.get(index..end).is_some_and(are_of_numbers)
+        || (index >= HALF && bytes.get(start..index).is_some_and(are_of_numbers))
 }
 
 /// The bytes around a place that may stand in a number, and how many stand before them.
@@ -119,7 +116,8 @@ pub(crate) fn inexact_number(bytes: &[u8]) -> Option<&str> {
     // Where the last token ends, so that a long one is looked at once.
     let mut past = 0usize;
     for (number, piece) in bytes.chunks(DIGITS).enumerate() {
-        if !piece.first().is_some_and(may_be_of_number) {
+        // Asked of many bytes: one range and two letters take in all bytes of numbers, and two others.
+        if !matches!(piece.first(), Some(b'+'..=b'9' | b'e' | b'E')) {
             continue;
         }
         let index = number.saturating_mul(DIGITS);

@@ -4,7 +4,7 @@ ghost use Rattle.jpq_program.specs.Inside.{OnlyNotes};
 
 use crate::answering::Answering;
 use crate::asked_path::AskedPath;
-use crate::empty_answer::{Sign, signs_of};
+use crate::empty_answer::{Marks, Sign};
 use crate::streams::{Stop, Streams};
 use jsonpath_document::read_document;
 use serde_json::Value;
@@ -51,10 +51,19 @@ impl Answering<'_> {
         Ok(())
     }
 
-    /// Why nothing may have been selected from the document of some bytes: of the first path of which it shows that.
+    /// Why nothing may have been selected from the document of some bytes: of the first path that shows it whatever the document, or
+    /// else of the first of which the document shows it.
     fn reason_in(&self, bytes: &[u8]) -> Result<Option<&'static str>, Stop> {
+        let mut marked = Vec::new(self.alloc);
         for path in self.paths {
-            let signs = signs_of(self.alloc, &path.path)?;
+            let marks = Marks::of(self.alloc, path.path.tree())?;
+            if let Some(reason) = marks.reason() {
+                return Ok(Some(reason));
+            }
+            marked.push(marks)?;
+        }
+        for (path, marks) in self.paths.iter().zip(&marked) {
+            let signs = marks.signs(self.alloc, &path.path)?;
             if signs.is_empty() {
                 continue;
             }

@@ -8,8 +8,24 @@ use regex_syntax::{Config, ErrorKind, parse};
 use serde_json_path_syntax::{Checked, LiteralValue, Node, Operand, Part};
 use std::alloc::{AllocError, Global};
 
+/// Whether a pattern is surely one: letters, digits, blanks and dots, each with at most one sign of repetition after it.
+fn is_simple(pattern: &str) -> bool {
+    let mut repeats = false;
+    for byte in pattern.as_bytes() {
+        repeats = match *byte {
+            b'*' | b'+' | b'?' if repeats => false,
+            b' ' | b'.' | b'0'..=b'9' | b'A'..=b'Z' | b'a'..=b'z' => true,
+            _ => return false,
+        };
+    }
+    true
+}
+
 /// Whether `regex` can't read a pattern.
 fn is_none(alloc: Global, pattern: &str) -> Result<bool, AllocError> {
+    if is_simple(pattern) {
+        return Ok(false);
+    }
     let text = format!(in alloc; "(?R)({pattern})")?;
     match parse(alloc, text.as_str(), &Config::default()) {
         Ok(_) => Ok(false),

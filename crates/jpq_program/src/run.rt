@@ -15,7 +15,7 @@ use crate::answering::Answering;
 use crate::asked_path::AskedPath;
 use crate::colours::{Colours, Palette};
 use crate::documents::Documents;
-use crate::empty_answer::reason_of;
+use crate::empty_answer::Marks;
 use crate::inputs::Inputs;
 use crate::paths::asked_paths;
 use crate::patterns::no_pattern;
@@ -68,7 +68,8 @@ fn hint_at_patterns<W: Write, E: Write>(
 /// A reason why some path selects nothing, as its tree shows.
 fn first_reason(alloc: Global, paths: &[AskedPath]) -> Result<Option<&'static str>, AllocError> {
     for path in paths {
-        let reason = reason_of(alloc, path.path.tree())?;
+        let marks = Marks::of(alloc, path.path.tree())?;
+        let reason = marks.reason();
         if reason.is_some() {
             return Ok(reason);
         }
@@ -88,8 +89,12 @@ fn hint_at_nothing<W: Write, E: Write>(
     if silent || streams.outcome.selected || streams.outcome.refused {
         return Ok(());
     }
-    let shown = first_reason(alloc, paths)?;
-    if let Some(reason) = shown.or(streams.reason) {
+    let reason = if streams.asked_reasons == 0 {
+        first_reason(alloc, paths)?
+    } else {
+        streams.reason
+    };
+    if let Some(reason) = reason {
         streams.tell(format!(in alloc; "jpq: nothing was selected: {reason}\n")?.as_str());
     }
     Ok(())

@@ -12,6 +12,18 @@ use serde_json::Value;
 use serde_json_path::LocatedNode;
 use std::alloc::{AllocError, Global};
 
+/// Appends a node's line. Lines that are not shown as they are made, and values in objects, are made here, and not where each node
+/// passes, so that what is called there is inlined.
+#[inline(never)]
+fn push_own_line(
+    alloc: Global,
+    output: &Output,
+    to: &mut String,
+    node: &LocatedNode<'_>,
+) -> Result<(), AllocError> {
+    push_line(alloc, output, "", to, node)
+}
+
 /// How lines are dressed: indented by another unit, escaped and coloured.
 #[derive(Drop)]
 pub(crate) struct Dress<'a> {
@@ -136,7 +148,7 @@ impl Dress<'_> {
         node: &LocatedNode<'_>,
     ) -> Result<(), AllocError> {
         let mut line = String::new(self.alloc);
-        push_line(self.alloc, output, "", &mut line, node)?;
+        push_own_line(self.alloc, output, &mut line, node)?;
         if self.has_escapes(node) {
             line = self.dressed(line)?;
         }
@@ -171,7 +183,7 @@ impl Showing<'_> {
             form: Form::Value,
             ..self.output
         };
-        push_line(self.alloc, &output, "", &mut json, node)?;
+        push_own_line(self.alloc, &output, &mut json, node)?;
         json.pop();
         match self.output.layout {
             Layout::Compact => Ok(json),
