@@ -16,11 +16,15 @@ bindings/lib/libjsonpath_c.a: $(SOURCES)
 	mkdir -p bindings/lib
 	cp "$$(dirname "$$(rt doc)")/c/liblibc_c.a" crates/jsonpath_c/out/libjsonpath_c.a bindings/lib/
 
-.PHONY: programs demo bindings test-bindings fuzz check test documents manual trusted refused-memory install install-c clean
+.PHONY: programs demo bindings test-bindings sqlite fuzz check test documents manual trusted refused-memory install install-c clean
 
 # The static library and what is made of it: the Rust crate, the programs in C, and the shared library.
 bindings: bindings/lib/libjsonpath_c.a
 	bindings/build
+
+# The extension for SQLite alone.
+sqlite: bindings/lib/libjsonpath_c.a
+	bindings/sqlite/compile
 
 # Tests the bindings, once they are built.
 test-bindings:
@@ -39,20 +43,20 @@ check:
 
 # The whole gate: each proof from nothing, each test, and each edit that must be refused; then the programs that must not
 # compile and refused memory, over the libraries and the tests that the gate has left; whether each edit still fits its file; the
-# documents and the published cases, by the programs that it has built, the lists of what must be believed, the drawing of the
-# measures, and the manual page; and the bindings.
+# bindings; the documents and the published cases, by what has been built, the lists of what must be believed, the drawing of the
+# measures, and the manual page.
 test:
 	bindings/lacking --install || true
 	RT_JOBS="$$(tools/lanes)" rt ci
 	tools/must_not_compile
 	tools/refuse_memory --built
 	tools/edits > /dev/null
+	$(MAKE) test-bindings
 	tools/check_documents
 	tools/conformance
 	tools/trusted --check
 	tools/plot_ratios --check
 	tools/manual --check
-	$(MAKE) test-bindings
 
 # Runs each command that the documents show, and looks up each of their snippets, files and links.
 documents: bin/jsonpath bin/jpq
@@ -80,10 +84,11 @@ install: bin/jsonpath bin/jpq
 	install -m 644 packaging/jpq.1 '$(DESTDIR)$(PREFIX)/share/man/man1/jpq.1'
 	install -m 644 packaging/jpq.bash '$(DESTDIR)$(PREFIX)/share/bash-completion/completions/jpq'
 
-# Puts the header, the archives, the shared library and jsonpath.pc below PREFIX, and DESTDIR, in the same way.
+# Puts the header, the archives, the shared library, jsonpath.pc and the extension for SQLite below PREFIX, and DESTDIR, in the
+# same way.
 install-c: bindings
 	bindings/install '$(DESTDIR)' '$(PREFIX)'
 
 # Removes the programs, the bindings, and what checks kept.
 clean:
-	rm -rf bin bindings/lib bindings/rust/target bindings/c/build bindings/python/vozgumb/libjsonpath.so crates/*/out
+	rm -rf bin bindings/lib bindings/rust/target bindings/c/build bindings/sqlite/build bindings/python/vozgumb/libjsonpath.so crates/*/out
