@@ -1,15 +1,21 @@
 /* A harness of libFuzzer over the calls of jsonpath.h.
  *
- * An input is a path and a document, split at the first NUL. Without a NUL all of it is the path, and the document is empty.
- * There is no second implementation: each call is held to the others, and to what the header says of it. A fact that does not
- * hold is printed, and ends the process. */
+ * The first byte of an input says how it is asked. The rest is a path and a document, split at the first NUL; without a NUL all of
+ * it is the path, and the document is empty. There is no second implementation: each call is held to the others, and to what the
+ * header says of it. A fact that does not hold is printed, and ends the process. */
 #include <ctype.h>
+#include <pthread.h>
+#include <stdatomic.h>
 #include <stdio.h>
 #include <stdlib.h>
 #include <string.h>
 #include <time.h>
 
 #include "jsonpath.h"
+
+/* What the first byte asks for. Its other bits are free. */
+#define BY_ALL_NUMBERS 1 /* The rule for numbers. */
+#define IN_TWO_THREADS 2 /* Meanwhile a second thread asks by the other rule, with handles of its own. */
 
 #define MOST_NODES 1000
 #define MOST_BYTES 65536
@@ -40,10 +46,10 @@ static const struct jsonpath_limits NO_LIMITS = {SIZE_MAX, SIZE_MAX};
 enum { PATHS = 0, REFUSALS = PATHS + TRIPLES, NODES = REFUSALS + KINDS * LETTERS, COUNTS = NODES + KINDS * SIZES };
 
 /* Only the fuzzer reads them, which the compiler does not see. */
-__attribute__((section("__libfuzzer_extra_counters"))) static volatile uint8_t shown[COUNTS + SIZES];
+__attribute__((section("__libfuzzer_extra_counters"))) static volatile _Atomic uint8_t shown[COUNTS + SIZES];
 
-/* Tells of a feature of the input. */
-static void show(size_t feature) { shown[feature] = 1; }
+/* Tells of a feature of the input, in either thread. */
+static void show(size_t feature) { atomic_store_explicit(&shown[feature], 1, memory_order_relaxed); }
 
 /* How many bits a size has. */
 static size_t bits(size_t size) { return size == 0 ? 0 : SIZES - 1 - (size_t)__builtin_clzl(size); }
@@ -668,17 +674,50 @@ static void check_path(struct question asked, uint8_t numbers) {
     HOLD(path == NULL);
 }
 
-int LLVMFuzzerTestOneInput(const uint8_t *input, size_t length) {
-    const uint8_t *nul = length == 0 ? NULL : memchr(input, 0, length);
-    size_t path_length = nul == NULL ? length : (size_t)(nul - input), skipped = path_length + (nul != NULL);
-    struct text path = copy(input, path_length), text = copy(input + skipped, length - skipped);
+/* What a thread asks. */
+struct input {
+    struct text path, document;
+    uint8_t numbers;
+};
+
+/* Checks an input, with handles and texts of this thread's own. */
+static void *check_input(void *given) {
+    const struct input *input = given;
+    struct text path = copy(input->path.bytes, input->path.length);
+    struct text text = copy(input->document.bytes, input->document.length);
     jsonpath_document *document = read_document(text);
     struct question asked = {.path_text = path, .document_text = text, .document = &document, .position = UNTOUCHED};
-    check_path(asked, JSONPATH_WHOLE_NUMBERS);
-    check_path(asked, JSONPATH_ALL_NUMBERS);
+    check_path(asked, input->numbers);
     jsonpath_document_free(&document);
     HOLD(document == NULL);
     free(path.bytes);
     free(text.bytes);
+    return NULL;
+}
+
+/* Checks an input in this thread, and by the other rule for numbers in another one meanwhile. */
+static void check_in_two_threads(struct input input) {
+    struct input other = input;
+    pthread_t thread;
+    other.numbers = input.numbers == JSONPATH_ALL_NUMBERS ? JSONPATH_WHOLE_NUMBERS : JSONPATH_ALL_NUMBERS;
+    HOLD(pthread_create(&thread, NULL, check_input, &other) == 0);
+    check_input(&input);
+    HOLD(pthread_join(thread, NULL) == 0);
+}
+
+int LLVMFuzzerTestOneInput(const uint8_t *bytes, size_t length) {
+    if (length == 0) return 0;
+    struct text texts = copy(bytes + 1, length - 1);
+    const uint8_t *nul = length == 1 ? NULL : memchr(texts.bytes, 0, texts.length);
+    size_t path_length = nul == NULL ? texts.length : (size_t)(nul - texts.bytes), skipped = path_length + (nul != NULL);
+    struct input input = {.path = {texts.bytes, path_length},
+                          .document = {texts.bytes + skipped, texts.length - skipped},
+                          .numbers = bytes[0] & BY_ALL_NUMBERS ? JSONPATH_ALL_NUMBERS : JSONPATH_WHOLE_NUMBERS};
+    if (bytes[0] & IN_TWO_THREADS) {
+        check_in_two_threads(input);
+    } else {
+        check_input(&input);
+    }
+    free(texts.bytes);
     return 0;
 }
