@@ -16,7 +16,8 @@ bindings/lib/libjsonpath_c.a: $(SOURCES)
 	mkdir -p bindings/lib
 	cp "$$(dirname "$$(rt doc)")/c/liblibc_c.a" crates/jsonpath_c/out/libjsonpath_c.a bindings/lib/
 
-.PHONY: programs demo bindings test-bindings sqlite fuzz check test documents manual trusted refused-memory install install-c clean
+.PHONY: programs demo bindings test-bindings sqlite fuzz fuzz-quick dist test-dist check test documents manual trusted \
+    refused-memory install install-c clean
 
 # The static library and what is made of it: the Rust crate, the programs in C, and the shared library.
 bindings: bindings/lib/libjsonpath_c.a
@@ -32,10 +33,24 @@ test-bindings:
 	$(MAKE) bindings
 	bindings/test
 
-# Looks for inputs on which the calls of the library disagree, for FUZZ_SECONDS. It needs clang with libFuzzer.
-FUZZ_SECONDS ?= 3600
+# Packs what is built for those who have no toolchain: archives, a wheel, a crate and Debian packages, in dist/. GATE_LOG is a file
+# that ends with the last line of the gate, which is packed too (tools/dist).
+dist: bin/jsonpath bin/jpq bindings
+	rm -rf dist
+	tools/dist
+
+# Packs into a folder of its own, and uses what is packed as someone does who has no toolchain. The programs may be those that the
+# gate has built.
+test-dist: bindings
+	tools/test_dist
+
+# Looks for inputs on which the calls of the library disagree, for FUZZ_SECONDS, or an hour. It needs clang with libFuzzer.
 fuzz: bindings/lib/libjsonpath_c.a
-	bindings/fuzz/run $(FUZZ_SECONDS)
+	bindings/fuzz/run $(or $(FUZZ_SECONDS),3600)
+
+# The same for five minutes, if FUZZ_SECONDS does not say otherwise. Where clang has no libFuzzer it is left out.
+fuzz-quick: bindings/lib/libjsonpath_c.a
+	if bindings/fuzz/is_there; then bindings/fuzz/run $(or $(FUZZ_SECONDS),300); else echo "fuzzing is left out"; fi
 
 # Proves each crate, lowest first, over what earlier checks kept.
 check:
@@ -44,7 +59,7 @@ check:
 # The whole gate: each proof from nothing, each test, and each edit that must be refused; then the programs that must not
 # compile and refused memory, over the libraries and the tests that the gate has left; whether each edit still fits its file; the
 # bindings; the documents and the published cases, by what has been built, the lists of what must be believed, the drawing of the
-# measures, and the manual page.
+# measures, the manual page and the completions; what is packed; and five minutes of fuzzing.
 test:
 	bindings/lacking --install || true
 	RT_JOBS="$$(tools/lanes)" rt ci
@@ -57,6 +72,9 @@ test:
 	tools/trusted --check
 	tools/plot_ratios --check
 	tools/manual --check
+	tools/test_completions
+	$(MAKE) test-dist
+	$(MAKE) fuzz-quick
 
 # Runs each command that the documents show, and looks up each of their snippets, files and links.
 documents: bin/jsonpath bin/jpq
@@ -74,21 +92,19 @@ trusted:
 refused-memory:
 	tools/refuse_memory
 
-# Puts the programs, the manual page and the completions of jpq below PREFIX. What is put in place is put below DESTDIR, as
-# packages want it.
+# Puts the programs, their manual pages and README, and the completions of jpq below PREFIX. What is put in place is put below
+# DESTDIR, as packages want it.
 PREFIX ?= /usr/local
 install: bin/jsonpath bin/jpq
-	install -d '$(DESTDIR)$(PREFIX)/bin' '$(DESTDIR)$(PREFIX)/share/man/man1'
-	install -d '$(DESTDIR)$(PREFIX)/share/bash-completion/completions'
-	install -m 755 bin/jsonpath bin/jpq '$(DESTDIR)$(PREFIX)/bin'
-	install -m 644 packaging/jpq.1 '$(DESTDIR)$(PREFIX)/share/man/man1/jpq.1'
-	install -m 644 packaging/jpq.bash '$(DESTDIR)$(PREFIX)/share/bash-completion/completions/jpq'
+	packaging/install '$(DESTDIR)' '$(PREFIX)' bin/jsonpath bin/jpq
 
 # Puts the header, the archives, the shared library, jsonpath.pc and the extension for SQLite below PREFIX, and DESTDIR, in the
-# same way.
+# same way; the libraries into its folder LIBDIR.
+LIBDIR ?= lib
 install-c: bindings
-	bindings/install '$(DESTDIR)' '$(PREFIX)'
+	bindings/install '$(DESTDIR)' '$(PREFIX)' '$(LIBDIR)'
 
-# Removes the programs, the bindings, and what checks kept.
+# Removes the programs, the bindings, what is packed, and what checks kept.
 clean:
-	rm -rf bin bindings/lib bindings/rust/target bindings/c/build bindings/sqlite/build bindings/python/vozgumb/libjsonpath.so crates/*/out
+	rm -rf bin dist bindings/lib bindings/rust/target bindings/c/build bindings/sqlite/build bindings/python/vozgumb/libjsonpath.so \
+	    crates/*/out
