@@ -56,25 +56,9 @@ fuzz-quick: bindings/lib/libjsonpath_c.a
 check:
 	rt all check
 
-# The whole gate: each proof from nothing, each test, and each edit that must be refused; then the programs that must not
-# compile and refused memory, over the libraries and the tests that the gate has left; whether each edit still fits its file; the
-# bindings; the documents and the published cases, by what has been built, the lists of what must be believed, the drawing of the
-# measures, the manual page and the completions; what is packed; and five minutes of fuzzing.
+# The whole gate, and all that .ci/run tests after it; made-up paths for five minutes, if FUZZ_SECONDS does not say otherwise.
 test:
-	bindings/lacking --install || true
-	RT_JOBS="$$(tools/lanes)" rt ci
-	tools/must_not_compile
-	tools/refuse_memory --built
-	tools/edits > /dev/null
-	$(MAKE) test-bindings
-	tools/check_documents
-	tools/conformance
-	tools/trusted --check
-	tools/plot_ratios --check
-	tools/manual --check
-	tools/test_completions
-	$(MAKE) test-dist
-	$(MAKE) fuzz-quick
+	FUZZ_SECONDS=$(or $(FUZZ_SECONDS),300) .ci/run
 
 # Runs each command that the documents show, and looks up each of their snippets, files and links.
 documents: bin/jsonpath bin/jpq
