@@ -1,6 +1,5 @@
 -- What options ask for, as documents are answered.
-use Rattle.jpq_program.proofs.Words.{◌≡◌, ◌∙◌, ◌&&◌, ◌||◌, ℕ, Bool, true, false, List, [], Option, None, length, length-map, map, is_some, not, nat_eq, refl, sym, ap, subst, string_bytes, Appends, AreAnswersOn, AreFree, AreInputsShown, ArePaths, Bor, IsAnswered, Outcome, names_in, rule_in, status_of, Answered, AskedPath, Answering, Documents, Form, Heads, IsPlain, IsPlainRun, IsShownFor, JsonPath, Keeps, IfSome, Nodes, OptionShown, Options, Output, Query, Sends, Streams, builtin_functions, form_in, has_counts, has_lines, head_by, heads_in, is_each, is_plain_answer, is_table, output_in, path_tree, shown_by, shows_places, LocationAndValue, Value, Raw, Location, Pointer, Json, Count, Nothing}
-use Rattle.jpq_program.proofs.Parsed.{free_asked}
+use Rattle.jpq_program.proofs.Words.{◌≡◌, ◌∙◌, ◌&&◌, ◌||◌, ℕ, Bool, true, false, List, [], Option, None, length, length-map, map, is_some, not, refl, sym, ap, subst, string_bytes, Appends, AreAnswersOn, AreInputsShown, ArePaths, Bor, IsAnswered, Outcome, names_in, rule_in, status_of, Answered, AskedPath, Answering, Documents, Heads, IsPlain, IsPlainRun, IsShownFor, JsonPath, Keeps, IfSome, Nodes, OptionShown, Options, Output, Sends, Streams, builtin_functions, form_in, has_counts, has_lines, head_by, heads_in, is_each, is_plain_answer, is_table, output_in, path_tree, shows_places, LocationAndValue, Value, Raw, Location, Pointer, Json, Count, Nothing}
 use Rattle.jpq_program.proofs.Ended.{sent_out, status_is}
 use Rattle.jpq_program.proofs.Shown.{answered_since}
 
@@ -26,13 +25,12 @@ plain_answer answering options each shown output dress total =
     ∙ ap (λ t. not (is_table options.shown) && ((not false && has_lines (form_in options.shown)) || (has_counts (form_in options.shown) && not t))) total
     ∙ each_plain options.shown each
 
-pub plain_documents : (documents : Documents) (options : Options) (taken : Bool) → IsPlainRun options taken → AreFree (map (λ (path : AskedPath). path.path) documents.answering.paths.now)
+pub plain_documents : (documents : Documents) (options : Options) (taken : Bool) → IsPlainRun options taken
     → documents.answering.shown ≡ options.shown → documents.answering.showing.output ≡ output_in options → documents.answering.showing.dress ≡ None → documents.answering.total ≡ options.total
     → IfSome documents.reader (λ reader. Keeps reader (shows_places documents.answering.showing.output.form) (map (λ (path : AskedPath). path_tree path.path) documents.answering.paths.now))
     → IsPlain documents
-plain_documents documents options taken run free shown output dress total read = record {
+plain_documents documents options taken run shown output dress total read = record {
   answer = plain_answer documents.answering options run.each shown output dress (total ∙ run.total);
-  free = free_asked documents.answering.paths.now free;
   read = read;
 }
 
@@ -61,23 +59,21 @@ pub run_answered : {W E : Type 0} (contents : W → Option (List ℕ)) (bytes_of
     → ArePaths (rule_in options) (map (λ (text : Bor (List ℕ)). text.now) options.paths.items) (map (λ (path : AskedPath). path.path) asked)
     → old.outcome ≡ record { selected = false; refused = false } → start.out ≡ old.out → start.outcome ≡ old.outcome → string_bytes start.pending ≡ []
     → final.out ≡ answer.out → final.outcome ≡ answer.outcome → final.outcome.refused ≡ false
-    → (AreFree (map (λ (path : AskedPath). path.path) asked) → Sends contents (AreInputsShown (IsShownFor options (map (λ (path : AskedPath). path.path) asked)) options.lines bytes_of (names_in options)) start answer)
+    → Sends contents (AreInputsShown (IsShownFor options (map (λ (path : AskedPath). path.path) asked)) options.lines bytes_of (names_in options)) start answer
     → IsAnswered contents bytes_of options old.out final.out (status_of final.outcome)
-run_answered {W} {E} contents bytes_of options asked old start answer final are fresh out outcome empty final_out final_outcome right sent = record {
-  paths = map (λ (path : AskedPath). path.path) asked;
-  are = are;
-  shown = λ free.
-      let it = sent free in
-      let any = it.0.any in
-      let appends = sent_out (contents start.out) (contents answer.out) (string_bytes start.pending) (string_bytes answer.pending) it.0.text empty it.1 it.0.writes in
-      let selected : final.outcome.selected ≡ any = ap (λ (o : Outcome). o.selected) final_outcome ∙ it.0.selected ∙ ap (λ (o : Outcome). o.selected || any) (outcome ∙ fresh) in (
-        it.0.text,
-        any,
-        it.0.is,
-        subst (λ (o : W). Appends (contents o) (contents final.out) it.0.text) out (subst (λ (o : W). Appends (contents start.out) (contents o) it.0.text) (sym final_out) appends),
-        status_is final.outcome any right selected,
-      );
-}
+run_answered {W} {E} contents bytes_of options asked old start answer final are fresh out outcome empty final_out final_outcome right sent =
+    let any = sent.0.any in
+    let appends = sent_out (contents start.out) (contents answer.out) (string_bytes start.pending) (string_bytes answer.pending) sent.0.text empty sent.1 sent.0.writes in
+    let selected : final.outcome.selected ≡ any = ap (λ (o : Outcome). o.selected) final_outcome ∙ sent.0.selected ∙ ap (λ (o : Outcome). o.selected || any) (outcome ∙ fresh) in
+    record {
+      paths = map (λ (path : AskedPath). path.path) asked;
+      are = are;
+      text = sent.0.text;
+      any = any;
+      shown = sent.0.is;
+      out = subst (λ (o : W). Appends (contents o) (contents final.out) sent.0.text) out (subst (λ (o : W). Appends (contents start.out) (contents o) sent.0.text) (sym final_out) appends);
+      ends = status_is final.outcome any right selected;
+    }
 
 -- the same of a run that ended so
 pub run_ended : {W : Type 0} (contents : W → Option (List ℕ)) (bytes_of : List ℕ → Option (List ℕ)) (options : Options) (old start final last : W) (outcome : Outcome) (status : ℕ) → start ≡ old → last ≡ final → status ≡ status_of outcome

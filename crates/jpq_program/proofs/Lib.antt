@@ -6,6 +6,7 @@
 -- Asked: what options ask for, as documents are answered.
 -- Sending: what is sent of inputs, one after the other.
 -- Ended: how a run ends.
+-- Checked: paths that are checked, one after the other.
 -- Words: the words of definitions and lemmas, from one place.
 mod Nodes
 mod Shown
@@ -14,4 +15,5 @@ mod Parsed
 mod Asked
 mod Sending
 mod Ended
+mod Checked
 mod Words

@@ -132,6 +132,24 @@ filled_by_all contents before nodes now took = record {
     these : before.count ≡ 0 → nodes ≡ up_to before.limit nodes
     these none = all_below before.limit nodes now.count (counted none) below
 
+-- the nodes of another query were, where of a query before it none was
+pub filled_again : {W E : Type 0} (contents : W → Option (List ℕ)) (before : Written W E) (none nodes : List Located) (old now : Written W E) → TookNodes contents before none old → before.count ≡ 0 → old.count ≡ 0
+    → FilledNodes contents old nodes now → FilledNodes contents before nodes now
+filled_again contents before none nodes old now took fresh still filled = record {
+  rest = keeps_both before old now took.rest filled.rest;
+  count = λ _ stopped. filled.count still stopped ∙ ap (λ l. length (up_to l nodes)) took.rest.limit;
+  lines = λ _ stopped. subst (λ (ns : List Located). WritesLines contents (ns ++ up_to before.limit nodes) before now) (empty none is_empty)
+      (writes_both contents none (up_to before.limit nodes) before old now took.rest took.lines
+      (subst (λ l. WritesLines contents (up_to l nodes) old now) took.rest.limit (filled.lines still stopped)));
+}
+  where
+    is_empty : length none ≡ 0
+    is_empty = grind (arith, took.count, fresh, still)
+
+    empty : (ns : List Located) → length ns ≡ 0 → ns ≡ []
+    empty [] is = refl
+    empty (n ∷ ns) is = absurd (omega (arith, is))
+
 -- those of the first places that were found are enough
 pub filled_by_enough : {W E : Type 0} (contents : W → Option (List ℕ)) (before : Written W E) (nodes found : List Located) (now : Written W E) → AreEnough before.limit nodes found
     → FilledNodes contents before found now → FilledNodes contents before nodes now

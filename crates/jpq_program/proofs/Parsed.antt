@@ -1,5 +1,5 @@
 -- The paths of words, one after the other.
-use Rattle.jpq_program.proofs.Words.{◌≡◌, ◌∙◌, ◌+◌, ◌<◌, ℕ, List, [], ◌∷◌, ◌++◌, map, take, get_or, length, length-map, refl, sym, ap, subst, AllZip, AreFree, ArePaths, AskedPath, Bor, CallsNoPattern, IsPathOf, JsonPath, Numbers, builtin_functions, get_or-map, map_push, Bool, Options, codes, false, if◌then◌else◌, names_in, nat_eq, true}
+use Rattle.jpq_program.proofs.Words.{◌≡◌, ◌∙◌, ◌+◌, ◌<◌, ℕ, List, [], ◌∷◌, ◌++◌, map, take, get_or, length, sym, ap, subst, AllZip, ArePaths, AskedPath, Bor, IsPathOf, JsonPath, Numbers, map_push, Bool, Options, codes, false, if◌then◌else◌, names_in, nat_eq, true}
 use Rattle.jpq_program.proofs.Nodes.{further_mapped}
 use Rattle.jpq_program.proofs.Sending.{same_item}
 
@@ -18,12 +18,6 @@ paths_further rule rule_now texts index none paths later path within same more a
     subst (λ (read : List JsonPath). ArePaths rule (map (λ (text : Bor (List ℕ)). text.now) (take (index + 1) texts)) read) (sym (ap (map (λ (path : AskedPath). path.path)) more ∙ map_push (λ (path : AskedPath). path.path) paths path))
     (subst (λ (some : List (List ℕ)). ArePaths rule some (map (λ (path : AskedPath). path.path) paths ++ path.path ∷ [])) (sym (further_mapped (λ (text : Bor (List ℕ)). text.now) texts index text within (same_item texts index none text within)))
     (all_zip_more (IsPathOf rule) (map (λ (text : Bor (List ℕ)). text.now) (take index texts)) (map (λ (path : AskedPath). path.path) paths) text.now path.path are (subst (λ rule. IsPathOf rule text.now path.path) same is)))
-
--- paths that call by no pattern, as they are asked
-pub free_asked : (asked : List AskedPath) → AreFree (map (λ (path : AskedPath). path.path) asked) → (i : ℕ) (path : AskedPath) → i < length asked → path ≡ get_or asked i path → CallsNoPattern builtin_functions path.path
-free_asked asked free i path within is =
-    free i path.path (subst (λ n. i < n) (sym (length-map asked (λ (path : AskedPath). path.path))) within)
-    (ap (λ (path : AskedPath). path.path) is ∙ sym (get_or-map (λ (path : AskedPath). path.path) asked i path path.path within))
 
 -- the names of inputs, where none is given, and where some are
 pub none_named : (options : Options) → nat_eq (length options.files.items) 0 ≡ true → names_in options ≡ codes "-" ∷ []

@@ -1,5 +1,5 @@
 -- What is shown of what was read of a document is what is shown of the document.
-use Rattle.jpq_program.proofs.Words.{◌≡◌, ◌∙◌, ◌<◌, ◌⊎◌, ℕ, Bool, true, false, List, [], ◌∷◌, ◌++◌, Option, None, Some, length, map, nat_lt, refl, sym, ap, subst, inl, inr, suc, get_or, AreAnswerable, AskedPath, Documents, IsPlain, Data, Form, Json, Count, Nothing, Location, Pointer, FunctionSet, IsAnswer, IsIn, IsLineOfEach, IsReadIn, JsonPath, Located, Output, AreLinesIn, Query, ShowsAs, Step, chosen, first_places, first_places_after, is_among, map-append, path_tree, shows_places, take-map, up_to, with_rule_of, length-map, common_steps, arith, Layout, IsText, normal, pointer, has_lines, decimal, end_text, take, zero, if◌then◌else◌}
+use Rattle.jpq_program.proofs.Words.{◌≡◌, ◌∙◌, ◌<◌, ℕ, Bool, true, false, List, [], ◌∷◌, ◌++◌, Option, None, Some, length, map, nat_lt, refl, sym, ap, inl, inr, suc, get_or, AreShownAs, AskedPath, Documents, IsPlain, Data, Form, Count, Nothing, Location, Pointer, IsIn, IsLineOfEach, IsReadIn, JsonPath, Located, Output, AreLinesIn, Query, ShowsAs, Step, chosen, first_places, first_places_after, is_among, map-append, path_tree, shows_places, take-map, up_to, with_rule_of, length-map, arith, Layout, IsText, normal, pointer, has_lines, decimal, end_text, take, zero, if◌then◌else◌}
 
 abbrev places_of : List Located → List (List Step)
 places_of nodes = map (λ node. node.location) nodes
@@ -109,10 +109,8 @@ item_in f (y ∷ ys) zero x within is = inl (ap f is)
 item_in f (y ∷ ys) (suc i) x within is = inr (item_in f ys i x (omega (arith, within)) is)
 
 -- what was read of a document can be asked for the paths
-pub answerable : (documents : Documents) (bytes : List ℕ) (value : Data) → IsPlain documents
+pub are_shown_as : (documents : Documents) (bytes : List ℕ) (value : Data) → IsPlain documents
     → IsReadIn (shows_places documents.answering.showing.output.form) bytes (map (λ (path : AskedPath). path_tree path.path) documents.answering.paths.now) value
-    → AreAnswerable documents.answering.showing.output bytes value documents.answering.paths.now
-answerable documents bytes value plain read = λ i path within is. (
-  plain.free i path within is,
-  shows_as_read documents.answering.showing.output bytes (map (λ (path : AskedPath). path_tree path.path) documents.answering.paths.now) value path.path (item_in (λ (path : AskedPath). path_tree path.path) documents.answering.paths.now i path within is) read,
-)
+    → AreShownAs documents.answering.showing.output bytes value documents.answering.paths.now
+are_shown_as documents bytes value plain read = λ i path within is.
+    shows_as_read documents.answering.showing.output bytes (map (λ (path : AskedPath). path_tree path.path) documents.answering.paths.now) value path.path (item_in (λ (path : AskedPath). path_tree path.path) documents.answering.paths.now i path within is) read

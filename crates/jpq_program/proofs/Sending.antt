@@ -1,5 +1,5 @@
 -- What is sent of inputs, one after the other.
-use Rattle.jpq_program.proofs.Words.{◌≡◌, ◌∙◌, ◌+◌, ◌==◌, ◌<◌, ℕ, Bool, true, false, List, [], ◌∷◌, ◌++◌, None, Option, length, length-append, refl, sym, ap, subst, append-nil, append_assoc, arith, common_steps, string_bytes, AreEach, AreKnown, Answered, Bor, IsInputShown, IsNamedShown, More, Next, get_or, get_or-map, length-map, map, suc, take, zero, IsLineShown, OnlyNotes, Sends, Shown, Streams, drop_through, Global, IfSome, Some, MatchBool, if◌then◌else◌, is_blank, lines_of, strip_last, take_through, with_byte, without_mark}
+use Rattle.jpq_program.proofs.Words.{◌≡◌, ◌∙◌, ◌+◌, ◌==◌, ◌<◌, ℕ, Bool, true, false, List, [], ◌∷◌, ◌++◌, None, Option, length, length-append, refl, sym, ap, subst, append-nil, append_assoc, arith, string_bytes, AreEach, AreKnown, Answered, Bor, IsInputShown, IsNamedShown, More, Next, get_or, get_or-map, length-map, map, suc, take, zero, IsLineShown, OnlyNotes, Sends, Shown, Streams, drop_through, Global, IfSome, Some, MatchBool, if◌then◌else◌, is_blank, lines_of, strip_last, take_through, with_byte, without_mark}
 use Rattle.std.specs.Io.Buffered.{reader_buffer, reader_capacity, reader_inner, reader_remaining}
 use Rattle.std.specs.Io.KnownBytes.{prepend_known}
 use Rattle.std.specs.declared.io.buffered.BufReader.{BufReader}

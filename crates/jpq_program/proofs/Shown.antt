@@ -1,5 +1,5 @@
 -- What was written of a document is what its paths show.
-use Rattle.jpq_program.proofs.Words.{◌≡◌, ◌∙◌, ◌&&◌, ◌||◌, ℕ, Bool, true, false, List, Option, None, length, nat_lt, refl, sym, ap, subst, arith, common_steps, nat_tests, string_bytes, Located, Data, JsonPath, Selects, builtin_functions, path_tree, with_rule_of, AreLinesIn, IsLineOfEach, Form, Json, Count, Nothing, Output, chosen, once, up_to, Adds, Answered, FilledNodes, KeepsRest, IsAnswer, IsAnswerOn, IsCountIn, AreEach, Counts, OnlyNotes, OnlyWrites, Writes, IfOk, Ok, Err, OnOk, Result, Outcome, ShowsAs, Showing, Streams, String, Global, Written, has_counts, has_lines, is_array, is_plain, shows_lines, zero, [], ◌∷◌, ◌++◌, ◌+◌, suc, append-nil, append_assoc, get_or, length-map, length-take-le, map, take, take_all, ◌<◌, ◌≤◌}
+use Rattle.jpq_program.proofs.Words.{◌≡◌, ◌∙◌, ◌&&◌, ◌||◌, ℕ, Bool, true, false, List, Option, None, length, nat_lt, refl, sym, ap, subst, inl, inr, arith, common_steps, nat_tests, string_bytes, Located, Data, JsonPath, Selects, builtin_functions, path_tree, with_rule_of, AreLinesIn, IsLineOfEach, Form, Json, Count, Nothing, Output, chosen, once, up_to, Adds, Answered, FilledNodes, KeepsRest, FunctionSet, IsAnswer, IsAnswerOn, IsAsked, IsCountIn, AreEach, Counts, OnlyNotes, OnlyWrites, Writes, IfErr, IfOk, Ok, Err, OnOk, Result, Outcome, ShowsAs, Showing, Streams, String, Global, Written, has_counts, has_lines, is_array, is_plain, shows_lines, zero, [], ◌∷◌, ◌++◌, ◌+◌, suc, append-nil, append_assoc, get_or, length-map, length-take-le, map, take, take_all, ◌<◌, ◌≤◌}
 use Rattle.jpq_program.proofs.Nodes.{adds_both, adds_nothing, appends_nothing, further_mapped}
 
 lines_in : (form : Form) (output : Output) (head : List ℕ) (ns : List Located) (text : List ℕ) → has_lines form ≡ true → IsLineOfEach output head ns text → AreLinesIn form output head ns text
@@ -21,10 +21,16 @@ pub was_right : {W E : Type 0} (after : Written W E) (kept : Streams W E) (befor
     → kept.outcome.refused ≡ false → before.streams.now.outcome.refused ≡ false
 was_right {W} {E} after kept before rest is refused = sym (ap (λ (o : Outcome). o.refused) rest.outcome) ∙ sym (ap (λ (s : Streams W E). s.outcome.refused) is) ∙ refused
 
+-- what a path shows of the value that is asked, it shows of the document
+pub shown_of_asked : (output : Output) (bytes : List ℕ) (value asked : Data) (path : JsonPath) (F : FunctionSet) (head text : List ℕ) (any : Bool) → ShowsAs output bytes value path → IsAsked bytes value asked
+    → IsAnswer F path output head asked text any → IsAnswerOn F path output head bytes text any
+shown_of_asked output bytes value asked path F head text any shows (inl same) is = shows F head text any (subst (λ (d : Data). IsAnswer F path output head d text any) same is)
+shown_of_asked output bytes value asked path F head text any shows (inr reads) is = (asked, reads, is)
+
 -- a path was answered: the lines of its result were written
-pub path_answered : {W E : Type 0} (contents : W → Option (List ℕ)) (path : JsonPath) (bytes : List ℕ) (value : Data) (before after : Written W E) (kept : Streams W E) (nodes : List Located)
-    → before.count ≡ 0 → after.stop ≡ None → before.limit ≡ before.showing.now.output.most → ShowsAs before.showing.now.output bytes value path
-    → Selects (with_rule_of path builtin_functions) (path_tree path) value nodes → FilledNodes contents before (once before.showing.now.output.unique nodes) after
+pub path_answered : {W E : Type 0} (contents : W → Option (List ℕ)) (path : JsonPath) (bytes : List ℕ) (value asked : Data) (before after : Written W E) (kept : Streams W E) (nodes : List Located)
+    → before.count ≡ 0 → after.stop ≡ None → before.limit ≡ before.showing.now.output.most → ShowsAs before.showing.now.output bytes value path → IsAsked bytes value asked
+    → Selects (with_rule_of path builtin_functions) (path_tree path) asked nodes → FilledNodes contents before (once before.showing.now.output.unique nodes) after
     → shows_lines before.showing.now ≡ true
     → kept ≡ record after.streams.now {
       outcome = record after.streams.now.outcome { selected = after.streams.now.outcome.selected || nat_lt 0 after.count };
@@ -33,7 +39,7 @@ pub path_answered : {W E : Type 0} (contents : W → Option (List ℕ)) (path : 
     }
     → kept.left ≡ None → kept.outcome.refused ≡ false
     → Answered contents (IsAnswerOn builtin_functions path before.showing.now.output before.head.now bytes) before.streams.now kept
-path_answered {W} {E} contents path bytes value before after kept nodes none stopped limit shows selects filled plain is left refused =
+path_answered {W} {E} contents path bytes value asked before after kept nodes none stopped limit shows of selects filled plain is left refused =
     let output = before.showing.now.output in
     let shown = once output.unique nodes in
     let these : up_to before.limit shown ≡ chosen output nodes = ap (λ l. up_to l shown) limit in
@@ -43,7 +49,7 @@ path_answered {W} {E} contents path bytes value before after kept nodes none sto
     record {
       text = lines.0;
       any = any;
-      is = shows builtin_functions before.head.now lines.0 any (nodes, selects, lines_in output.form output before.head.now (chosen output nodes) lines.0 (second (is_plain before.showing.now) (has_lines output.form) plain) line_of_each, refl);
+      is = shown_of_asked output bytes value asked path builtin_functions before.head.now lines.0 any shows of (nodes, selects, lines_in output.form output before.head.now (chosen output nodes) lines.0 (second (is_plain before.showing.now) (has_lines output.form) plain) line_of_each, refl);
       writes = subst (λ out. Adds (contents before.streams.now.out) (string_bytes before.streams.now.pending) (contents out) (string_bytes kept.pending) lines.0) (sym (ap (λ (s : Streams W E). s.out) is))
           (subst (λ pending. Adds (contents before.streams.now.out) (string_bytes before.streams.now.pending) (contents after.streams.now.out) (string_bytes pending) lines.0) (sym (ap (λ (s : Streams W E). s.pending) is)) lines.2);
       selected = ap (λ (s : Streams W E). s.outcome.selected) is
@@ -69,17 +75,18 @@ says_any Nothing (n ∷ ns) (suc count) is = some count ∙ sym (some (length ns
 says_any _ ns count is = ap (nat_lt 0) is
 
 -- a path was answered: what is shown of its result is pending
-pub path_counted : {W E : Type 0} (contents : W → Option (List ℕ)) (path : JsonPath) (output : Output) (head bytes : List ℕ) (value : Data) (limit : Option ℕ) (empty appended : List ℕ) (count : ℕ) (before now : Streams W E)
-    → limit ≡ output.most → empty ≡ [] → Counts builtin_functions path (record output { most = limit }) head value empty appended count → ShowsAs output bytes value path
+pub path_counted : {W E : Type 0} (contents : W → Option (List ℕ)) (path : JsonPath) (output : Output) (head bytes : List ℕ) (value asked : Data) (limit : Option ℕ) (empty appended : List ℕ) (count : ℕ) (before now : Streams W E)
+    → limit ≡ output.most → empty ≡ [] → IsAsked bytes value asked → Counts builtin_functions path (record output { most = limit }) head asked empty appended count → ShowsAs output bytes value path
     → now.out ≡ before.out → string_bytes now.pending ≡ string_bytes before.pending ++ appended → now.outcome ≡ record before.outcome { selected = before.outcome.selected || nat_lt 0 count }
     → now.left ≡ None → now.outcome.refused ≡ false → Answered contents (IsAnswerOn builtin_functions path output head bytes) before now
-path_counted {W} {E} contents path output head bytes value limit empty appended count before now most none counts shows out pending outcome left refused =
+path_counted {W} {E} contents path output head bytes value asked limit empty appended count before now most none of counts shows out pending outcome left refused =
     let shown = counts.0 in
     let is : appended ≡ shown = counts.2 ∙ ap (λ (e : List ℕ). e ++ shown) none in
     record {
       text = shown;
       any = nat_lt 0 count;
-      is = shows builtin_functions head shown (nat_lt 0 count) (subst (λ (l : Option ℕ). IsAnswer builtin_functions path (record output { most = l }) head value shown (nat_lt 0 count)) most counts.1);
+      is = shown_of_asked output bytes value asked path builtin_functions head shown (nat_lt 0 count) shows of
+          (subst (λ (l : Option ℕ). IsAnswer builtin_functions path (record output { most = l }) head asked shown (nat_lt 0 count)) most counts.1);
       writes = subst (λ (o : W). Adds (contents before.out) (string_bytes before.pending) (contents o) (string_bytes now.pending) shown) (sym out)
           ([], appends_nothing (contents before.out), ap (λ (t : List ℕ). string_bytes before.pending ++ t) (sym is) ∙ sym pending);
       selected = ap (λ (o : Outcome). o.selected) outcome;
@@ -242,6 +249,11 @@ counts_no_array _ has = refl
 pub if_both : {A E : Type 0} (r : Result A E) (P Q R : Type 0) → OnOk r P → OnOk r Q → (P → Q → R) → OnOk r R
 if_both (Ok x) P Q R p q step = step p q
 if_both (Err e) P Q R p q step = tt
+
+-- what is so of each error
+pub of_any_error : {A E : Type 0} (r : Result A E) (P : E → Type 0) → ((e : E) → P e) → IfErr r P
+of_any_error (Ok x) P all = tt
+of_any_error (Err e) P all = all e
 
 pub of_ok : {A E : Type 0} (P : A → Type 0) (r : Result A E) (x : A) → r ≡ Ok x → IfOk r P → P x
 of_ok {A} {E} P r x is holds = subst (λ (r : Result A E). IfOk r P) is holds

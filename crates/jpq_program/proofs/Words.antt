@@ -1,10 +1,10 @@
 -- The words of definitions and lemmas that proofs cite, from one place.
-pub use Rattle.jpq_program.specs.Answers.{AreAnswersOn, AreEach, CallsNoPattern, IsAnswer, IsAnswerOn}
+pub use Rattle.jpq_program.specs.Answers.{AreAnswersOn, AreEach, IsAnswer, IsAnswerOn}
 pub use Rattle.jpq_program.specs.Heads.{head_text}
 pub use Rattle.jpq_program.specs.Inputs.{AreInputsShown, AreKnown, IsInputShown, IsLineShown, IsNamedShown, Shown, lines_of, is_blank, with_byte, without_mark}
 pub use Rattle.jpq_program.specs.declared.asked_path.AskedPath.{AskedPath}
-pub use Rattle.jpq_program.specs.Inside.{Adds, Answered, AreAnswerable, Counts, FilledNodes, IsFailure, IsPlain, IsReadIn, KeepsRest, OnlyNotes, OnlyTells, OnlyWrites, Reads, Sends, ShowsAs, Tells, TookNodes, Writes, WritesLines, WritesNode, has_counts, has_lines, head_by, heads_in, is_array, is_plain, is_plain_answer, shown_by, shows_lines, shows_places, status_after, status_of, told_after}
-pub use Rattle.jpq_program.specs.Run.{AreFree, ArePaths, ComesOf, IsAnswered, IsPathOf, IsPlainRun, IsPrinted, IsShownFor, IsStatusOf, LacksMemory, form_in, is_each, names_in, output_in, rule_in}
+pub use Rattle.jpq_program.specs.Inside.{Adds, Answered, AreShownAs, Counts, FilledNodes, IsAsked, IsFailure, IsPlain, IsReadIn, KeepsRest, OnlyNotes, OnlyTells, OnlyWrites, Reads, Sends, ShowsAs, Tells, TookNodes, Writes, WritesLines, WritesNode, has_counts, has_lines, head_by, heads_in, is_array, is_plain, is_plain_answer, shown_by, shows_lines, shows_places, status_after, status_of, told_after}
+pub use Rattle.jpq_program.specs.Run.{ArePaths, IsCheckRun, IsChecked, canonical_lines, ComesOf, IsAnswered, IsPathOf, IsPlainRun, IsPrinted, IsShownFor, IsStatusOf, LacksMemory, form_in, is_each, names_in, output_in, rule_in}
 pub use Rattle.jpq_options.specs.Options.{is_table}
 pub use Rattle.jpq_options.specs.declared.options.Shown.{Shown as OptionShown}
 pub use Rattle.jpq_options.specs.declared.options.Shown.TheVariants.{Nodes}
@@ -31,7 +31,7 @@ pub use Rattle.jsonpath_lines.specs.Inside.{once}
 pub use Rattle.std.specs.Prelude.{Err, IfErr, OnOk, Result, String, Vec, codes, ◌≤◌}
 pub use Rattle.std.specs.declared.alloc.Global.{Global}
 pub use Rattle.serde_json_path_nodes.proofs.Words.{IfOk, IfOk-weaker, Ok, cases_Bool, first_places}
-pub use Rattle.serde_json_path_core.proofs.Words.{rest}
+pub use Rattle.serde_json_path_core.specs.Walks.{document_of, query_of, rest, set_of, steps_of}
 pub use Rattle.jsonpath_lines.proofs.Words.{Appends-trans, Bool, IsLine, IsLineOfEach, List, Located, None, Option, Some, [], ap, append-nil, append_assoc, arith, common_steps, false, is_reached, length, length-append, located, nat_tests, refl, string_bytes, subst, sym, true, up_to, ℕ, ◌++◌, ◌+◌, ◌∙◌, ◌∷◌, ◌≡◌}
 pub use Rattle.jsonpath_lines.specs.Output.{AreLines, AreLinesIn, IsCountIn, IsText, chosen, end_text}
 pub use Rattle.jsonpath_lines.specs.declared.forms.Layout.{Layout}
@@ -41,6 +41,7 @@ pub use Rattle.jsonpath_lines.specs.declared.forms.Output.{Output}
 pub use Rattle.serde_json.specs.Data.{Data}
 pub use Rattle.serde_json.specs.View.{view}
 pub use Rattle.serde_json_path.specs.Paths.{path_tree, with_rule_of}
+pub use Rattle.serde_json_path_syntax.specs.Text.{query_text}
 pub use Rattle.serde_json_path.specs.declared.path.JsonPath.{JsonPath}
 pub use Rattle.serde_json_path_core.specs.Selects.{Selects}
 pub use Rattle.serde_json_path_functions.specs.Patterns.{builtin_functions}

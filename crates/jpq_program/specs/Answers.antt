@@ -3,17 +3,12 @@ use Rattle.std.specs.Prelude.{◌≡◌, ◌+◌, ◌||◌, nat_lt, ℕ, Bool, f
 use Rattle.serde_json.specs.Data.{Data}
 use Rattle.serde_json_path_nodes.specs.Location.{Located}
 use Rattle.serde_json_path_functions.specs.Functions.{FunctionSet}
-use Rattle.serde_json_path_core.specs.PatternCalls.{CallsByPattern}
 use Rattle.serde_json_path_core.specs.Selects.{Selects}
 use Rattle.serde_json_path.specs.Paths.{path_tree, with_rule_of}
 use Rattle.serde_json_path.specs.declared.path.JsonPath.{JsonPath}
 use Rattle.jsonpath_document.specs.Document.{ReadsAs}
 use Rattle.jsonpath_lines.specs.Output.{AreLines, chosen}
 use Rattle.jsonpath_lines.specs.declared.forms.Output.{Output}
-
--- the path calls by no pattern that `regex` reads, whatever the document
-abbrev pub CallsNoPattern : FunctionSet → JsonPath → Type 0
-CallsNoPattern F path = (d : Data) → CallsByPattern (with_rule_of path F) d (path_tree path) → ⊥
 
 -- what is shown of the path's result on a document, after a head, and whether a node is
 abbrev pub IsAnswer : FunctionSet → JsonPath → Output → List ℕ → Data → List ℕ → Bool → Type 0

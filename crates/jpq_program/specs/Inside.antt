@@ -1,5 +1,5 @@
 -- What contracts of private functions cite alone.
-use Rattle.std.specs.Prelude.{◌≡◌, ◌+◌, ◌<◌, get_or, ◌⊎◌, Err, Ok, Result, codes, if◌then◌else◌, ℕ, Bool, true, false, not, ◌&&◌, ◌||◌, List, [], ◌∷◌, ◌++◌, map, MatchBool, Option, None, Some, IfSome, length, is_some, nat_lt, string_bytes}
+use Rattle.std.specs.Prelude.{◌≡◌, ◌+◌, ◌<◌, get_or, ◌⊎◌, Err, Ok, Result, codes, if◌then◌else◌, ℕ, Bool, true, false, not, ◌&&◌, ◌||◌, List, [], ◌∷◌, ◌++◌, map, MatchBool, Option, None, IfSome, length, is_some, nat_lt, string_bytes}
 use Rattle.std.specs.Io.KnownBytes.{Appends}
 use Rattle.serde_json_path_nodes.specs.Location.{Located}
 use Rattle.jsonpath_lines.specs.Inside.{is_reached}
@@ -17,7 +17,8 @@ use Rattle.serde_json_path_syntax.specs.Tree.{Query}
 use Rattle.serde_json_path_functions.specs.Functions.{FunctionSet}
 use Rattle.serde_json_path_functions.specs.Patterns.{builtin_functions}
 use Rattle.jpq_options.specs.Options.{is_table}
-use Rattle.jpq_program.specs.Answers.{AreAnswersOn, CallsNoPattern, IsAnswer, IsAnswerOn}
+use Rattle.jsonpath_document.specs.Document.{ReadsAs}
+use Rattle.jpq_program.specs.Answers.{AreAnswersOn, IsAnswer, IsAnswerOn}
 use Rattle.jpq_program.specs.Heads.{head_text}
 use Rattle.jpq_program.specs.Inputs.{Shown}
 use Rattle.jpq_program.specs.Run.{has_names, has_numbers}
@@ -92,10 +93,14 @@ abbrev pub ShowsAs : Output → List ℕ → Data → JsonPath → Type 0
 ShowsAs output bytes value path = (F : FunctionSet) (head text : List ℕ) (any : Bool)
     → IsAnswer F path output head value text any → IsAnswerOn F path output head bytes text any
 
--- none of some paths calls by a pattern, and what they show of a value they show of the document that the bytes are
-abbrev pub AreAnswerable : Output → List ℕ → Data → List AskedPath → Type 0
-AreAnswerable output bytes value paths = (i : ℕ) (path : AskedPath) → i < length paths → path ≡ get_or paths i path
-    → CallsNoPattern builtin_functions path.path × ShowsAs output bytes value path.path
+-- the same of some paths
+abbrev pub AreShownAs : Output → List ℕ → Data → List AskedPath → Type 0
+AreShownAs output bytes value paths = (i : ℕ) (path : AskedPath) → i < length paths → path ≡ get_or paths i path
+    → ShowsAs output bytes value path.path
+
+-- the value that is asked: what was read of a document, or, where a pattern is refused there, the document that the bytes are
+abbrev pub IsAsked : List ℕ → Data → Data → Type 0
+IsAsked bytes value asked = (asked ≡ value) ⊎ ReadsAs bytes asked
 
 -- ---- how a run ends
 
@@ -180,10 +185,9 @@ shows_places _ = false
 abbrev pub IsReadIn : Bool → List ℕ → List Query → Data → Type 0
 IsReadIn places bytes queries value = MatchBool places (IsReadForPlaces bytes queries value) (IsReadFor bytes queries value)
 
--- the paths call by no pattern, their answers are plain, and documents are read for them
+-- answers are plain, and documents are read for the paths
 pub record IsPlain (documents : Documents) : Type 0 where
   pub answer : is_plain_answer documents.answering ≡ true
-  pub free : (i : ℕ) (path : AskedPath) → i < length documents.answering.paths.now → path ≡ get_or documents.answering.paths.now i path → CallsNoPattern builtin_functions path.path
   pub read : IfSome documents.reader (λ reader. Keeps reader (shows_places documents.answering.showing.output.form)
       (map (λ (path : AskedPath). path_tree path.path) documents.answering.paths.now))
 

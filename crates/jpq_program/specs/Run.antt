@@ -1,11 +1,12 @@
 -- What comes of a run: the exit status, what went out, and what was told.
 use Rattle.std.specs.List.{AllZip}
-use Rattle.std.specs.Prelude.{◌≡◌, ◌≢◌, ◌<◌, ◌≤◌, ◌⊎◌, ◌&&◌, ◌||◌, not, ℕ, Bool, true, false, List, [], ◌∷◌, get_or, length, map, nat_eq, nat_lt, Option, None, Ok, codes, if◌then◌else◌, string_bytes}
+use Rattle.std.specs.Prelude.{◌≡◌, ◌≢◌, ◌≤◌, ◌⊎◌, ◌&&◌, ◌||◌, not, ℕ, Bool, true, false, List, [], ◌∷◌, ◌++◌, length, map, nat_eq, nat_lt, Option, None, Ok, codes, if◌then◌else◌, string_bytes}
 use Rattle.std.specs.Io.KnownBytes.{Appends}
 use Rattle.serde_json_path_functions.specs.Functions.{Numbers, all_numbers, whole_numbers}
 use Rattle.serde_json_path_functions.specs.Patterns.{builtin_functions}
+use Rattle.serde_json_path_syntax.specs.Text.{query_text}
 use Rattle.serde_json_path_parser.specs.Parse.{IsParseOf}
-use Rattle.serde_json_path.specs.Paths.{path_view}
+use Rattle.serde_json_path.specs.Paths.{path_tree, path_view}
 use Rattle.serde_json_path.specs.declared.path.JsonPath.{JsonPath}
 use Rattle.jsonpath_lines.specs.Sent.{AppendsBeginning}
 use Rattle.jsonpath_lines.specs.declared.forms.Form.{Form}
@@ -18,7 +19,7 @@ use Rattle.jpq_options.specs.declared.options.Request.{Request}
 use Rattle.jpq_options.specs.declared.options.Request.TheVariants.{Run, Print, WrongUse}
 use Rattle.jpq_options.specs.declared.options.Shown.{Shown}
 use Rattle.jpq_options.specs.declared.options.Shown.TheVariants.{Nodes}
-use Rattle.jpq_program.specs.Answers.{AreAnswersOn, CallsNoPattern}
+use Rattle.jpq_program.specs.Answers.{AreAnswersOn}
 use Rattle.jpq_program.specs.Heads.{head_text}
 use Rattle.jpq_program.specs.Inputs.{AreInputsShown, AreKnown}
 use Rattle.jpq_program.specs.declared.streams.Streams.{Streams}
@@ -94,18 +95,39 @@ pub record IsPlainRun (options : Options) (taken : Bool) : Type 0 where
   pub paths_files : options.paths_files.items ≡ []
   pub check : options.check ≡ false
 
--- none of some paths calls by a pattern that `regex` reads
-abbrev pub AreFree : List JsonPath → Type 0
-AreFree paths = (i : ℕ) (path : JsonPath) → i < length paths → path ≡ get_or paths i path → CallsNoPattern builtin_functions path
-
 -- What comes of such a run in which nothing is refused and no writing fails, where the bytes of the inputs are known: what is shown of
--- them for the paths went out, and nothing else, and the status says whether a node is shown. No path calls by a pattern.
+-- them for the paths went out, and nothing else, and the status says whether a node is shown.
 pub record IsAnswered {W : Type 0} (contents : W → Option (List ℕ)) (bytes_of : List ℕ → Option (List ℕ)) (options : Options) (before after : W) (status : ℕ) : Type 0 where
   pub paths : List JsonPath
   pub are : ArePaths (rule_in options) (map (λ text. text.now) options.paths.items) paths
-  pub shown : AreFree paths → (text : List ℕ) × (any : Bool)
-      × AreInputsShown (IsShownFor options paths) options.lines bytes_of (names_in options) text any
-      × Appends (contents before) (contents after) text × (status ≡ (if any then 0 else 1))
+  pub text : List ℕ
+  pub any : Bool
+  pub shown : AreInputsShown (IsShownFor options paths) options.lines bytes_of (names_in options) text any
+  pub out : Appends (contents before) (contents after) text
+  pub ends : status ≡ (if any then 0 else 1)
+
+-- ---- paths that are only checked
+
+-- The paths are only checked: they are words alone, in which no values are bound to names, and no form of lines is asked for but those
+-- of nodes.
+pub record IsCheckRun (options : Options) : Type 0 where
+  pub check : options.check ≡ true
+  pub each : is_each options.shown ≡ true
+  pub bindings : options.bindings.items ≡ []
+  pub paths_files : options.paths_files.items ≡ []
+
+-- each path in its canonical form, in a line of its own
+abbrev pub canonical_lines : List JsonPath → List ℕ
+canonical_lines [] = []
+canonical_lines (path ∷ paths) = query_text (path_tree path) ++ (codes "\n" ++ canonical_lines paths)
+
+-- What comes of such a run in which nothing is refused and no writing fails: these lines went out, and nothing else. No input is opened.
+pub record IsChecked {I W : Type 0} (contents : W → Option (List ℕ)) (options : Options) (inputs later : I) (before after : W) (status : ℕ) : Type 0 where
+  pub paths : List JsonPath
+  pub are : ArePaths (rule_in options) (map (λ text. text.now) options.paths.items) paths
+  pub out : Appends (contents before) (contents after) (canonical_lines paths)
+  pub unopened : later ≡ inputs
+  pub ends : status ≡ 0
 
 -- ---- what is printed
 
@@ -125,6 +147,7 @@ ComesOf out err bytes_of taken (WrongUse kind text) inputs later before after st
 ComesOf out err bytes_of taken (Print text) inputs later before after status = (later ≡ inputs) × IsPrinted out err (string_bytes text) before after status
 ComesOf out err bytes_of taken (Run options) inputs later before after status = IsStatusOf options status
     × (IsPlainRun options taken → AreKnown bytes_of (names_in options) → status ≤ 1 → IsAnswered out bytes_of options before.out after.out status)
+    × (IsCheckRun options → status ≤ 1 → IsChecked out options inputs later before.out after.out status)
 
 -- memory for the words was refused: no input is opened, nothing goes out, and that is told
 abbrev pub LacksMemory : {I W E : Type 0} → (E → Option (List ℕ)) → I → I → Streams W E → Streams W E → ℕ → Type 0

@@ -3,15 +3,17 @@
 ghost use Rattle.std.specs.Prelude.{◌≡◌, ◌||◌, [], List, None, IfErr, IfOk, OnOk, false, map, nat_lt, string_bytes, true};
 ghost use Rattle.serde_json_path_nodes.specs.Views.{located};
 ghost use Rattle.serde_json_path_functions.specs.Patterns.{builtin_functions};
+ghost use Rattle.serde_json.specs.Data.{Data};
 ghost use Rattle.serde_json_path_core.specs.Inside.Words.{view, Located, OnlyMemoryOrPattern, Selects};
 ghost use Rattle.serde_json_path.specs.Paths.{path_tree, with_rule_of};
-ghost use Rattle.jsonpath_lines.specs.Inside.{is_reached, once};
-ghost use Rattle.jpq_program.specs.Answers.{AreAnswersOn, CallsNoPattern, IsAnswerOn};
-ghost use Rattle.jpq_program.specs.Inside.{Answered, AreAnswerable, Counts, FilledNodes, OnlyNotes, Sends, ShowsAs, has_counts, head_by, is_array, is_plain_answer, shown_by, shows_lines};
+ghost use Rattle.jsonpath_lines.specs.Inside.{once};
+ghost use Rattle.jpq_program.specs.Answers.{AreAnswersOn, IsAnswerOn};
+ghost use Rattle.jpq_program.specs.Inside.{Answered, AreShownAs, Counts, FilledNodes, IsAsked, OnlyNotes, Sends, ShowsAs, TookNodes, has_counts, head_by, is_array, is_plain_answer, shown_by, shows_lines};
 
 use crate::answers::push_answer;
 use crate::asked_path::AskedPath;
 use crate::inexact::inexact_number;
+use crate::meant::has_children;
 use crate::showing::{Showing, end_of};
 use crate::source::{Heads, Source, shown_name};
 use crate::streams::{Next, Stop, Streams};
@@ -61,28 +63,7 @@ fn least(one: Option<u64>, other: Option<u64>) -> Option<u64>
 }
 
 impl Answering<'_> {
-    /// Writes nodes, as many as are wanted.
-    fn write_each<W: Write, E: Write>(
-        &self,
-        nodes: &[LocatedNode<'_>],
-        written: &mut Written<'_, '_, '_, '_, W, E>,
-    ) -> Result<(), QueryError>
-        requires none { written.old.count ≡ 0 }
-        requires goes_on { written.old.stop ≡ None }
-        requires below { is_reached written.old.limit 0 ≡ false }
-        ensures filled { IfOk result (λ _.
-            FilledNodes W.contents written.old (map located nodes.now) written.new) }
-        ensures refused { IfErr result (λ e. e ≡ QueryError.Memory) }
-    {
-        for node in nodes {
-            if !written.take_node(node)? {
-                return Ok(());
-            }
-        }
-        Ok(())
-    }
-
-    /// Writes the nodes of a path, as they are found.
+    /// Writes the nodes of a path, as they are found. Where the query is refused, those before are written.
     fn write_nodes<W: Write, E: Write>(
         &self,
         path: &AskedPath,
@@ -96,6 +77,8 @@ impl Answering<'_> {
             (view document.now) nodes
             × FilledNodes W.contents written.old (once self.now.showing.output.unique nodes)
             written.new) }
+        ensures before { IfErr result (λ e. e ≡ QueryError.Pattern → (nodes : List Located)
+            × TookNodes W.contents written.old nodes written.new) }
         ensures refused { OnlyMemoryOrPattern (with_rule_of path.now.path builtin_functions)
             (path_tree path.now.path) (view document.now) result }
     {
@@ -105,10 +88,9 @@ impl Answering<'_> {
         }
         if self.showing.output.unique {
             let nodes = distinct_nodes(self.alloc, written.limit, walk)?;
-            return self.write_each(&nodes, written);
+            return written.take_each(&nodes);
         }
-        walk.feed(written)?;
-        Ok(())
+        written.take_rest(self.alloc, walk)
     }
 
     /// The same of a document. Where a pattern is refused before a node is written, the whole document is asked, so that what is
@@ -121,10 +103,10 @@ impl Answering<'_> {
     ) -> Result<(), QueryError>
         requires none { written.old.count ≡ 0 }
         requires goes_on { written.old.stop ≡ None }
-        ensures { IfOk result (λ _. CallsNoPattern builtin_functions path.now.path
-            → (nodes : List Located)
+        ensures { IfOk result (λ _. (d : Data) × (nodes : List Located)
+            × IsAsked document.entry.bytes.now (view document.entry.value.now) d
             × Selects (with_rule_of path.now.path builtin_functions) (path_tree path.now.path)
-            (view document.entry.value.now) nodes
+            d nodes
             × FilledNodes W.contents written.old (once self.now.showing.output.unique nodes)
             written.new) }
     {
@@ -186,11 +168,10 @@ impl Answering<'_> {
         is_later: bool,
         streams: &mut Streams<W, E>,
     ) -> Result<bool, Stop>
-        ensures right { IfOk result (λ _. CallsNoPattern builtin_functions path.now.path
-            → streams.new.outcome.refused ≡ false → streams.old.outcome.refused ≡ false) }
-        ensures answered { IfOk result (λ _. CallsNoPattern builtin_functions path.now.path
-            → ShowsAs self.now.showing.output document.entry.bytes.now
-            (view document.entry.value.now) path.now.path
+        ensures right { IfOk result (λ _.
+            streams.new.outcome.refused ≡ false → streams.old.outcome.refused ≡ false) }
+        ensures answered { IfOk result (λ _. ShowsAs self.now.showing.output
+            document.entry.bytes.now (view document.entry.value.now) path.now.path
             → shows_lines self.now.showing ≡ true → streams.old.left ≡ None
             → streams.new.outcome.refused ≡ false
             → Answered W.contents (IsAnswerOn builtin_functions path.now.path
@@ -224,10 +205,9 @@ impl Answering<'_> {
         document: Document<'_>,
         streams: &mut Streams<W, E>,
     ) -> Result<(), Stop>
-        ensures right { IfOk result (λ _. AreAnswerable self.now.showing.output
-            document.entry.bytes.now (view document.entry.value.now) self.now.paths.now
-            → streams.new.outcome.refused ≡ false → streams.old.outcome.refused ≡ false) }
-        ensures answered { IfOk result (λ _. AreAnswerable self.now.showing.output
+        ensures right { IfOk result (λ _.
+            streams.new.outcome.refused ≡ false → streams.old.outcome.refused ≡ false) }
+        ensures answered { IfOk result (λ _. AreShownAs self.now.showing.output
             document.entry.bytes.now (view document.entry.value.now) self.now.paths.now
             → shows_lines self.now.showing ≡ true → streams.old.left ≡ None
             → streams.new.outcome.refused ≡ false
@@ -306,10 +286,11 @@ impl Answering<'_> {
         document: Document<'_>,
         text: &mut String,
     ) -> Result<u64, QueryError>
-        ensures { IfOk result (λ count. CallsNoPattern builtin_functions path.now.path
-            → Counts builtin_functions path.now.path
+        ensures { IfOk result (λ count. (d : Data)
+            × IsAsked document.entry.bytes.now (view document.entry.value.now) d
+            × Counts builtin_functions path.now.path
             (record self.now.showing.output { most = limit }) head.now
-            (view document.entry.value.now) (string_bytes text.old) (string_bytes text.new) count) }
+            d (string_bytes text.old) (string_bytes text.new) count) }
     {
         match self.count(path, head, limit, document.value, text) {
             Err(QueryError::Pattern) => match read_document(self.alloc, document.bytes) {
@@ -330,9 +311,8 @@ impl Answering<'_> {
     ) -> Result<(), Stop>
         ensures right { IfOk result (λ _.
             streams.new.outcome.refused ≡ false → streams.old.outcome.refused ≡ false) }
-        ensures answered { IfOk result (λ _. CallsNoPattern builtin_functions path.now.path
-            → ShowsAs self.now.showing.output document.entry.bytes.now
-            (view document.entry.value.now) path.now.path
+        ensures answered { IfOk result (λ _. ShowsAs self.now.showing.output
+            document.entry.bytes.now (view document.entry.value.now) path.now.path
             → self.now.total ≡ false → streams.old.left ≡ None
             → streams.new.outcome.refused ≡ false
             → Answered W.contents (IsAnswerOn builtin_functions path.now.path
@@ -360,7 +340,7 @@ impl Answering<'_> {
     ) -> Result<(), Stop>
         ensures right { IfOk result (λ _.
             streams.new.outcome.refused ≡ false → streams.old.outcome.refused ≡ false) }
-        ensures answered { IfOk result (λ _. AreAnswerable self.now.showing.output
+        ensures answered { IfOk result (λ _. AreShownAs self.now.showing.output
             document.entry.bytes.now (view document.entry.value.now) self.now.paths.now
             → has_counts self.now.showing.output.form ≡ true → self.now.total ≡ false
             → streams.old.left ≡ None → streams.new.outcome.refused ≡ false
@@ -412,11 +392,9 @@ impl Answering<'_> {
         document: Document<'_>,
         streams: &mut Streams<W, E>,
     ) -> Result<Next, Stop>
-        ensures right { IfOk result (λ _. AreAnswerable self.now.showing.output
-            document.entry.bytes.now (view document.entry.value.now) self.now.paths.now
-            → is_plain_answer self.now ≡ true
+        ensures right { IfOk result (λ _. is_plain_answer self.now ≡ true
             → streams.new.outcome.refused ≡ false → streams.old.outcome.refused ≡ false) }
-        ensures answered { IfOk result (λ next. AreAnswerable self.now.showing.output
+        ensures answered { IfOk result (λ next. AreShownAs self.now.showing.output
             document.entry.bytes.now (view document.entry.value.now) self.now.paths.now
             → is_plain_answer self.now ≡ true → streams.old.left ≡ None
             → streams.new.outcome.refused ≡ false
@@ -441,11 +419,9 @@ impl Answering<'_> {
         document: Document<'_>,
         streams: &mut Streams<W, E>,
     ) -> Result<(), Stop>
-        ensures right { IfOk result (λ _. AreAnswerable self.now.showing.output
-            document.entry.bytes.now (view document.entry.value.now) self.now.paths.now
-            → is_plain_answer self.now ≡ true
+        ensures right { IfOk result (λ _. is_plain_answer self.now ≡ true
             → streams.new.outcome.refused ≡ false → streams.old.outcome.refused ≡ false) }
-        ensures answered { IfOk result (λ _. AreAnswerable self.now.showing.output
+        ensures answered { IfOk result (λ _. AreShownAs self.now.showing.output
             document.entry.bytes.now (view document.entry.value.now) self.now.paths.now
             → is_plain_answer self.now ≡ true → streams.old.left ≡ None
             → streams.new.outcome.refused ≡ false
@@ -465,11 +441,9 @@ impl Answering<'_> {
         document: Document<'_>,
         streams: &mut Streams<W, E>,
     ) -> Result<(), Stop>
-        ensures right { IfOk result (λ _. AreAnswerable self.now.showing.output
-            document.entry.bytes.now (view document.entry.value.now) self.now.paths.now
-            → is_plain_answer self.now ≡ true
+        ensures right { IfOk result (λ _. is_plain_answer self.now ≡ true
             → streams.new.outcome.refused ≡ false → streams.old.outcome.refused ≡ false) }
-        ensures answered { IfOk result (λ _. AreAnswerable self.now.showing.output
+        ensures answered { IfOk result (λ _. AreShownAs self.now.showing.output
             document.entry.bytes.now (view document.entry.value.now) self.now.paths.now
             → is_plain_answer self.now ≡ true → streams.old.left ≡ None
             → streams.new.outcome.refused ≡ false
@@ -499,7 +473,7 @@ impl Answering<'_> {
         if may_be_inexact && self.shows_values() {
             self.tell_inexact(document, streams)?;
         }
-        if streams.total == 0 {
+        if streams.total == 0 && has_children(document.bytes) {
             self.note_reason(document.bytes, streams)?;
         }
         Ok(())

@@ -85,6 +85,13 @@ impl Documents<'_> {
         read_document(self.alloc, bytes)
     }
 
+    /// Frees a document, unless it is the only one.
+    fn release(&self, document: Value) {
+        if self.is_only {
+            forget(document);
+        }
+    }
+
     /// Answers the document of some bytes, or tells why they are none.
     fn answer_bytes<W: Write, E: Write>(
         &self,
@@ -109,9 +116,7 @@ impl Documents<'_> {
                     },
                     streams,
                 );
-                if self.is_only {
-                    forget(document);
-                }
+                self.release(document);
                 return answered;
             }
             Err(e) => e,

@@ -42,6 +42,15 @@ fn is_inexact(number: &str) -> bool {
     is_whole || significant_digits(number) > DIGITS
 }
 
+/// Whether a byte of a number stands in a place.
+#[inline(always)]
+fn has_number_at(bytes: &[u8], place: usize) -> bool {
+    match bytes.get(place) {
+        Some(byte) => is_of_number(*byte),
+        None => false,
+    }
+}
+
 /// Whether all of some bytes stand in numbers.
 fn are_of_numbers(bytes: &[u8]) -> bool {
     for byte in bytes {
@@ -52,13 +61,17 @@ fn are_of_numbers(bytes: &[u8]) -> bool {
     true
 }
 
-/// Whether a number around a place may have more than [`DIGITS`] bytes: then nine of them stand before the place, or after it.
+/// Whether a number around a place may have more than [`DIGITS`] bytes: then nine of them stand before the place, or after it. The
+/// farthest of these tells of most numbers that they are shorter.
 fn may_be_long(bytes: &[u8], index: usize) -> bool {
     const HALF: usize = DIGITS / 2 + 1;
-    let start = index.saturating_sub(HALF);
-    let end = index.saturating_add(HALF + 1);
-    bytes.get(index..end).is_some_and(are_of_numbers)
-        || (index >= HALF && bytes.get(start..index).is_some_and(are_of_numbers))
+    let (start, end) = (index.saturating_sub(HALF), index.saturating_add(HALF));
+    if has_number_at(bytes, end) && bytes.get(index..end).is_some_and(are_of_numbers) {
+        return true;
+    }
+    index >= HALF
+        && has_number_at(bytes, start)
+        && bytes.get(start..index).is_some_and(are_of_numbers)
 }
 
 /// The bytes around a place that may stand in a number, and how many stand before them.

@@ -14,6 +14,11 @@ use std::io::Write;
 /// Of how many documents it is asked.
 const DOCUMENTS: usize = 10;
 
+/// Whether a document may have children: of another, no path selects more than its root.
+pub(crate) fn has_children(document: &[u8]) -> bool {
+    matches!(document.trim_ascii_start().first(), Some(b'[' | b'{'))
+}
+
 impl Answering<'_> {
     /// Whether the path of a sign selects something from a document.
     fn has_sign(&self, sign: &Sign, numbers: Numbers, document: &Value) -> Result<bool, Stop> {

@@ -235,6 +235,8 @@ pub(crate) fn asked_paths<I: Inputs, W: Write, E: Write>(
 ) -> Result<Vec<AskedPath>, Stop>
     ensures same { IfOk result (λ _.
         (name : List ℕ) → I.bytes_of inputs.new name ≡ I.bytes_of inputs.old name) }
+    ensures unopened { IfOk result (λ _. options.now.paths_files.items ≡ []
+        → inputs.new ≡ inputs.old) }
     ensures told { IfOk result (λ _. streams.old.outcome.refused ≡ false
         → OnlyTells streams.old streams.new) }
     ensures read { IfOk result (λ paths. options.now.bindings.items ≡ []

@@ -1,6 +1,7 @@
 //! The program over its inputs and two writers.
 
-ghost use Rattle.std.specs.Prelude.{◌≡◌, ◌≤◌, ◌⊎◌, [], None, IfOk, IfSome, false, map, string_bytes, true};
+ghost use Rattle.std.specs.Prelude.{◌≡◌, ◌≤◌, ◌⊎◌, [], None, IfOk, IfSome, OnOk, false, map, string_bytes, true};
+ghost use Rattle.std.specs.Io.KnownBytes.{Appends};
 ghost use Rattle.serde_json_path.specs.Paths.{path_tree};
 ghost use Rattle.serde_json_path_reach.specs.Alike.{trees_of};
 ghost use Rattle.serde_json_path_reach.specs.Readers.{Keeps};
@@ -9,7 +10,7 @@ ghost use Rattle.jpq_options.specs.Options.{AsksFor};
 ghost use Rattle.jpq_options.specs.declared.options.Request as input;
 ghost use Rattle.jpq_program.specs.Inputs.{AreInputsShown, AreKnown};
 ghost use Rattle.jpq_program.specs.Inside.{IsPlain, OnlyTells, Sends, heads_in, shown_by, shows_places, status_after, status_of, told_after};
-ghost use Rattle.jpq_program.specs.Run.{AreFree, ComesOf, IsAnswered, IsPlainRun, IsPrinted, IsShownFor, LacksMemory, is_colored, is_each, names_in, output_in};
+ghost use Rattle.jpq_program.specs.Run.{ComesOf, IsAnswered, IsChecked, IsCheckRun, IsPlainRun, IsPrinted, IsShownFor, LacksMemory, canonical_lines, is_colored, is_each, names_in, output_in};
 
 use crate::answering::Answering;
 use crate::asked_path::AskedPath;
@@ -32,7 +33,13 @@ use std::alloc::{AllocError, Global};
 use std::io::Write;
 
 /// Writes each path in its canonical form.
-fn check<W: Write, E: Write>(paths: &[AskedPath], streams: &mut Streams<W, E>) -> Result<(), Stop> {
+fn check<W: Write, E: Write>(paths: &[AskedPath], streams: &mut Streams<W, E>) -> Result<(), Stop>
+    ensures out { string_bytes streams.old.pending ≡ [] → OnOk result
+        (Appends (W.contents streams.old.out) (W.contents streams.new.out)
+        (canonical_lines (map (λ path. path.path) paths.now))) }
+    ensures selected { OnOk result (streams.new.outcome
+        ≡ record streams.old.outcome { selected = true }) }
+{
     for path in paths {
         write!(streams.pending, "{}\n", path.path)?;
     }
@@ -297,7 +304,6 @@ fn answer_paths<I: Inputs, W: Write, E: Write>(
     streams: &mut Streams<W, E>,
 ) -> Result<Next, Stop>
     ensures { IfOk result (λ next. IsPlainRun options.now colours.entry.taken
-        → AreFree (map (λ path. path.path) paths.now)
         → streams.new.outcome.refused ≡ false → string_bytes streams.old.pending ≡ []
         → AreKnown (I.bytes_of inputs.old) (names_in options.now)
         → (next ≡ Next.More) × Sends W.contents (AreInputsShown (IsShownFor options.now
@@ -341,11 +347,16 @@ fn run_with<I: Inputs, W: Write, E: Write>(
     inputs: &mut I,
     streams: &mut Streams<W, E>,
 ) -> Result<Next, Stop>
-    ensures { IfOk result (λ _. IsPlainRun options.now colours.entry.taken
+    ensures answered { IfOk result (λ _. IsPlainRun options.now colours.entry.taken
         → streams.old.outcome ≡ record { selected = false; refused = false }
         → string_bytes streams.old.pending ≡ [] → streams.new.outcome.refused ≡ false
         → AreKnown (I.bytes_of inputs.old) (names_in options.now)
         → IsAnswered W.contents (I.bytes_of inputs.old) options.now
+        streams.old.out streams.new.out (status_of streams.new.outcome)) }
+    ensures checked { IfOk result (λ _. IsCheckRun options.now
+        → streams.old.outcome ≡ record { selected = false; refused = false }
+        → string_bytes streams.old.pending ≡ []
+        → IsChecked W.contents options.now inputs.old inputs.new
         streams.old.out streams.new.out (status_of streams.new.outcome)) }
 {
     let paths = asked_paths(alloc, options, inputs, streams)?;

@@ -1,17 +1,21 @@
 //! Nodes that are written as a walk gives them.
 
-ghost use Rattle.std.specs.Prelude.{◌≡◌, IfErr, IfOk, OnOk, string_bytes, true};
+ghost use Rattle.std.specs.Prelude.{◌≡◌, [], List, IfErr, IfOk, OnOk, map, string_bytes, true};
+ghost use Rattle.serde_json_path_nodes.specs.Location.{Located};
 ghost use Rattle.serde_json_path_nodes.specs.Views.{located};
+ghost use Rattle.serde_json_path_core.specs.Selects.{OnlyMemoryOrPattern};
+ghost use Rattle.serde_json_path_core.specs.Walks.{document_of, query_of, rest, set_of};
 ghost use Rattle.jsonpath_lines.specs.Inside.{Appends, is_reached};
 ghost use Rattle.jsonpath_lines.specs.Output.{IsLine};
-ghost use Rattle.jpq_program.specs.Inside.{Pends, WritesNode, shows_lines};
+ghost use Rattle.jpq_program.specs.Inside.{FilledNodes, Pends, TookNodes, WritesNode, shows_lines};
 
 use crate::inexact::may_be_inexact;
 use crate::showing::Showing;
 use crate::streams::{Stop, Streams};
 use jsonpath_lines::Form;
-use serde_json_path::{LocatedNode, QueryError, Sink, Taken};
-use std::alloc::AllocError;
+use serde_json_path::functions::CachedPatterns;
+use serde_json_path::{LocatedNode, QueryError, Walk};
+use std::alloc::{AllocError, Global};
 use std::io::Write;
 
 /// The nodes of a path as they are written.
@@ -73,20 +77,43 @@ impl<W: Write, E: Write> Written<'_, '_, '_, '_, W, E> {
         }
         Ok(!self.is_reached())
     }
-}
 
-impl<'b, W: Write, E: Write> Sink<'b> for Written<'_, '_, '_, '_, W, E> {
-    ghost use Rattle.jpq_program.specs.Inside.{FilledNodes, TookNodes};
-
-    ghost took = { TookNodes W.contents };
-
-    ghost filled = { FilledNodes W.contents };
-
-    #[inline(always)]
-    fn take(&mut self, node: LocatedNode<'b>) -> Result<Taken<'b>, QueryError> {
-        if self.take_node(&node)? {
-            return Ok(Taken::More(node.into_steps()));
+    /// Takes the nodes that remain of a walk, as many as are wanted. Where the query is refused, those before are written.
+    pub(crate) fn take_rest(
+        &mut self,
+        alloc: Global,
+        mut walk: Walk<'_, '_, &CachedPatterns<'_>>,
+    ) -> Result<(), QueryError>
+        requires { TookNodes W.contents self.old [] self.old }
+        ensures filled { IfOk result (λ _.
+            FilledNodes W.contents self.old (rest walk.entry) self.new) }
+        ensures before { IfErr result (λ e. e ≡ QueryError.Pattern → (nodes : List Located)
+            × TookNodes W.contents self.old nodes self.new) }
+        ensures refused { OnlyMemoryOrPattern (set_of walk.entry) (query_of walk.entry)
+            (document_of walk.entry) result }
+    {
+        let mut steps = Vec::new(alloc);
+        'nodes: while let Some(node) = walk.next_into(steps)? {
+            if !self.take_node(&node)? {
+                return Ok(());
+            }
+            steps = node.into_steps();
         }
-        Ok(Taken::Enough)
+        Ok(())
+    }
+
+    /// Takes some nodes, as many as are wanted.
+    pub(crate) fn take_each(&mut self, nodes: &[LocatedNode<'_>]) -> Result<(), QueryError>
+        requires { TookNodes W.contents self.old [] self.old }
+        ensures filled { IfOk result (λ _.
+            FilledNodes W.contents self.old (map located nodes.now) self.new) }
+        ensures refused { IfErr result (λ e. e ≡ QueryError.Memory) }
+    {
+        for node in nodes {
+            if !self.take_node(node)? {
+                return Ok(());
+            }
+        }
+        Ok(())
     }
 }

@@ -1,4 +1,4 @@
-use Rattle.jpq_program.proofs.Words.{◌≡◌, ◌∙◌, Bor, IfOk-weaker, List, More, ℕ, arith, ap, common_steps, false, length, map, nat_eq, nat_tests, subst, sym, true, AreInputsShown, AreKnown, Next, Sends, shown_by}
+use Rattle.jpq_program.proofs.Words.{◌≡◌, ◌∙◌, Bor, IfOk-weaker, List, More, ℕ, arith, ap, common_steps, false, length, map, nat_eq, nat_tests, subst, sym, true, AreInputsShown, AreKnown, Sends, shown_by}
 use Rattle.jpq_program.proofs.Parsed.{none_named, some_named}
 use Rattle.jpq_program.proofs.run.answer_inputs.Goals as goal
 

@@ -4,10 +4,10 @@ use Rattle.jpq_program.proofs.Asked.{plain_documents, sent_for}
 use Rattle.jpq_program.proofs.run.answer_paths.Goals as goal
 
 pub returns : goal.returns
-returns g c = IfOk-weaker c.answer_documents.result _ _ (λ next answered run free refused empty known.
+returns g c = IfOk-weaker c.answer_documents.result _ _ (λ next answered run refused empty known.
     let told = c.dress_of.ensures.told in
     let read = subst (λ (queries : List Query). IfSome c.reader_for.result (λ reader. Keeps reader (shows_places c.output_of-output.result.form) queries)) (ap trees_of c.as_slice.ensures.value ∙ c.in_ok-trees.ensures) c.reader_for.ensures in
-    let sent = answered (plain_documents _ c.args.options.now c.args.colours.taken run free refl c.output_of-output.ensures (c.in_ok-dress.ensures.plain run) refl read) run.header run.total run.most_of_all refused
+    let sent = answered (plain_documents _ c.args.options.now c.args.colours.taken run refl c.output_of-output.ensures (c.in_ok-dress.ensures.plain run) refl read) run.header run.total run.most_of_all refused
     (ap (λ (s : Streams g.row.W.Denot g.row.E.Denot). string_bytes s.pending) told ∙ empty) known in (
       sent.0,
       sent_for g.W.Write.contents c.args.options.now c.args.paths.now c.output_of-output.result c.heads_of.result (g.I.Inputs.bytes_of c.args.inputs.now) (names_in c.args.options.now) c.args.streams.now _ c.answer_documents.new.streams

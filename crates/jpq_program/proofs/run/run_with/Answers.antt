@@ -1,9 +1,9 @@
-use Rattle.jpq_program.proofs.Words.{◌≡◌, ◌∙◌, List, ℕ, Option, Vec, Global, ap, map, string_bytes, subst, sym, AreFree, AreInputsShown, AreKnown, ArePaths, AskedPath, Bor, IsShownFor, Sends, Streams, names_in, rule_in}
+use Rattle.jpq_program.proofs.Words.{◌≡◌, ◌∙◌, List, ℕ, Option, ap, map, string_bytes, subst, sym, AreInputsShown, AreKnown, ArePaths, AskedPath, Bor, IsShownFor, Sends, Streams, names_in, rule_in}
 use Rattle.jpq_program.proofs.Asked.{run_answered}
 use Rattle.jpq_program.proofs.run.run_with.Goals as goal
 
-pub returns : goal.returns
-returns g c = λ run fresh empty refused known.
+pub returns-clause-answered : goal.returns-clause-answered
+returns-clause-answered g c = λ run fresh empty refused known.
     let right = ap (λ o. o.refused) fresh in
     let asked = c.in_ok-paths.ensures.told right in
     let hinted = c.hint_at_patterns.ensures in
@@ -17,5 +17,5 @@ returns g c = λ run fresh empty refused known.
     fresh (ap (λ (s : Streams g.row.W.Denot g.row.E.Denot). s.out) hinted ∙ ap (λ (s : Streams g.row.W.Denot g.row.E.Denot). s.out) asked)
     (ap (λ (s : Streams g.row.W.Denot g.row.E.Denot). s.outcome) hinted ∙ ap (λ (s : Streams g.row.W.Denot g.row.E.Denot). s.outcome) asked) nothing
     (ap (λ (s : Streams g.row.W.Denot g.row.E.Denot). s.out) ended) (ap (λ (s : Streams g.row.W.Denot g.row.E.Denot). s.outcome) ended) refused
-    (λ free. subst (λ (bytes_of : List ℕ → Option (List ℕ)). Sends g.W.Write.contents (AreInputsShown (IsShownFor c.args.options.now (map (λ (path : AskedPath). path.path) c.deref-2.result.now)) c.args.options.now.lines bytes_of (names_in c.args.options.now)) c.hint_at_patterns.new.streams c.answer_paths.new.streams) same
-    (c.in_ok-next.ensures run free still nothing (subst (λ (bytes_of : List ℕ → Option (List ℕ)). AreKnown bytes_of (names_in c.args.options.now)) (sym same) known)).1)
+    (subst (λ (bytes_of : List ℕ → Option (List ℕ)). Sends g.W.Write.contents (AreInputsShown (IsShownFor c.args.options.now (map (λ (path : AskedPath). path.path) c.deref-2.result.now)) c.args.options.now.lines bytes_of (names_in c.args.options.now)) c.hint_at_patterns.new.streams c.answer_paths.new.streams) same
+    (c.in_ok-next.ensures run still nothing (subst (λ (bytes_of : List ℕ → Option (List ℕ)). AreKnown bytes_of (names_in c.args.options.now)) (sym same) known)).1)

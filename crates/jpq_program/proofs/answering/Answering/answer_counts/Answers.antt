@@ -1,4 +1,4 @@
-use Rattle.jpq_program.proofs.Words.{◌≡◌, ◌∙◌, ◌+◌, List, ℕ, Bool, JsonPath, ap, subst, arith, common_steps, builtin_functions, Answered, AskedPath, IsAnswerOn, head_by}
+use Rattle.jpq_program.proofs.Words.{◌≡◌, ◌∙◌, ◌+◌, List, ℕ, JsonPath, ap, subst, arith, common_steps, builtin_functions, Answered, AskedPath, IsAnswerOn, head_by}
 use Rattle.jpq_program.proofs.Shown.{all_answered, mapped_further, counts_no_array, none_answered}
 use Rattle.jpq_program.proofs.answering.Answering.answer_counts.Goals as goal
 
@@ -18,7 +18,7 @@ loop-index-preserved g c =
       λ are counts each left refused.
           let here = are c.loop-index.index path c.loop-index-test.true c.path-item.is in
           let first = c.loop-index.invariant.1 are counts each left (c.in_ok-answer_count.ensures.right refused) in
-          let second = c.in_ok-answer_count.ensures.answered here.0 here.1 each first.left refused in
+          let second = c.in_ok-answer_count.ensures.answered here each first.left refused in
           let head_is = c.as_str.ensures.value ∙ c.in_ok-head.ensures (counts_no_array c.args.self.now.showing.output.form counts) ∙ ap head number in
           mapped_further g.W.Write.contents (λ (number : ℕ) (path : JsonPath). IsAnswerOn builtin_functions path c.args.self.now.showing.output (head number) c.args.document.bytes.now) (λ (path : AskedPath). path.path)
           c.args.self.now.paths.now c.loop-index.index path c.args.streams.now c.loop-index.streams c.answer_count.new.streams c.loop-index-test.true c.path-item.is first

@@ -1,11 +1,11 @@
-use Rattle.jpq_program.proofs.Words.{◌≡◌, ◌∙◌, ◌+◌, List, ℕ, Bool, JsonPath, ap, subst, arith, common_steps, builtin_functions, Answered, AskedPath, IsAnswerOn, head_by}
+use Rattle.jpq_program.proofs.Words.{◌≡◌, ◌∙◌, ◌+◌, List, ℕ, JsonPath, ap, subst, arith, common_steps, builtin_functions, Answered, AskedPath, IsAnswerOn, head_by}
 use Rattle.jpq_program.proofs.Shown.{all_answered, mapped_further, no_array, none_answered}
 use Rattle.jpq_program.proofs.answering.Answering.answer_lines.Goals as goal
 
 pub loop-index-init : goal.loop-index-init
 loop-index-init g c =
     let head = head_by c.args.self.now.heads c.args.document.source.name.now c.args.document.source.line in (
-      λ are refused. refused,
+      λ refused. refused,
       λ are plain left refused. none_answered g.W.Write.contents (λ (number : ℕ) (path : JsonPath). IsAnswerOn builtin_functions path c.args.self.now.showing.output (head number) c.args.document.bytes.now) 1 c.args.streams.now left refused,
     )
 
@@ -14,11 +14,11 @@ loop-index-preserved g c =
     let head = head_by c.args.self.now.heads c.args.document.source.name.now c.args.document.source.line in
     let path = c.path-item.result in
     let number : c.saturating_add.result ≡ c.loop-index.index + 1 = grind (arith, common_steps, c.saturating_add.ensures) in (
-      λ are refused. c.loop-index.invariant.0 are (c.in_ok-answer_path.ensures.right (are c.loop-index.index c.path-item.result c.loop-index-test.true c.path-item.is).0 refused),
+      λ refused. c.loop-index.invariant.0 (c.in_ok-answer_path.ensures.right refused),
       λ are plain left refused.
           let here = are c.loop-index.index path c.loop-index-test.true c.path-item.is in
-          let first = c.loop-index.invariant.1 are plain left (c.in_ok-answer_path.ensures.right here.0 refused) in
-          let second = c.in_ok-answer_path.ensures.answered here.0 here.1 plain first.left refused in
+          let first = c.loop-index.invariant.1 are plain left (c.in_ok-answer_path.ensures.right refused) in
+          let second = c.in_ok-answer_path.ensures.answered here plain first.left refused in
           let head_is = c.as_str.ensures.value ∙ c.in_ok-head.ensures (no_array c.args.self.now.showing plain) ∙ ap head number in
           mapped_further g.W.Write.contents (λ (number : ℕ) (path : JsonPath). IsAnswerOn builtin_functions path c.args.self.now.showing.output (head number) c.args.document.bytes.now) (λ (path : AskedPath). path.path)
           c.args.self.now.paths.now c.loop-index.index path c.args.streams.now c.loop-index.streams c.answer_path.new.streams c.loop-index-test.true c.path-item.is first

@@ -1,8 +1,7 @@
-use Rattle.jpq_program.proofs.Words.{◌≡◌, ◌∙◌, ◌+◌, ◌++◌, ◌<◌, ℕ, List, [], Some, Option, refl, sym, ap, subst, arith, common_steps, length, string_bytes, IsLineShown, Sends, Streams, drop_through, take_through, shown_by}
+use Rattle.jpq_program.proofs.Words.{◌≡◌, ◌∙◌, ◌+◌, ◌++◌, ◌<◌, ℕ, List, [], Some, refl, sym, ap, subst, arith, common_steps, length, IsLineShown, Sends, Streams, drop_through, take_through, shown_by}
 use Rattle.jpq_program.proofs.Sending.{known_at, line_taken, sent_all, sent_further, sent_none, some_known, starts_whole}
 use Rattle.jpq_program.proofs.documents.Documents.answer_lines.Goals as goal
 use Rattle.std.specs.Io.Buffered.{reader_remaining}
-use Rattle.std.specs.Io.BufRead.{DropsThrough}
 use Rattle.std.specs.Io.KnownBytes.{IsAtEnd}
 
 pub loop-number-init : goal.loop-number-init

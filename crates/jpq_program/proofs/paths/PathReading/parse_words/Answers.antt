@@ -1,4 +1,4 @@
-use Rattle.jpq_program.proofs.Words.{◌≡◌, ◌∙◌, ◌+◌, Bor, List, ℕ, [], ◌∷◌, ◌++◌, Some, None, MatchOption, ap, subst, sym, false, true, map, take, ArePaths, AskedPath, Global, IsPathOf, PathReading, Reads, Streams, Tells, Vec, numbers_view, true≢false}
+use Rattle.jpq_program.proofs.Words.{◌∙◌, ap, sym, AskedPath, Global, PathReading, Streams, Vec, numbers_view, true≢false}
 use Rattle.jpq_program.proofs.Parsed.{paths_further}
 use Rattle.jpq_program.proofs.paths.PathReading.parse_words.Goals as goal
 use Rattle.jpq_program.proofs.paths.PathReading.parse_words.Goals.{in-Some+in_ok-push, in_default}
