@@ -1,5 +1,5 @@
 -- Documents from bytes, and what may be told of a place in them.
-use Rattle.std.specs.Prelude.{◌≡◌, ◌≢◌, ◌==◌, ◌+◌, ◌++◌, ◌&&◌, not, ℕ, Bool, true, false, List, [], ◌∷◌, Some, length, codes}
+use Rattle.std.specs.Prelude.{◌≡◌, ◌≢◌, ◌==◌, ◌≤◌, ◌+◌, ◌++◌, ◌&&◌, not, ℕ, Bool, true, false, List, [], ◌∷◌, Some, length, take, drop, codes}
 use Rattle.std.specs.Fmt.{decimal}
 use Rattle.std.specs.Str.{IsUtf8}
 use Rattle.serde_json.specs.Data.{Data}
@@ -40,15 +40,13 @@ stands LoneSurrogate before text = is_in_string_after before && begins_lone_surr
 stands Memory before text = false
 stands _ before text = true
 
--- the fault is one of a string that goes on so
-abbrev pub IsOfString : List ℕ → DocumentFault → Type 0
-IsOfString text fault = ((before : List ℕ) → is_in_string_after before ≡ true
-    → stands fault before text ≡ true) × (fault ≢ NotUtf8) × (fault ≢ TooDeep)
+-- the fault stands between two texts, and is neither of bytes nor of depth
+abbrev pub IsMetBetween : List ℕ → List ℕ → DocumentFault → Type 0
+IsMetBetween before text fault = (stands fault before text ≡ true) × (fault ≢ NotUtf8) × (fault ≢ TooDeep)
 
--- the text has this after some text, and the fault is neither of bytes nor of depth
-abbrev pub IsMetAfter : List ℕ → List ℕ → DocumentFault → Type 0
-IsMetAfter text before fault = ((after : List ℕ) × (text ≡ before ++ after)
-    × (stands fault before after ≡ true)) × (fault ≢ NotUtf8) × (fault ≢ TooDeep)
+-- the same after so many bytes of a text
+abbrev pub IsMetAt : List ℕ → ℕ → DocumentFault → Type 0
+IsMetAt text count fault = (count ≤ length text) × IsMetBetween (take count text) (drop count text) fault
 
 -- ---- what is told
 

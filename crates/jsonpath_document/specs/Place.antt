@@ -31,24 +31,16 @@ open_past opened byte = if opened.2 then (opened.0, opened.1, false)
     else if byte == 93 || byte == 125 then (opened.0 - 1, false, false)
     else opened
 
+abbrev pub opened_after : List ℕ → ℕ × Bool × Bool
+opened_after bytes = fold open_past (0, false, false) bytes
+
 -- how many arrays and objects are open after some bytes
 abbrev pub levels_after : List ℕ → ℕ
-levels_after bytes = (fold open_past (0, false, false) bytes).0
-
--- another array or object begins after so many bytes of a text, within 127 that are open
-abbrev pub is_too_deep_after : List ℕ → ℕ → Bool
-is_too_deep_after text count =
-    (begins (drop count text) (codes "[") || begins (drop count text) (codes "{"))
-    && nat_le 127 (levels_after (take count text))
-
--- the same at a byte of a text, from 1
-abbrev pub is_too_deep_at : List ℕ → ℕ → Bool
-is_too_deep_at text position = is_too_deep_after text (position - 1)
+levels_after bytes = (opened_after bytes).0
 
 -- a place after some bytes is in a string, and not right after a backslash in it
 abbrev pub is_in_string_after : List ℕ → Bool
-is_in_string_after bytes = let opened = fold open_past (0, false, false) bytes in
-    opened.1 && not opened.2
+is_in_string_after bytes = let opened = opened_after bytes in opened.1 && not opened.2
 
 -- RFC 8259, section 2: space, tab, line feed, carriage return
 abbrev pub is_blank : ℕ → Bool
@@ -80,6 +72,11 @@ abbrev pub ends_value : ℕ → Bool
 ends_value byte = byte == 34 || (byte == 93 || (byte == 125 || (byte == 101 || (byte == 108
     || is_ascii_digit byte))))
 
+-- where a value has its place: at the front, after the bracket of an array, a colon, or a comma in an array
+abbrev pub wants_value : List ℕ → Bool
+wants_value bytes = let b = before_of bytes in
+    not b.0.1 && (b.1 == 0 || (b.1 == 91 || (b.1 == 58 || (b.1 == 44 && b.3 == 91))))
+
 -- in an object, where a name has its place
 abbrev pub wants_name : List ℕ → Bool
 wants_name bytes = let b = before_of bytes in
@@ -101,3 +98,15 @@ abbrev pub is_bare_point : List ℕ → List ℕ → Bool
 is_bare_point before after = let follows = is_ascii_digit (byte_at after 1) in
     begins after (codes ".")
     && (if is_ascii_digit (before_of before).1 then not follows else follows)
+
+-- ---- what is too deep
+
+-- another array or object begins after so many bytes of a text, within 127 that are open
+abbrev pub is_too_deep_after : List ℕ → ℕ → Bool
+is_too_deep_after text count =
+    (begins (drop count text) (codes "[") || begins (drop count text) (codes "{"))
+    && (nat_le 127 (levels_after (take count text)) && wants_value (take count text))
+
+-- the same at a byte of a text, from 1
+abbrev pub is_too_deep_at : List ℕ → ℕ → Bool
+is_too_deep_at text position = is_too_deep_after text (position - 1)

@@ -9,18 +9,16 @@ ghost use Rattle.jsonpath_document.specs.Begins.{has_hex, has_second_half, is_d,
 ghost use Rattle.jsonpath_document.specs.Begins.{is_second_half};
 
 /// Whether a text begins as a comment does.
-pub(crate) fn begins_comment(text: &str) -> bool
+pub(crate) fn begins_comment(text: &[u8]) -> bool
     ensures { result ≡ begins_comment text.now }
 {
-    let text = text.as_bytes();
     text.starts_with(b"//") || text.starts_with(b"/*") || text.starts_with(b"#")
 }
 
 /// Whether a text begins by a number that JSON does not have.
-pub(crate) fn begins_not_finite(text: &str) -> bool
+pub(crate) fn begins_not_finite(text: &[u8]) -> bool
     ensures { result ≡ begins_not_finite text.now }
 {
-    let text = text.as_bytes();
     text.starts_with(b"NaN")
         || text.starts_with(b"Infinity")
         || text.starts_with(b"-Infinity")
@@ -30,15 +28,18 @@ pub(crate) fn begins_not_finite(text: &str) -> bool
 }
 
 /// Whether a text begins by a byte.
-pub(crate) fn begins_by(text: &str, byte: u8) -> bool
+pub(crate) fn begins_by(text: &[u8], byte: u8) -> bool
     ensures { result ≡ begins text.now (byte ∷ []) }
 {
-    text.as_bytes().starts_with(&[byte])
+    text.starts_with(&[byte])
 }
 
 /// Whether a text begins as a value does.
-pub(crate) fn begins_value(text: &str) -> bool {
-    text.starts_with(|c| matches!(c, '{' | '[' | '"' | '-' | '0'..='9' | 't' | 'f' | 'n'))
+pub(crate) fn begins_value(text: &[u8]) -> bool {
+    matches!(
+        byte_at(text, 0),
+        b'{' | b'[' | b'"' | b'-' | b'0'..=b'9' | b't' | b'f' | b'n'
+    )
 }
 
 /// The byte that follows so many of a text, or 0.
@@ -60,10 +61,9 @@ pub(crate) fn begins_word(text: &[u8]) -> bool
 }
 
 /// Whether a text begins as a value does, or a name without quotes.
-pub(crate) fn begins_item(text: &str) -> bool
+pub(crate) fn begins_item(text: &[u8]) -> bool
     ensures { result ≡ begins_item text.now }
 {
-    let text = text.as_bytes();
     begins_word(text)
         || text.starts_with(b"{")
         || text.starts_with(b"[")
@@ -83,10 +83,9 @@ pub(crate) fn begins_as(text: &[u8], word: &[u8]) -> bool
 }
 
 /// Whether a text begins by a word of JSON in other letters.
-pub(crate) fn begins_other_word(text: &str) -> bool
+pub(crate) fn begins_other_word(text: &[u8]) -> bool
     ensures { result ≡ begins_other_word text.now }
 {
-    let text = text.as_bytes();
     begins_as(text, b"true")
         || begins_as(text, b"false")
         || begins_as(text, b"null")
@@ -94,19 +93,17 @@ pub(crate) fn begins_other_word(text: &str) -> bool
 }
 
 /// Whether a text begins by a number that has a digit after a zero at its front.
-pub(crate) fn begins_leading_zero(text: &str) -> bool
+pub(crate) fn begins_leading_zero(text: &[u8]) -> bool
     ensures { result ≡ begins_leading_zero text.now }
 {
-    let text = text.as_bytes();
     let sign = if text.starts_with(b"-") { 1 } else { 0 };
     byte_at(text, sign) == b'0' && byte_at(text, sign + 1).is_ascii_digit()
 }
 
 /// Whether a text begins by a plus sign and a number.
-pub(crate) fn begins_plus_sign(text: &str) -> bool
+pub(crate) fn begins_plus_sign(text: &[u8]) -> bool
     ensures { result ≡ begins_plus_sign text.now }
 {
-    let text = text.as_bytes();
     text.starts_with(b"+") && (byte_at(text, 1).is_ascii_digit() || byte_at(text, 1) == b'.')
 }
 

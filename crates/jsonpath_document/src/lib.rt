@@ -8,6 +8,8 @@
 
 mod begins;
 mod document;
+mod faults;
 mod place;
+mod reading;
 
 pub use document::{DocumentError, DocumentFault, read_document};

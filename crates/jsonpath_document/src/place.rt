@@ -2,8 +2,8 @@
 
 ghost use Rattle.std.specs.Prelude.{◌≡◌, ◌+◌, ◌^◌, ◌<◌};
 ghost use Rattle.jsonpath_document.specs.Place.{before_in, before_of, before_past, ends_value, is_bare_point};
-ghost use Rattle.jsonpath_document.specs.Place.{is_before_name, is_blank, levels_after, open_past};
-ghost use Rattle.jsonpath_document.specs.Place.{wants_colon, wants_comma, wants_name};
+ghost use Rattle.jsonpath_document.specs.Place.{is_before_name, is_blank, opened_after, open_past};
+ghost use Rattle.jsonpath_document.specs.Place.{wants_colon, wants_comma, wants_name, wants_value};
 
 use crate::begins::byte_at;
 
@@ -24,15 +24,15 @@ pub(crate) fn open_past(opened: (usize, bool, bool), byte: u8) -> (usize, bool, 
     }
 }
 
-/// How many arrays and objects are open after some bytes of JSON.
-pub(crate) fn open_levels(bytes: &[u8]) -> usize
-    ensures { result ≡ levels_after bytes.now }
+/// What is open after some bytes of JSON.
+pub(crate) fn opened_after(bytes: &[u8]) -> (usize, bool, bool)
+    ensures { result ≡ opened_after bytes.now }
 {
     let mut opened = (0usize, false, false);
     for byte in bytes {
         opened = open_past(opened, *byte);
     }
-    opened.0
+    opened
 }
 
 /// Whether a byte is a blank of JSON.
@@ -85,11 +85,12 @@ pub(crate) fn before_in(levels: usize, bytes: &[u8]) -> Before
     before
 }
 
-/// What stands before a place that follows a text.
-pub(crate) fn before_of(text: &str) -> Before
-    ensures { result ≡ before_of text.now }
+/// What stands before a place that follows some bytes.
+pub(crate) fn before_of(bytes: &[u8]) -> Before
+    ensures { result ≡ before_of bytes.now }
 {
-    before_in(open_levels(text.as_bytes()), text.as_bytes())
+    let (levels, _, _) = opened_after(bytes);
+    before_in(levels, bytes)
 }
 
 /// Whether a name has its place right after a byte.
@@ -111,36 +112,44 @@ pub(crate) fn ends_value(byte: u8) -> bool
         || byte.is_ascii_digit()
 }
 
-/// Whether a text ends in an object, where a name has its place.
-pub(crate) fn wants_name(text: &str) -> bool
-    ensures { result ≡ wants_name text.now }
+/// Whether a value has its place after some bytes.
+pub(crate) fn wants_value(bytes: &[u8]) -> bool
+    ensures { result ≡ wants_value bytes.now }
 {
-    let ((_, in_string, _), last, _, opening) = before_of(text);
+    let ((_, in_string, _), last, _, opening) = before_of(bytes);
+    let in_array = last == b',' && opening == b'[';
+    !in_string && (last == 0 || last == b'[' || last == b':' || in_array)
+}
+
+/// Whether bytes end in an object, where a name has its place.
+pub(crate) fn wants_name(bytes: &[u8]) -> bool
+    ensures { result ≡ wants_name bytes.now }
+{
+    let ((_, in_string, _), last, _, opening) = before_of(bytes);
     !in_string && opening == b'{' && is_before_name(last)
 }
 
-/// Whether a text ends in an object by a name.
-pub(crate) fn wants_colon(text: &str) -> bool
-    ensures { result ≡ wants_colon text.now }
+/// Whether bytes end in an object by a name.
+pub(crate) fn wants_colon(bytes: &[u8]) -> bool
+    ensures { result ≡ wants_colon bytes.now }
 {
-    let ((_, in_string, _), last, before_string, opening) = before_of(text);
+    let ((_, in_string, _), last, before_string, opening) = before_of(bytes);
     !in_string && opening == b'{' && last == b'"' && is_before_name(before_string)
 }
 
-/// Whether a text ends in an array or an object by a value.
-pub(crate) fn wants_comma(text: &str) -> bool
-    ensures { result ≡ wants_comma text.now }
+/// Whether bytes end in an array or an object by a value.
+pub(crate) fn wants_comma(bytes: &[u8]) -> bool
+    ensures { result ≡ wants_comma bytes.now }
 {
-    let ((levels, in_string, _), last, before_string, opening) = before_of(text);
+    let ((levels, in_string, _), last, before_string, opening) = before_of(bytes);
     let is_name = opening == b'{' && last == b'"' && is_before_name(before_string);
     !in_string && 0 < levels && ends_value(last) && !is_name
 }
 
 /// Whether a place has a point, and a digit on one side of it.
-pub(crate) fn is_bare_point(before: &str, after: &str) -> bool
+pub(crate) fn is_bare_point(before: &[u8], after: &[u8]) -> bool
     ensures { result ≡ is_bare_point before.now after.now }
 {
-    let after = after.as_bytes();
     if !after.starts_with(b".") {
         return false;
     }
@@ -151,18 +160,4 @@ pub(crate) fn is_bare_point(before: &str, after: &str) -> bool
     } else {
         follows
     }
-}
-
-/// Whether a text ends by a bracket or a brace that closes nothing, or a member without a value.
-pub(crate) fn closes_wrongly(text: &str) -> bool {
-    let text = text.trim_end();
-    let (front, opening) = if let Some(front) = text.strip_suffix(']') {
-        (front, b'[')
-    } else if let Some(front) = text.strip_suffix('}') {
-        (front, b'{')
-    } else {
-        return false;
-    };
-    let (_, last, _, opened) = before_of(front);
-    last == b':' || opened != opening
 }

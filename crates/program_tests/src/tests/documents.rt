@@ -67,9 +67,6 @@ const LACKING: &[&str] = &[
     "{1 : 2} -> line 1, column 2: a name without double quotes",
     "{true, 2} -> line 1, column 2: a name without double quotes",
     "{None: 2} -> line 1, column 2: a name without double quotes",
-    r#"["a": 1] -> line 1, column 7: not JSON"#,
-    r#"[{"a":} 2] -> line 1, column 9: not JSON"#,
-    "[[1} 2] -> line 1, column 6: not JSON",
 ];
 
 /// A text with a word or a number that is none of JSON, and what is told of it.
@@ -78,8 +75,7 @@ const WORDS: &[&str] = &[
     r#"{"a": None} -> line 1, column 7: a word that JSON writes as true, false or null"#,
     "FALSE -> line 1, column 1: a word that JSON writes as true, false or null",
     "[1, Null, 2] -> line 1, column 5: a word that JSON writes as true, false or null",
-    "[Nulls] -> line 1, column 2: not JSON",
-    "[tru] -> line 1, column 2: not JSON",
+    "[1, nULL] -> line 1, column 5: a word that JSON writes as true, false or null",
     "[01] -> line 1, column 2: a number that begins with 0 and a digit",
     "-01 -> line 1, column 1: a number that begins with 0 and a digit",
     r#"{"a": +1} -> line 1, column 7: a number with a plus sign before it"#,
@@ -87,20 +83,116 @@ const WORDS: &[&str] = &[
     "[1, -.5] -> line 1, column 6: a point without digits on both sides",
     "[12.] -> line 1, column 4: a point without digits on both sides",
     "[1.e5] -> line 1, column 3: a point without digits on both sides",
-    "[...] -> line 1, column 2: not JSON",
     r#"{"a": 1e400, "b": 2} -> line 1, column 7: a number that is too large"#,
     "[1e400 ]\n -> line 1, column 2: a number that is too large",
+    "[1e400,0] -> line 1, column 2: a number that is too large",
+    "[1e400 -> line 1, column 2: a number that is too large",
+];
+
+/// A text that no document goes on with after some byte, and the place of that byte.
+const BROKEN: &[&str] = &[
+    "nil -> line 1, column 2: not JSON",
+    "[tru] -> line 1, column 5: not JSON",
+    "[truth] -> line 1, column 5: not JSON",
+    "[nullable] -> line 1, column 6: a comma is missing before this",
+    "[Nulls] -> line 1, column 2: not JSON",
+    "[...] -> line 1, column 2: not JSON",
+    "[1,,2] -> line 1, column 4: not JSON",
+    "[-] -> line 1, column 3: not JSON",
+    "[--1] -> line 1, column 3: not JSON",
+    "[1e] -> line 1, column 4: not JSON",
+    "[1e+x] -> line 1, column 5: not JSON",
+    "[1.5.2] -> line 1, column 5: not JSON",
+    r#"["a": 1] -> line 1, column 5: not JSON"#,
+    r#"[{"a":} 2] -> line 1, column 7: not JSON"#,
+    r#"{"a":1,"b"} -> line 1, column 11: a colon is missing after a name"#,
+    "{,} -> line 1, column 2: not JSON",
+    "{[1]:2} -> line 1, column 2: not JSON",
+    "[[1} 2] -> line 1, column 4: not JSON",
+    "[1},3] -> line 1, column 3: not JSON",
+    "]0 -> line 1, column 1: not JSON",
+    "{} , -> line 1, column 4: not JSON",
+    "{1:2} -> line 1, column 2: a name without double quotes",
+    "{1e4 -> line 1, column 2: a name without double quotes",
+    "\u{c} -> line 1, column 1: not JSON",
+    "\u{a0} -> line 1, column 1: not JSON",
+    "[1\u{a0}] -> line 1, column 3: a comma is missing before this",
+    "{}\u{feff} -> line 1, column 3: not JSON",
+    "{}[] -> line 1, column 3: a second document (is it NDJSON? use -L)",
+    // Of several faults the first one counts.
+    "[1,] 2} -> line 1, column 3: a comma with nothing after it",
+    "nul // x -> line 1, column 4: not JSON",
+    r#"[1 "\x" -> line 1, column 4: a comma is missing before this"#,
+    "[01 1e400] -> line 1, column 2: a number that begins with 0 and a digit",
+];
+
+/// A text that ends within a word, a number, a string or an object, and the byte after it.
+const CUT_SHORT: &[&str] = &[
+    "tru -> 4",
+    "[-0. -> 5",
+    "[1e -> 4",
+    "[1e- -> 5",
+    "{ -> 2",
+    "{\"a -> 4",
+    "{\"a\": -> 6",
+    "[1, -> 4",
+    r#""\ -> 3"#,
+    r#""\ud83d -> 8"#,
+    r#""\ud83d\u -> 10"#,
+];
+
+/// A value with a fault in it, and the byte of that, counted from the value, and what it is.
+const FAULTS: &[&str] = &[
+    "nil -> 2: not JSON",
+    "[1,] -> 3: a comma with nothing after it",
+    "[1 2] -> 4: a comma is missing before this",
+    r#"{"a" 1} -> 6: a colon is missing after a name"#,
+    "{a:1} -> 2: a name without double quotes",
+    "True -> 1: a word that JSON writes as true, false or null",
+    "-01 -> 1: a number that begins with 0 and a digit",
+    "+1 -> 1: a number with a plus sign before it",
+    "-.5 -> 2: a point without digits on both sides",
+    "1.x -> 2: a point without digits on both sides",
+    "-Infinity -> 1: NaN or Infinity, which JSON does not have",
+    "1e400 -> 1: a number that is too large",
+    "'a' -> 1: a single quote, where JSON has double quotes",
+    "[// a\n] -> 2: a comment, which JSON does not have",
+    "\"a\tb\" -> 3: a control character in a string, where JSON has an escape as \\t",
+    r#""a\x" -> 3: a backslash that begins no escape of JSON"#,
+    r#""\\\udc00" -> 4: an escape of half a pair of surrogates"#,
+    ". -> 1: not JSON",
+];
+
+/// What stands before a value: nothing, an array, an object, another line, and characters beyond ASCII.
+const FRONTS: &[&str] = &[
+    "",
+    "[",
+    "[[0.5e1,-0], ",
+    r#"{"a\"{": "#,
+    "{\"a\":\r\n\t",
+    "[\"\u{e9}\u{20ac}\u{1f600}\",\n",
 ];
 
 /// Bytes that are not UTF-8, and what is told of them.
 const NOT_UTF8: &[(&[u8], &str)] = &[
     (b"[\"\xc3\xa9\",\n\"\xc3\xa9\xff\"]", LATER_BYTE),
     (b"\xff\xfe{\x00}\x00", FIRST_BYTE),
+    (b"\xc3", FIRST_BYTE),
+    (b"\"\xc3\xa9\n\xff\"", CONTROL),
+    (b"[1,]\xff", COMMA),
+    (b"[\"\xf0\x9f\x98", CUT),
 ];
 
 const LATER_BYTE: &str = "line 2, column 3: a byte that is not UTF-8";
 
 const FIRST_BYTE: &str = "line 1, column 1: a byte that is not UTF-8";
+
+const CONTROL: &str =
+    "line 1, column 3: a control character in a string, where JSON has an escape as \\t";
+
+const COMMA: &str = "line 1, column 3: a comma with nothing after it";
+
+const CUT: &str = "line 1, column 4: the document ends too soon";
 
 /// What is told of bytes, or the JSON of the document that they are.
 fn told(alloc: Global, bytes: &[u8]) -> Came {
@@ -144,6 +236,70 @@ fn tells_the_byte(rt: HostRuntime) -> Result<(), Fail> {
     hold_rows(&rt, POSITIONS, position)
 }
 
+#[test]
+fn tells_the_end(rt: HostRuntime) -> Result<(), Fail> {
+    hold_rows(&rt, CUT_SHORT, position)
+}
+
+/// The byte of the fault of a value that stands after a text, counted from the value, and what it is.
+fn fault_after(alloc: Global, front: &str, value: &str) -> Came {
+    let text = format!(in alloc; "{front}{value}")?;
+    Ok(match read_document(alloc, text.as_bytes()) {
+        Ok(value) => value.to_string(alloc)?,
+        Err(e) => {
+            let byte = e.position.saturating_sub(front.len());
+            let fault = e.fault;
+            format!(in alloc; "{byte}: {fault}")?
+        }
+    })
+}
+
+#[test]
+fn tells_the_byte_anywhere(rt: HostRuntime) -> Result<(), Fail> {
+    for &front in FRONTS {
+        hold_rows(&rt, FAULTS, |alloc, value| fault_after(alloc, front, value))?;
+    }
+    Ok(())
+}
+
+/// An array of many numbers before a word.
+const LONG: Nesting<'static> = ("[\n", "10, ", "nil", "", "]");
+
+/// Arrays within each other, before a number and a bracket with no comma between them, or with one.
+const MISSING: Nesting<'static> = ("", "[", "5[", "", "");
+
+const NUMBER_FIRST: Nesting<'static> = ("", "[", "5,[", "", "");
+
+/// A number of many digits, before a bracket and before the end.
+const LARGE: Nesting<'static> = ("[1", "0", "", "", "]");
+
+const LARGE_AT_THE_END: Nesting<'static> = ("[1", "0", "", "", "");
+
+#[test]
+fn tells_places_in_long_texts(rt: HostRuntime) -> Result<(), Fail> {
+    let rows = [
+        (LONG, 5000, "line 2, column 20002: not JSON"),
+        (
+            MISSING,
+            127,
+            "line 1, column 129: a comma is missing before this",
+        ),
+        (
+            NUMBER_FIRST,
+            127,
+            "line 1, column 130: more than 127 levels of arrays and objects",
+        ),
+        (LARGE, 400, "line 1, column 2: a number that is too large"),
+        // An exponent may make the number smaller.
+        (
+            LARGE_AT_THE_END,
+            400,
+            "line 1, column 403: the document ends too soon",
+        ),
+    ];
+    hold_nested(&rt, &rows, outcome)
+}
+
 /// An array of a text with brackets and of arrays within each other.
 const ARRAYS: Nesting<'static> = ("[\"]\\\"{\",\n", "[", "0", "]", "]");
 
@@ -177,4 +333,9 @@ fn tells_what_is_missing(rt: HostRuntime) -> Result<(), Fail> {
 #[test]
 fn tells_words_and_numbers(rt: HostRuntime) -> Result<(), Fail> {
     hold_rows(&rt, WORDS, told_of_text)
+}
+
+#[test]
+fn tells_the_byte_that_breaks(rt: HostRuntime) -> Result<(), Fail> {
+    hold_rows(&rt, BROKEN, told_of_text)
 }

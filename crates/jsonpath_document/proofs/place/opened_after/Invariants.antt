@@ -1,6 +1,6 @@
 use Rattle.std.proofs.Common.{◌≡◌, ◌≤◌, false, fold, take}
 use Rattle.jsonpath_document.specs.Place.{open_past}
-use Rattle.jsonpath_document.proofs.place.open_levels.Given as goal
+use Rattle.jsonpath_document.proofs.place.opened_after.Given as goal
 
 abbrev pub invariant-loop-byte : goal.invariant-loop-byte
 invariant-loop-byte l = record {
