@@ -159,9 +159,10 @@ uint8_t jsonpath_path_text(jsonpath_path **path, uint8_t *out, size_t out_length
 uint8_t jsonpath_path_equals(jsonpath_path **path, jsonpath_path **other, uint8_t *equal);
 
 /* Reads a document: DONE, DOCUMENT_REFUSED, DOCUMENT_TOO_DEEP or NO_MEMORY. With DONE the document is in `*document`, in the
- * place of what was there. With one of the two refusals `*position` is the number of a byte, from 1, or one past the last. With
- * DOCUMENT_TOO_DEEP an array or an object begins there within 127 others; with DOCUMENT_REFUSED, of bytes that are UTF-8, none
- * does. */
+ * place of what was there. With one of the two refusals `*position` is the number of a byte, from 1, or one past the last: of the
+ * first byte that no document goes on with, or of the first byte of what it breaks, as of a number that is too large or of the
+ * comma before a bracket. With DOCUMENT_TOO_DEEP an array or an object begins there within 127 others; with DOCUMENT_REFUSED, of
+ * bytes that are UTF-8, none does. */
 uint8_t jsonpath_document_new(const uint8_t *bytes, size_t bytes_length, jsonpath_document **document, size_t *position);
 
 /* Frees a document and makes the variable NULL. Of NULL it does nothing. */

@@ -475,6 +475,8 @@ static void too_deep(void) {
     deeper[1] = deeper[127] = '"';
     refuses_document(deeper, 256, JSONPATH_DOCUMENT_REFUSED, 129);
     for (int at = 0; at < 128; at++) strcat(objects, "{\"a\":");
+    deeper[1] = '[', deeper[127] = '5', deeper[128] = '['; /* A comma is missing, and nothing begins. */
+    refuses_document(deeper, 256, JSONPATH_DOCUMENT_REFUSED, 129);
     refuses_document(objects, 5 * 128, JSONPATH_DOCUMENT_TOO_DEEP, 5 * 127 + 1);
     refuses_document(objects, 5 * 127, JSONPATH_DOCUMENT_REFUSED, 5 * 127 + 1);
     free(deeper);
@@ -496,6 +498,10 @@ static void documents(void) {
     refuses_document("[1,1e400]", 9, JSONPATH_DOCUMENT_REFUSED, 4);
     refuses_document("[]\0", 3, JSONPATH_DOCUMENT_REFUSED, 3);
     refuses_document("1 2", 3, JSONPATH_DOCUMENT_REFUSED, 3);
+    refuses_document("nil", 3, JSONPATH_DOCUMENT_REFUSED, 2);
+    refuses_document("[1e400,0]", 9, JSONPATH_DOCUMENT_REFUSED, 2);
+    refuses_document("[1},3]", 6, JSONPATH_DOCUMENT_REFUSED, 3);
+    refuses_document("{1e4", 4, JSONPATH_DOCUMENT_REFUSED, 2);
     refuses_document("\"\xff\"", 3, JSONPATH_DOCUMENT_REFUSED, 2);
     free(most);
 }

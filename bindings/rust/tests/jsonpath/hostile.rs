@@ -20,18 +20,20 @@ const NO_JSON: &[(&[u8], usize)] = &[
     (b"{}{}", 3),
     (b"[]\0", 3),
     (b"\0", 1),
-];
-
-/// Bytes with a word that is broken somewhere, which shows at one of its bytes.
-const BROKEN_WORDS: &[&[u8]] = &[
-    b"\"\\ud800\"",
-    b"\"\n\"",
-    b"\"\\x\"",
-    b"01",
-    b"nil",
-    b"null\0",
-    b"[1 2]",
-    b"{\"a\" 1}",
+    (b"\"\\ud800\"", 2),
+    (b"\"\n\"", 2),
+    (b"\"\\x\"", 2),
+    (b"01", 1),
+    (b"nil", 2),
+    (b"null\0", 5),
+    (b"[1 2]", 4),
+    (b"{\"a\" 1}", 6),
+    (b"[1e400,0]", 2),
+    (b"[1},3]", 3),
+    (b"]0", 1),
+    (b"{1:2}", 2),
+    (b"\x0c", 1),
+    (b"[1,]\xff", 3),
 ];
 
 fn path(text: &str) -> JsonPath {
@@ -55,12 +57,6 @@ fn documents_that_are_no_json() {
             path("$").report_bytes(bytes).unwrap_err().to_string(),
             format!("at position {position}, not JSON")
         );
-    }
-    for bytes in BROKEN_WORDS {
-        let error = Document::parse(bytes).unwrap_err();
-        assert!(matches!(error, DocumentError::NotJson { .. }), "{bytes:?}");
-        let position = error.position().unwrap();
-        assert!((1..=bytes.len() + 1).contains(&position), "{bytes:?}");
     }
 }
 
