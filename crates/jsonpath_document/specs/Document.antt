@@ -1,5 +1,5 @@
 -- Documents from bytes, and what may be told of a place in them.
-use Rattle.std.specs.Prelude.{◌≡◌, ◌≢◌, ◌==◌, ◌≤◌, ◌+◌, ◌++◌, ◌&&◌, not, ℕ, Bool, true, false, List, [], ◌∷◌, Some, length, take, drop, codes}
+use Rattle.std.specs.Prelude.{◌≡◌, ◌≢◌, ◌==◌, ◌<◌, ◌≤◌, ◌+◌, ◌++◌, ◌&&◌, not, ℕ, Bool, true, false, List, [], ◌∷◌, Some, length, take, drop, codes}
 use Rattle.std.specs.Fmt.{decimal}
 use Rattle.std.specs.Str.{IsUtf8}
 use Rattle.serde_json.specs.Data.{Data}
@@ -9,11 +9,19 @@ use Rattle.jsonpath_document.specs.declared.document.DocumentFault.{DocumentFaul
 use Rattle.jsonpath_document.specs.declared.document.DocumentFault.TheVariants.{ByteOrderMark, Empty, CutShort, Comment, SingleQuote, NotFinite, TrailingComma, MissingComma, MissingColon, NameWithoutQuotes, OtherWord, LeadingZero, PlusSign, BarePoint, ControlCharacter, BadEscape, LoneSurrogate, NotUtf8, TooDeep, NumberOutOfRange, SecondDocument, NotJson, Memory}
 use Rattle.jsonpath_document.specs.Begins.{begins, begins_bad_escape, begins_comment, begins_control, begins_item, begins_leading_zero}
 use Rattle.jsonpath_document.specs.Begins.{begins_lone_surrogate, begins_not_finite, begins_other_word, begins_plus_sign, begins_word}
-use Rattle.jsonpath_document.specs.Place.{is_bare_point, is_in_string_after, place_after, wants_colon, wants_comma, wants_name}
+use Rattle.jsonpath_document.specs.Place.{is_bare_point, is_in_string_after, is_too_deep_at, place_after, wants_colon, wants_comma, wants_name}
 
 -- the bytes read as this document: they are UTF-8, and its text reads as the value
 abbrev pub ReadsAs : List ℕ → Data → Type 0
 ReadsAs bytes d = IsUtf8 bytes × (read bytes ≡ Some d)
+
+-- the bytes read as some document
+abbrev pub IsDocument : List ℕ → Type 0
+IsDocument bytes = (d : Data) × ReadsAs bytes d
+
+-- with some bytes after them, the bytes read as a document
+abbrev pub IsBeginning : List ℕ → Type 0
+IsBeginning bytes = (rest : List ℕ) × IsDocument (bytes ++ rest)
 
 -- ---- which fault stands at a place
 
@@ -40,9 +48,13 @@ stands LoneSurrogate before text = is_in_string_after before && begins_lone_surr
 stands Memory before text = false
 stands _ before text = true
 
--- the fault stands between two texts, and is neither of bytes nor of depth
+-- the fault is none of the end, of bytes, of depth or of memory
+abbrev pub IsOfByte : DocumentFault → Type 0
+IsOfByte fault = (fault ≢ Empty) × (fault ≢ NotUtf8) × (fault ≢ TooDeep) × (fault ≢ Memory)
+
+-- such a fault stands between two texts
 abbrev pub IsMetBetween : List ℕ → List ℕ → DocumentFault → Type 0
-IsMetBetween before text fault = (stands fault before text ≡ true) × (fault ≢ NotUtf8) × (fault ≢ TooDeep)
+IsMetBetween before text fault = (stands fault before text ≡ true) × IsOfByte fault
 
 -- the same after so many bytes of a text
 abbrev pub IsMetAt : List ℕ → ℕ → DocumentFault → Type 0
@@ -92,3 +104,11 @@ abbrev pub IsFaultIn : List ℕ → DocumentError → Type 0
 IsFaultIn text e = (before after : List ℕ) × (text ≡ before ++ after)
     × ((e.line, e.column) ≡ place_after before) × (e.position ≡ length before + 1)
     × (stands e.fault before after ≡ true)
+
+-- what is told of a text that breaks at a byte
+pub record IsTold (text : List ℕ) (e : DocumentError) : Type 0 where
+  pub stands : e.fault ≢ Memory → IsFaultIn text e
+  pub byte : (e.fault ≢ NotUtf8) × (e.fault ≢ Empty)
+  pub too_deep : e.fault ≡ TooDeep → is_too_deep_at text e.position ≡ true
+  pub not_too_deep : e.fault ≢ Memory → e.fault ≢ TooDeep → is_too_deep_at text e.position ≡ false
+  pub memory : e.fault ≡ Memory → 0 < length text

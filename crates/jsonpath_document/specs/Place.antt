@@ -1,6 +1,7 @@
 -- Places in texts: lines and columns, what is open there, and what stands before.
-use Rattle.std.specs.Prelude.{◌==◌, ◌+◌, ◌-◌, ◌&&◌, ◌||◌, not, ℕ, Bool, true, false, List, fold, take, drop, codes, nat_le, nat_lt, if◌then◌else◌}
+use Rattle.std.specs.Prelude.{◌==◌, ◌+◌, ◌-◌, ◌&&◌, ◌||◌, not, ℕ, Bool, false, List, fold, take, drop, codes, nat_le, nat_lt, if◌then◌else◌}
 use Rattle.std.specs.Char.{is_ascii_digit}
+use Rattle.std.specs.List.{list_all}
 use Rattle.jsonpath_document.specs.Begins.{begins, byte_at}
 
 -- ---- lines and columns
@@ -45,6 +46,9 @@ is_in_string_after bytes = let opened = opened_after bytes in opened.1 && not op
 -- RFC 8259, section 2: space, tab, line feed, carriage return
 abbrev pub is_blank : ℕ → Bool
 is_blank byte = byte == 32 || (byte == 9 || (byte == 10 || byte == 13))
+
+abbrev pub are_blank : List ℕ → Bool
+are_blank bytes = list_all is_blank bytes
 
 -- What stands before a place, for arrays and objects within so many: what is open; the last byte that is outside of strings and
 -- no blank (of a string, its quote); that byte before the last string; the bracket or brace that opened this many. 0 for none.

@@ -1,14 +1,17 @@
 //! Documents from bytes, and what stands where bytes are no document.
 
-ghost use Rattle.std.specs.Prelude.{◌≡◌, ◌≢◌, ◌+◌, ◌++◌, ◌<◌, ◌≤◌, ◌↔◌, ◌⊎◌, IfErr, IfOk, List, false, length, true, ℕ};
+ghost use Rattle.std.specs.Prelude.{◌≡◌, ◌≢◌, ◌+◌, ◌-◌, ◌<◌, ◌≤◌, ◌↔◌, IfErr, IfOk};
+ghost use Rattle.std.specs.Prelude.{false, length, take, true};
 ghost use Rattle.std.specs.Str.{IsUtf8};
 ghost use Rattle.serde_json.specs.Data.{Data};
 ghost use Rattle.serde_json.specs.View.{view};
-ghost use Rattle.jsonpath_document.specs.Document.{IsFaultIn, ReadsAs, message_of};
-ghost use Rattle.jsonpath_document.specs.Place.{is_continuation, is_too_deep_at, place_after};
+ghost use Rattle.jsonpath_document.specs.Document.{IsBeginning, IsDocument, IsFaultIn, IsTold};
+ghost use Rattle.jsonpath_document.specs.Document.{ReadsAs, message_of};
+ghost use Rattle.jsonpath_document.specs.Place.{are_blank, is_continuation, is_too_deep_after};
+ghost use Rattle.jsonpath_document.specs.Place.{is_too_deep_at, place_after};
 
 use crate::faults::{fault_of, is_too_deep};
-use crate::place::is_blank;
+use crate::place::are_blank;
 use crate::reading::{Stop, read};
 use serde_json::Value;
 use std::alloc::Global;
@@ -172,34 +175,37 @@ fn is_continuation(byte: u8) -> bool
     128 <= byte && byte < 192
 }
 
+/// What is told of a value after a document, where the text before it is one.
+fn second_document(alloc: Global, bytes: &[u8], count: usize) -> DocumentError
+    requires { (count ≤ length bytes.now) × (is_too_deep_after bytes.now count ≡ false) }
+    ensures told { IsTold bytes.now result }
+    ensures second { result.fault ≡ DocumentFault.SecondDocument
+        → IsDocument (take (result.position - 1) bytes.now) }
+{
+    let (first, _) = bytes.split_at(count);
+    match Value::from_slice(alloc, first) {
+        Ok(_) => DocumentError::after(first, DocumentFault::SecondDocument),
+        Err(error) if error.is_memory() => DocumentError::after(b"", DocumentFault::Memory),
+        Err(_) => DocumentError::after(first, DocumentFault::NotJson),
+    }
+}
+
 /// What is told of a text that breaks at a place.
-fn told(bytes: &[u8], stop: &Stop) -> DocumentError
+fn told(alloc: Global, bytes: &[u8], stop: &Stop) -> DocumentError
     requires { (stop.now.at ≤ length bytes.now) × (stop.now.start ≤ stop.now.at) }
-    ensures stands { IsFaultIn bytes.now result }
-    ensures utf8 { result.fault ≢ DocumentFault.NotUtf8 }
-    ensures depth { (result.fault ≡ DocumentFault.TooDeep)
-        ↔ (is_too_deep_at bytes.now result.position ≡ true) }
+    ensures told { IsTold bytes.now result }
+    ensures second { result.fault ≡ DocumentFault.SecondDocument
+        → IsDocument (take (result.position - 1) bytes.now) }
 {
     let (count, fault) = fault_of(bytes, stop);
     let (before, _) = bytes.split_at(count);
     if is_too_deep(bytes, count) {
         return DocumentError::after(before, DocumentFault::TooDeep);
     }
-    DocumentError::after(before, fault)
-}
-
-/// What is told of bytes that a document may go on with.
-fn unfinished(bytes: &[u8]) -> DocumentError
-    ensures stands { IsFaultIn bytes.now result }
-    ensures fault { (result.fault ≡ DocumentFault.Empty) ⊎ (result.fault ≡ DocumentFault.CutShort) }
-    ensures end { result.position ≡ length bytes.now + 1 }
-{
-    let fault = if bytes.iter().all(|byte| is_blank(*byte)) {
-        DocumentFault::Empty
-    } else {
-        DocumentFault::CutShort
-    };
-    DocumentError::after(bytes, fault)
+    match fault {
+        DocumentFault::SecondDocument => second_document(alloc, bytes, count),
+        fault => DocumentError::after(before, fault),
+    }
 }
 
 /// How many bytes stand before the first that is no part of a character of UTF-8.
@@ -212,22 +218,38 @@ fn text_length(bytes: &[u8]) -> usize
     }
 }
 
-/// Why bytes are refused.
-fn refused(bytes: &[u8]) -> DocumentError
+/// What is told of bytes that a document may go on with.
+fn unfinished(bytes: &[u8]) -> DocumentError
     ensures stands { IsFaultIn bytes.now result }
+    ensures fault { result.fault ≡ DocumentFault.CutShort }
+    ensures position { result.position ≡ length bytes.now + 1 }
+{
+    DocumentError::after(bytes, DocumentFault::CutShort)
+}
+
+/// Why bytes are refused.
+fn refused(alloc: Global, bytes: &[u8]) -> DocumentError
+    ensures stands { result.fault ≢ DocumentFault.Memory → IsFaultIn bytes.now result }
     ensures not_utf8 { result.fault ≡ DocumentFault.NotUtf8 → IsUtf8 bytes.now → ⊥ }
     ensures too_deep { result.fault ≡ DocumentFault.TooDeep
         → is_too_deep_at bytes.now result.position ≡ true }
-    ensures not_too_deep { IsUtf8 bytes.now → result.fault ≢ DocumentFault.TooDeep
-        → is_too_deep_at bytes.now result.position ≡ false }
+    ensures not_too_deep { IsUtf8 bytes.now → result.fault ≢ DocumentFault.Memory
+        → result.fault ≢ DocumentFault.TooDeep → is_too_deep_at bytes.now result.position ≡ false }
+    ensures memory { result.fault ≡ DocumentFault.Memory → 0 < length bytes.now }
+    ensures empty { (result.fault ≡ DocumentFault.Empty) ↔ (are_blank bytes.now ≡ true) }
+    ensures second { result.fault ≡ DocumentFault.SecondDocument
+        → IsDocument (take (result.position - 1) bytes.now) }
 {
+    if are_blank(bytes) {
+        return DocumentError::after(bytes, DocumentFault::Empty);
+    }
     if bytes.starts_with(b"\xef\xbb\xbf") {
         return DocumentError::after(b"", DocumentFault::ByteOrderMark);
     }
     let (text, _) = bytes.split_at(text_length(bytes));
     let stop = read(text);
     if stop.is_too_large || stop.at < text.len() {
-        return told(bytes, &stop);
+        return told(alloc, bytes, &stop);
     }
     match from_utf8(bytes) {
         // A character of a string may go on.
@@ -259,6 +281,11 @@ pub fn read_document(alloc: Global, bytes: &[u8]) -> Result<Value, DocumentError
     ensures not_too_deep { IfErr result (λ e. IsUtf8 bytes.now → e.fault ≢ DocumentFault.Memory
         → e.fault ≢ DocumentFault.TooDeep → is_too_deep_at bytes.now e.position ≡ false) }
     ensures memory { IfErr result (λ e. e.fault ≡ DocumentFault.Memory → 0 < length bytes.now) }
+    ensures empty { IfErr result (λ e. e.fault ≢ DocumentFault.Memory
+        → (e.fault ≡ DocumentFault.Empty) ↔ (are_blank bytes.now ≡ true)) }
+    ensures second { IfErr result (λ e. e.fault ≡ DocumentFault.SecondDocument
+        → IsDocument (take (e.position - 1) bytes.now)) }
+    ensures whole { IfErr result (λ e. e.fault ≡ DocumentFault.Empty → IsBeginning bytes.now) }
 {
     match Value::from_slice(alloc, bytes) {
         Ok(value) => Ok(value),
@@ -266,7 +293,7 @@ pub fn read_document(alloc: Global, bytes: &[u8]) -> Result<Value, DocumentError
             if error.is_memory() {
                 return Err(DocumentError::after(b"", DocumentFault::Memory));
             }
-            Err(refused(bytes))
+            Err(refused(alloc, bytes))
         }
     }
 }

@@ -1,7 +1,7 @@
 //! What is open at a place in a text, and what stands before it.
 
 ghost use Rattle.std.specs.Prelude.{◌≡◌, ◌+◌, ◌^◌, ◌<◌};
-ghost use Rattle.jsonpath_document.specs.Place.{before_in, before_of, before_past, ends_value, is_bare_point};
+ghost use Rattle.jsonpath_document.specs.Place.{are_blank, before_in, before_of, before_past, ends_value, is_bare_point};
 ghost use Rattle.jsonpath_document.specs.Place.{is_before_name, is_blank, opened_after, open_past};
 ghost use Rattle.jsonpath_document.specs.Place.{wants_colon, wants_comma, wants_name, wants_value};
 
@@ -40,6 +40,18 @@ pub(crate) fn is_blank(byte: u8) -> bool
     ensures { result ≡ is_blank byte }
 {
     byte == b' ' || byte == b'\t' || byte == b'\n' || byte == b'\r'
+}
+
+/// Whether bytes are blanks alone.
+pub(crate) fn are_blank(bytes: &[u8]) -> bool
+    ensures { result ≡ are_blank bytes.now }
+{
+    for byte in bytes {
+        if !is_blank(*byte) {
+            return false;
+        }
+    }
+    true
 }
 
 /// What stands before a place: what is open, the last byte that is outside of strings and no blank, that byte before the last

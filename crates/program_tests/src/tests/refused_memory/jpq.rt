@@ -56,6 +56,7 @@ fn paths_in_a_file(rt: HostRuntime) -> Result<(), Fail> {
 const DOCUMENTS: &[&str] = &[
     "{\"a\": [1, \"b\"]} -> {\"a\":[1,\"b\"]}",
     "[1,] -> line 1, column 3: a comma with nothing after it",
+    "[\"b\"] 2 -> line 1, column 7: a second document (is it NDJSON? use -L)",
 ];
 
 #[test]

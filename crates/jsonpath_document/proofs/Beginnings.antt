@@ -1,0 +1,55 @@
+-- Blanks before a document are passed over, so blanks alone are the beginning of one.
+use Rattle.std.proofs.Common.{◌≡◌, ◌<◌, ◌⊎◌, inl, inr, ℕ, suc, zero, Bool, true, false, ◌&&◌, List, [], ◌∷◌, ◌++◌, refl, ap, arith, ◌∙◌}
+use Rattle.std.proofs.lemmas.Bool.Decides.{nat_tests}
+use Rattle.jsonpath_document.specs.Place.{are_blank, is_blank}
+use Rattle.std.specs.Str.{IsAscii}
+use Rattle.std.proofs.lemmas.Str.{IsUtf8-from_ascii}
+use Rattle.json.specs.Lex.{lex, between, class, space}
+use Rattle.serde_json.proofs.OnLiterals.{serde_json_on_literals}
+use Rattle.serde_json.specs.Read.{read}
+use Rattle.jsonpath_document.specs.Document.{IsBeginning, IsDocument}
+
+one_blank : (x : ℕ) → is_blank x ≡ true → (x ≡ 32) ⊎ ((x ≡ 9) ⊎ ((x ≡ 10) ⊎ (x ≡ 13)))
+one_blank x blank = grind (arith, nat_tests)
+
+class_blank : (x : ℕ) → is_blank x ≡ true → class x ≡ space
+class_blank x blank = elim (one_blank x blank) [
+  | inl e ↦ ap class e
+  | inr f ↦ elim f [
+    | inl e ↦ ap class e
+    | inr g ↦ elim g [ inl e ↦ ap class e | inr e ↦ ap class e ]
+  ]
+]
+
+below : (x : ℕ) → is_blank x ≡ true → x < 128
+below x blank = grind (arith, nat_tests)
+
+front : (a b : Bool) → a && b ≡ true → a ≡ true
+front true b e = refl
+front false b e = e
+
+back : (a b : Bool) → a && b ≡ true → b ≡ true
+back true b e = e
+back false b e = absurd (cc)
+
+pub lex_blanks : (bytes t : List ℕ) → are_blank bytes ≡ true → lex between (bytes ++ t) ≡ lex between t
+unfolding lex
+lex_blanks [] t blank = refl
+lex_blanks (x ∷ xs) t blank = rw (class_blank x (front _ _ blank)) (lex_blanks xs t (back _ _ blank))
+
+ascii : (bytes : List ℕ) → are_blank bytes ≡ true → IsAscii (bytes ++ (48 ∷ []))
+ascii [] blank zero = omega arith
+ascii [] blank (suc i) = omega arith
+ascii (x ∷ xs) blank zero = below x (front _ _ blank)
+ascii (x ∷ xs) blank (suc i) = ascii xs (back _ _ blank) i
+
+read_blanks : (bytes t : List ℕ) → are_blank bytes ≡ true → read (bytes ++ t) ≡ read t
+read_blanks bytes t blank = rw (lex_blanks bytes t blank) refl
+
+nought : IsDocument (48 ∷ [])
+unfolding serde_json_on_literals
+nought = (_, (IsUtf8-from_ascii _ (ascii [] refl), refl))
+
+pub blanks_begin : (bytes : List ℕ) → are_blank bytes ≡ true → IsBeginning bytes
+blanks_begin bytes blank =
+    (48 ∷ [], (nought.0, (IsUtf8-from_ascii _ (ascii bytes blank), read_blanks bytes _ blank ∙ nought.1.1)))

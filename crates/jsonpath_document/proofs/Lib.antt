@@ -1,0 +1,3 @@
+-- Lemmas; the folders have the proofs of functions.
+-- Beginnings: blanks alone are the beginning of a document.
+pub mod Beginnings
