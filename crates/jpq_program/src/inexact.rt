@@ -128,12 +128,12 @@ pub(crate) fn inexact_number(bytes: &[u8]) -> Option<&str> {
     };
     // Where the last token ends, so that a long one is looked at once.
     let mut past = 0usize;
-    for (number, piece) in bytes.chunks(DIGITS).enumerate() {
+    for number in 0..bytes.len() / DIGITS + 1 {
+        let index = number.saturating_mul(DIGITS);
         // Asked of many bytes: one range and two letters take in all bytes of numbers, and two others.
-        if !matches!(piece.first(), Some(b'+'..=b'9' | b'e' | b'E')) {
+        if !matches!(bytes.get(index), Some(b'+'..=b'9' | b'e' | b'E')) {
             continue;
         }
-        let index = number.saturating_mul(DIGITS);
         if index < past || !may_be_long(bytes, index) {
             continue;
         }
