@@ -1,6 +1,7 @@
 //! Forms of output, coloured lines, command lines, files of paths, documents, and runs of `jpq` over inputs and writers in memory.
 //! Reports, also under a set, and runs of `jsonpath`.
 
+mod by_clauses;
 mod colours;
 mod cuts;
 mod documents;

@@ -1,0 +1,224 @@
+-- What is shown of the two files.
+use Rattle.std.specs.Prelude.{◌≡◌, ◌≤◌, ◌++◌, ◌&&◌, ◌||◌, not, ℕ, Bool, true, false, List, [], ◌∷◌, Option, None, Some, codes, if◌then◌else◌, length, map, nat_eq, nat_lt}
+use Rattle.std.proofs.Common.{ap, arith, refl, suc, subst, sym, zero, ◌∙◌}
+use Rattle.std.specs.Borrow.{Bor}
+use Rattle.serde_json.specs.Data.{Data, array, item, member, no_items, no_members, number, object, unsigned}
+use Rattle.serde_json.proofs.OnLiterals.{serde_json_on_literals}
+use Rattle.serde_json.specs.Read.{read}
+use Rattle.std.specs.Char.{encode_utf8}
+use Rattle.std.specs.Fmt.{digits}
+use Rattle.std.specs.Str.{bytes_eq, chars}
+use Rattle.serde_json_path_nodes.specs.Location.{Step, by_name, by_position}
+use Rattle.serde_json_path_nodes.specs.Text.{in_decimal, normal}
+use Rattle.serde_json_path_functions.specs.Functions.{Numbers}
+use Rattle.serde_json_path_functions.specs.Patterns.{builtin_functions}
+use Rattle.serde_json_path_syntax.proofs.Words.{length-map}
+use Rattle.serde_json_path.specs.Laws.{IsNormal, Normal}
+use Rattle.serde_json_path.specs.declared.path.JsonPath.{JsonPath}
+use Rattle.jsonpath_lines.specs.Output.{compact_lines}
+use Rattle.jsonpath_lines.specs.declared.forms.Form.TheVariants.{LocationAndValue}
+use Rattle.jsonpath_lines.specs.declared.forms.Output.{Output}
+use Rattle.jpq_options.specs.Options.{AsksFor}
+use Rattle.jpq_options.specs.declared.options.Options.{Options}
+use Rattle.jpq_options.specs.declared.options.Request.{Request}
+use Rattle.jpq_program.specs.Answers.{AreAnswersOn, IsAnswerOn}
+use Rattle.jpq_program.specs.Heads.{head_text}
+use Rattle.jpq_program.specs.Inputs.{AreInputsShown, AreKnown, IsInputShown, IsLineShown, IsNamedShown, Shown}
+use Rattle.jpq_program.specs.Run.{ArePaths, ComesOf, IsPathOf, IsPlainRun, IsShownFor, form_in, has_names, has_numbers, is_colored, is_each, names_in, output_in, rule_in}
+use Rattle.jpq_program.specs.declared.streams.Streams.{Streams}
+use Rattle.std.specs.Io.KnownBytes.{Appends}
+use Rattle.program_tests.proofs.AskedWords.{OptionsAre, asks_for_run, words}
+use Rattle.program_tests.proofs.TwoItems.{ResultIsUnique, answer_is, line_to, two_each}
+
+-- ---- the documents
+
+abbrev pub to_a : List Step
+to_a = by_name (codes "a") ∷ []
+
+abbrev pub to_b : List Step
+to_b = by_name (codes "b") ∷ by_position 0 ∷ []
+
+abbrev document : ℕ → ℕ → Data
+document a b = object (member (codes "a") (number (unsigned a)) (member (codes "b") (array (item (number (unsigned b)) no_items)) no_members))
+
+abbrev pub one : List ℕ
+one = codes "{\"a\":1,\"b\":[2]}\n{\"b\":[4],\"a\":3}"
+
+abbrev pub two : List ℕ
+two = codes "\n{\"a\":5,\"b\":[6]}\n"
+
+first_read : read (codes "{\"a\":1,\"b\":[2]}") ≡ Some (document 1 2)
+unfolding serde_json_on_literals
+first_read = refl
+
+second_read : read (codes "{\"b\":[4],\"a\":3}") ≡ Some (document 3 4)
+unfolding serde_json_on_literals
+second_read = refl
+
+third_read : read (codes "{\"a\":5,\"b\":[6]}") ≡ Some (document 5 6)
+unfolding serde_json_on_literals
+third_read = refl
+
+-- what is known of the bytes of a file
+abbrev pub bytes_of : List ℕ → Option (List ℕ)
+bytes_of name = if bytes_eq name (codes "one") then Some one else if bytes_eq name (codes "two") then Some two else None
+
+-- ---- what is shown of them
+
+-- lines for these paths, with heads as these say
+abbrev Shows : Output → Bool → Bool → Bool → List JsonPath → Shown
+Shows output names lines numbers paths name line bytes text any = AreAnswersOn builtin_functions paths output (head_text names lines numbers name line) bytes text any
+
+abbrev ShowsBoth : JsonPath → JsonPath → Shown
+ShowsBoth p q = Shows (compact_lines LocationAndValue) true false true (p ∷ q ∷ [])
+
+abbrev lines_for : List ℕ → ℕ → ℕ → List ℕ
+lines_for name a b = line_to (head_text true false true name 1 1) to_a (number (unsigned a)) ++ line_to (head_text true false true name 1 2) to_b (number (unsigned b))
+
+-- what the paths of a document are, and the laws by which they show what they do
+pub record ArePathsTo (p q : JsonPath) : Type 0 where
+  pub rule : Numbers
+  pub first : IsPathOf rule (normal to_a) p
+  pub second : IsPathOf rule (normal to_b) q
+  pub normal_a : IsNormal to_a
+  pub normal_b : IsNormal to_b
+  pub unique : ResultIsUnique
+
+document_shown : (p q : JsonPath) (name : List ℕ) (line : ℕ) (bytes text : List ℕ) (any : Bool) (a b : ℕ) → ArePathsTo p q → read bytes ≡ Some (document a b) → ShowsBoth p q name line bytes text any
+    → (text ≡ lines_for name a b) × (any ≡ true)
+document_shown p q name line bytes text any a b paths reads are =
+    two_each (λ (count : ℕ) (path : JsonPath). IsAnswerOn builtin_functions path (compact_lines LocationAndValue) (head_text true false true name line count) bytes) 1 p q
+    (line_to (head_text true false true name line 1) to_a (number (unsigned a))) (line_to (head_text true false true name line 2) to_b (number (unsigned b))) text true true any
+    (λ t s is. answer_is to_a paths.rule builtin_functions p (head_text true false true name line 1) bytes t s (document a b) (number (unsigned a)) paths.normal_a paths.unique paths.first reads refl refl is)
+    (λ t s is. answer_is to_b paths.rule builtin_functions q (head_text true false true name line 2) bytes t s (document a b) (number (unsigned b)) paths.normal_b paths.unique paths.second reads refl refl is) are
+
+one_shown : (p q : JsonPath) (text : List ℕ) (any : Bool) → ArePathsTo p q → IsInputShown (ShowsBoth p q) true (codes "one") one text any → (text ≡ lines_for (codes "one") 1 2 ++ lines_for (codes "one") 3 4) × (any ≡ true)
+one_shown p q text any paths are =
+    two_each (IsLineShown (ShowsBoth p q) (codes "one")) 1 (codes "{\"a\":1,\"b\":[2]}\n") (codes "{\"b\":[4],\"a\":3}") (lines_for (codes "one") 1 2) (lines_for (codes "one") 3 4) text true true any
+    (λ t s is. document_shown p q (codes "one") 1 (codes "{\"a\":1,\"b\":[2]}") t s 1 2 paths first_read is)
+    (λ t s is. document_shown p q (codes "one") 2 (codes "{\"b\":[4],\"a\":3}") t s 3 4 paths second_read is) are
+
+two_shown : (p q : JsonPath) (text : List ℕ) (any : Bool) → ArePathsTo p q → IsInputShown (ShowsBoth p q) true (codes "two") two text any → (text ≡ lines_for (codes "two") 5 6) × (any ≡ true)
+two_shown p q text any paths are =
+    two_each (IsLineShown (ShowsBoth p q) (codes "two")) 1 (codes "\n") (codes "{\"a\":5,\"b\":[6]}\n") [] (lines_for (codes "two") 5 6) text false true any
+    (λ t s is. is)
+    (λ t s is. document_shown p q (codes "two") 2 (codes "{\"a\":5,\"b\":[6]}") t s 5 6 paths third_read is) are
+
+-- what the run writes
+abbrev pub written : List ℕ
+written = codes "one\t1\t$['a']\t1\none\t2\t$['b'][0]\t2\n" ++ (codes "one\t1\t$['a']\t3\none\t2\t$['b'][0]\t4\n" ++ codes "two\t1\t$['a']\t5\ntwo\t2\t$['b'][0]\t6\n")
+
+these_lines : (lines_for (codes "one") 1 2 ++ lines_for (codes "one") 3 4) ++ lines_for (codes "two") 5 6 ≡ written
+unfolding digits chars encode_utf8 in_decimal
+these_lines = refl
+
+same_bytes : (xs ys : List ℕ) → Some xs ≡ Some ys → xs ≡ ys
+same_bytes xs ys same = cc
+
+files_shown : (p q : JsonPath) (known : List ℕ → Option (List ℕ)) (text : List ℕ) (any : Bool) → ArePathsTo p q → known (codes "one") ≡ Some one → known (codes "two") ≡ Some two
+    → AreInputsShown (ShowsBoth p q) true known (codes "one" ∷ codes "two" ∷ []) text any → (text ≡ written) × (any ≡ true)
+files_shown p q known text any paths is_one is_two are =
+    let shown = two_each (λ (count : ℕ) (name : List ℕ). IsNamedShown (ShowsBoth p q) true known name) 1 (codes "one") (codes "two")
+    (lines_for (codes "one") 1 2 ++ lines_for (codes "one") 3 4) (lines_for (codes "two") 5 6) text true true any
+    (λ t s named. one_shown p q t s paths (subst (λ (bytes : List ℕ). IsInputShown (ShowsBoth p q) true (codes "one") bytes t s) (same_bytes named.0 one (sym named.1 ∙ is_one)) named.2))
+    (λ t s named. two_shown p q t s paths (subst (λ (bytes : List ℕ). IsInputShown (ShowsBoth p q) true (codes "two") bytes t s) (same_bytes named.0 two (sym named.1 ∙ is_two)) named.2)) are in
+    (shown.0 ∙ these_lines, shown.1)
+
+-- ---- by the options of the run
+
+nothing_in : (list : List (Bor (List ℕ))) → map (λ s. s.now) list ≡ [] → list ≡ []
+nothing_in [] is = refl
+nothing_in (x ∷ xs) is = absurd cc
+
+pub is_plain : (o : Options) → OptionsAre o → IsPlainRun o false
+is_plain o are = record {
+  each = ap is_each are.shown;
+  header = are.header;
+  indent = are.indent;
+  tab = are.tab;
+  ascii = are.ascii;
+  colored = ap (λ c. is_colored c false) are.color;
+  total = are.total;
+  most_of_all = are.most_of_all;
+  bindings = nothing_in o.bindings.items are.bindings;
+  paths_files = nothing_in o.paths_files.items are.paths_files;
+  check = are.check;
+}
+
+two_named : (o : Options) → OptionsAre o → length o.files.items ≡ 2
+two_named o are = sym (length-map o.files.items (λ (s : Bor (List ℕ)). s.now)) ∙ ap (λ (l : List (List ℕ)). length l) are.files
+
+pub names_are : (o : Options) → OptionsAre o → names_in o ≡ codes "one" ∷ codes "two" ∷ []
+names_are o are = λ i. if nat_eq (two_named o are i) 0 then codes "-" ∷ [] else are.files i
+
+output_is : (o : Options) → OptionsAre o → output_in o ≡ compact_lines LocationAndValue
+output_is o are = λ i. record { form = form_in (are.shown i); layout = are.layout i; end = are.end i; unique = are.unique i; most = are.most i }
+
+has_names_is : (o : Options) → OptionsAre o → has_names o ≡ true
+has_names_is o are = λ i. are.with_filename i || (nat_lt 1 (two_named o are i) && not (are.no_filename i))
+
+has_numbers_is : (o : Options) → OptionsAre o → has_numbers o 2 ≡ true
+has_numbers_is o are = λ i. nat_lt 1 2 && not (are.no_path_number i)
+
+-- what is shown for two paths by these options is what is written
+pub run_shown : (o : Options) (p q : JsonPath) (known : List ℕ → Option (List ℕ)) (text : List ℕ) (any : Bool) → OptionsAre o → ArePathsTo p q → known (codes "one") ≡ Some one → known (codes "two") ≡ Some two
+    → AreInputsShown (IsShownFor o (p ∷ q ∷ [])) o.lines known (names_in o) text any → (text ≡ written) × (any ≡ true)
+run_shown o p q known text any are paths is_one is_two shown = files_shown p q known text any paths is_one is_two
+    (subst (λ (names : List (List ℕ)). AreInputsShown (ShowsBoth p q) true known names text any) (names_are o are)
+    (subst (λ (lines : Bool). AreInputsShown (ShowsBoth p q) lines known (names_in o) text any) are.lines
+    (subst (λ (numbers : Bool). AreInputsShown (Shows (compact_lines LocationAndValue) true false numbers (p ∷ q ∷ [])) o.lines known (names_in o) text any) (has_numbers_is o are)
+    (subst (λ (lines : Bool). AreInputsShown (Shows (compact_lines LocationAndValue) true lines (has_numbers o 2) (p ∷ q ∷ [])) o.lines known (names_in o) text any) are.line_number
+    (subst (λ (names : Bool). AreInputsShown (Shows (compact_lines LocationAndValue) names o.line_number (has_numbers o 2) (p ∷ q ∷ [])) o.lines known (names_in o) text any) (has_names_is o are)
+    (subst (λ (output : Output). AreInputsShown (Shows output (has_names o) o.line_number (has_numbers o 2) (p ∷ q ∷ [])) o.lines known (names_in o) text any) (output_is o are) shown))))))
+
+-- two texts were read as two paths
+pub two_paths : (rule : Numbers) (texts : List (List ℕ)) (paths : List JsonPath) (a b : List ℕ) → texts ≡ a ∷ b ∷ [] → ArePaths rule texts paths → (p q : JsonPath) × (paths ≡ p ∷ q ∷ []) × IsPathOf rule a p × IsPathOf rule b q
+two_paths rule texts paths a b is are = of_two paths (subst (λ (t : List (List ℕ)). ArePaths rule t paths) is are)
+  where
+    of_two : (paths : List JsonPath) → ArePaths rule (a ∷ b ∷ []) paths → (p q : JsonPath) × (paths ≡ p ∷ q ∷ []) × IsPathOf rule a p × IsPathOf rule b q
+    of_two [] are = absurd are
+    of_two (p ∷ []) are = absurd are.1
+    of_two (p ∷ q ∷ r ∷ rest) are = absurd are.1.1
+    of_two (p ∷ q ∷ []) are = (p, q, refl, are.0, are.1.0)
+
+-- ---- what comes of the run
+
+both_known : (known : List ℕ → Option (List ℕ)) → known (codes "one") ≡ Some one → known (codes "two") ≡ Some two → AreKnown known (codes "one" ∷ codes "two" ∷ [])
+both_known known is_one is_two zero within = (one, is_one)
+both_known known is_one is_two (suc zero) within = (two, is_two)
+both_known known is_one is_two (suc (suc i)) within = absurd (omega (arith, within))
+
+text_of_a : normal to_a ≡ codes "$['a']"
+unfolding chars encode_utf8 in_decimal
+text_of_a = refl
+
+text_of_b : normal to_b ≡ codes "$['b'][0]"
+unfolding chars encode_utf8 in_decimal
+text_of_b = refl
+
+-- what comes of words that ask for the run
+pub run_comes : {I W E : Type 0} (out : W → Option (List ℕ)) (err : E → Option (List ℕ)) (known : List ℕ → Option (List ℕ)) (asked : Request) (inputs later : I) (before after : Streams W E) (status : ℕ) → Normal → ResultIsUnique
+    → AsksFor words asked → ComesOf out err known false asked inputs later before after status → known (codes "one") ≡ Some one → known (codes "two") ≡ Some two → status ≤ 1
+    → (status ≡ 0) × Appends (out before.out) (out after.out) written
+unfolding encode_utf8
+run_comes {I} {W} {E} out err known asked inputs later before after status normal_law unique asks comes is_one is_two few =
+    let run = asks_for_run asked asks in
+    let o = run.0 in
+    let are = run.2 in
+    let came = subst (λ (a : Request). ComesOf out err known false a inputs later before after status) run.1 comes in
+    let are_known = subst (λ (names : List (List ℕ)). AreKnown known names) (sym (names_are o are)) (both_known known is_one is_two) in
+    let answered = came.1 (is_plain o are) are_known few in
+    let both = two_paths (rule_in o) (map (λ (s : Bor (List ℕ)). s.now) o.paths.items) answered.paths (codes "$['a']") (codes "$['b'][0]") are.paths answered.are in
+    let paths : ArePathsTo both.0 both.1 = record {
+      rule = rule_in o;
+      first = subst (λ (text : List ℕ). IsPathOf (rule_in o) text both.0) (sym text_of_a) both.3;
+      second = subst (λ (text : List ℕ). IsPathOf (rule_in o) text both.1) (sym text_of_b) both.4;
+      normal_a = normal_law to_a ((97 ∷ [], (refl, refl)), tt) tt;
+      normal_b = normal_law to_b ((98 ∷ [], (refl, refl)), tt) (grind arith, tt);
+      unique = unique;
+    } in
+    let shown = run_shown o both.0 both.1 known answered.text answered.any are paths is_one is_two
+    (subst (λ (ps : List JsonPath). AreInputsShown (IsShownFor o ps) o.lines known (names_in o) answered.text answered.any) both.2 answered.shown) in (
+      answered.ends ∙ ap (λ (any : Bool). if any then 0 else 1) shown.1,
+      subst (λ (text : List ℕ). Appends (out before.out) (out after.out) text) shown.0 answered.out,
+    )
