@@ -32,10 +32,12 @@ back : (a b : Bool) → a && b ≡ true → b ≡ true
 back true b e = e
 back false b e = absurd (cc)
 
-pub lex_blanks : (bytes t : List ℕ) → are_blank bytes ≡ true → lex between (bytes ++ t) ≡ lex between t
+pub lex_blanks : (bytes t : List ℕ) → are_blank bytes ≡ true
+    → lex between (bytes ++ t) ≡ lex between t
 unfolding lex
 lex_blanks [] t blank = refl
-lex_blanks (x ∷ xs) t blank = rw (class_blank x (front _ _ blank)) (lex_blanks xs t (back _ _ blank))
+lex_blanks (x ∷ xs) t blank =
+    rw (class_blank x (front _ _ blank)) (lex_blanks xs t (back _ _ blank))
 
 ascii : (bytes : List ℕ) → are_blank bytes ≡ true → IsAscii (bytes ++ (48 ∷ []))
 ascii [] blank zero = omega arith
@@ -52,4 +54,5 @@ nought = (_, (IsUtf8-from_ascii _ (ascii [] refl), refl))
 
 pub blanks_begin : (bytes : List ℕ) → are_blank bytes ≡ true → IsBeginning bytes
 blanks_begin bytes blank =
-    (48 ∷ [], (nought.0, (IsUtf8-from_ascii _ (ascii bytes blank), read_blanks bytes _ blank ∙ nought.1.1)))
+    let reads = read_blanks bytes (48 ∷ []) blank ∙ nought.1.1 in
+    (48 ∷ [], (nought.0, (IsUtf8-from_ascii _ (ascii bytes blank), reads)))

@@ -58,7 +58,8 @@ IsMetBetween before text fault = (stands fault before text ≡ true) × IsOfByte
 
 -- the same after so many bytes of a text
 abbrev pub IsMetAt : List ℕ → ℕ → DocumentFault → Type 0
-IsMetAt text count fault = (count ≤ length text) × IsMetBetween (take count text) (drop count text) fault
+IsMetAt text count fault =
+    (count ≤ length text) × IsMetBetween (take count text) (drop count text) fault
 
 -- ---- what is told
 
