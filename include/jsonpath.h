@@ -12,15 +12,22 @@
  * A call with two texts reads both each time. A program that asks many paths, or many documents, compiles a path once and reads
  * a document once, and keeps each in a handle: `jsonpath_path *`, `jsonpath_document *`, and `jsonpath_nodes *` for a list of
  * nodes. A document that is asked once is handed over as its bytes (`jsonpath_lines_in` and on). A handle begins as NULL, which is
- * empty; a call that fills or empties it is handed its address. A text is bytes and a length in bytes, and needs no NUL at its end.
+ * empty; a call that fills or empties it is handed its address, and a call that asks is handed the pointer itself, as
+ * `const jsonpath_path *`. A text is bytes and a length in bytes, and needs no NUL at its end.
+ *
+ * Any number of threads may ask one path, one document and one list of nodes at once: a call that asks writes nothing that
+ * another reads. Where threads do not agree who frees last, `jsonpath_path_share` and `jsonpath_document_share` give each an owner
+ * of its own, which takes a few bytes; what they own is freed with the last.
  *
  * What the caller must keep to; nothing checks it:
  *   - A pointer is not null, also where its length is 0, and the memory behind it is valid for that length. What a call may
  *     write (`out`, `length`, `refusal`, `position`) overlaps nothing else that the call is handed, and no other thread uses it
  *     meanwhile.
- *   - A variable of a handle is NULL at first, is changed by these calls alone, and is not copied: what two variables hold would
- *     be freed twice. A call uses a handle as if it wrote it: no other thread uses it meanwhile, and one call is not handed the
- *     same variable twice. Between calls a handle may go from one thread to another, with what orders their memory.
+ *   - A variable of a handle is NULL at first and is changed by these calls alone. Its pointer may be copied for calls that ask;
+ *     only one variable is handed to the call that frees it. While a call fills or frees a handle no other call has that handle,
+ *     and afterwards no call has what was freed. Another owner of the same path or document may be asked meanwhile. What one
+ *     thread has made, another asks or frees after what orders their memory: a lock, a thread's start or join, or a sequentially
+ *     consistent atomic.
  *   - The stack has 1 MB left. A call uses what the depth of the path and of the document takes, 128 levels of each at most.
  *   - No call is made from a signal handler, nor in the child of a fork of a process with threads. malloc, realloc and free
  *     are those of one allocator, and align blocks as the C standard asks.
@@ -35,6 +42,9 @@
  *   - Where bytes are refused, `*position` is where the fault shows.
  *   - By which digits a double is printed: 8.95 as 8.95, 4.0 as 4.0, 1e2 as 100.0.
  *   - No message and no hint is longer than 100 bytes.
+ * Believed, not proved: a call needs what it asks no longer than until it returns. The proof takes a path, a document or a list as
+ * lent for good, since its clauses cannot name a call's time; nothing that a call writes or keeps can hold a reference.
+ *
  * No test holds this: with `unique` at most 64 nodes are held meanwhile, or four times as many as differ in their locations. The
  * stack's megabyte is measured.
  *
@@ -148,15 +158,19 @@ typedef struct jsonpath_nodes jsonpath_nodes;
 uint8_t jsonpath_path_new(const uint8_t *text, size_t text_length, uint8_t numbers, jsonpath_path **path,
                           struct jsonpath_refusal *refusal);
 
-/* Frees a path and makes the variable NULL. Of NULL it does nothing. */
+/* Another owner of a path: DONE, NO_MEMORY or EMPTY_HANDLE. With DONE the same path is in `*other`, in the place of what was
+ * there; it is not copied. */
+uint8_t jsonpath_path_share(const jsonpath_path *path, jsonpath_path **other);
+
+/* Frees a path, unless it has another owner, and makes the variable NULL. Of NULL it does nothing. */
 void jsonpath_path_free(jsonpath_path **path);
 
 /* A path's text, as it is printed: DONE, NO_MEMORY, NO_ROOM or EMPTY_HANDLE. `out` and `*length` are written as by
  * jsonpath_report. */
-uint8_t jsonpath_path_text(jsonpath_path **path, uint8_t *out, size_t out_length, size_t *length);
+uint8_t jsonpath_path_text(const jsonpath_path *path, uint8_t *out, size_t out_length, size_t *length);
 
 /* Whether two paths have the same tree, whatever they do with numbers: DONE with 1 or 0 in `*equal`, or EMPTY_HANDLE. */
-uint8_t jsonpath_path_equals(jsonpath_path **path, jsonpath_path **other, uint8_t *equal);
+uint8_t jsonpath_path_equals(const jsonpath_path *path, const jsonpath_path *other, uint8_t *equal);
 
 /* Reads a document: DONE, DOCUMENT_REFUSED, DOCUMENT_TOO_DEEP or NO_MEMORY. With DONE the document is in `*document`, in the
  * place of what was there. With one of the two refusals `*position` is the number of a byte, from 1, or one past the last: of the
@@ -165,7 +179,10 @@ uint8_t jsonpath_path_equals(jsonpath_path **path, jsonpath_path **other, uint8_
  * bytes that are UTF-8, none does. */
 uint8_t jsonpath_document_new(const uint8_t *bytes, size_t bytes_length, jsonpath_document **document, size_t *position);
 
-/* Frees a document and makes the variable NULL. Of NULL it does nothing. */
+/* Another owner of a document, as jsonpath_path_share of a path. */
+uint8_t jsonpath_document_share(const jsonpath_document *document, jsonpath_document **other);
+
+/* Frees a document, unless it has another owner, and makes the variable NULL. Of NULL it does nothing. */
 void jsonpath_document_free(jsonpath_document **document);
 
 /* What lines have of a node. */
@@ -184,41 +201,41 @@ struct jsonpath_limits {
  * CUT_SHORT, QUERY_REFUSED, NO_MEMORY, NO_ROOM or EMPTY_HANDLE. With DONE and CUT_SHORT the lines are the first `*length` bytes
  * of `out`; with CUT_SHORT they are those before the first node that would go beyond the limits. With NO_ROOM `*length` is how
  * many bytes they are, whether the limits cut them short or not. */
-uint8_t jsonpath_lines(jsonpath_path **path, jsonpath_document **document, uint8_t form, const struct jsonpath_limits *limits,
-                       uint8_t *out, size_t out_length, size_t *length);
+uint8_t jsonpath_lines(const jsonpath_path *path, const jsonpath_document *document, uint8_t form,
+                       const struct jsonpath_limits *limits, uint8_t *out, size_t out_length, size_t *length);
 
 /* How many nodes a path selects: DONE, QUERY_REFUSED, NO_MEMORY or EMPTY_HANDLE. */
-uint8_t jsonpath_count(jsonpath_path **path, jsonpath_document **document, size_t *count);
+uint8_t jsonpath_count(const jsonpath_path *path, const jsonpath_document *document, size_t *count);
 
 /* Whether a path selects a node, 1 or 0 in `*exists`: statuses as of jsonpath_count. */
-uint8_t jsonpath_exists(jsonpath_path **path, jsonpath_document **document, uint8_t *exists);
+uint8_t jsonpath_exists(const jsonpath_path *path, const jsonpath_document *document, uint8_t *exists);
 
 /* As jsonpath_lines, of the document that the bytes are, which is read for this call: its statuses, and DOCUMENT_REFUSED and
  * DOCUMENT_TOO_DEEP with `*position` as of jsonpath_document_new. */
-uint8_t jsonpath_lines_in(jsonpath_path **path, const uint8_t *document, size_t document_length, uint8_t form,
+uint8_t jsonpath_lines_in(const jsonpath_path *path, const uint8_t *document, size_t document_length, uint8_t form,
                           const struct jsonpath_limits *limits, uint8_t *out, size_t out_length, size_t *length,
                           size_t *position);
 
 /* As jsonpath_count, of the document that the bytes are: its statuses, and the two refusals as of jsonpath_lines_in. */
-uint8_t jsonpath_count_in(jsonpath_path **path, const uint8_t *document, size_t document_length, size_t *count,
+uint8_t jsonpath_count_in(const jsonpath_path *path, const uint8_t *document, size_t document_length, size_t *count,
                           size_t *position);
 
 /* As jsonpath_exists, of the document that the bytes are: statuses as of jsonpath_count_in. */
-uint8_t jsonpath_exists_in(jsonpath_path **path, const uint8_t *document, size_t document_length, uint8_t *exists,
+uint8_t jsonpath_exists_in(const jsonpath_path *path, const uint8_t *document, size_t document_length, uint8_t *exists,
                            size_t *position);
 
 /* A list of the nodes that a path selects, in order: DONE, CUT_SHORT, QUERY_REFUSED, NO_MEMORY or EMPTY_HANDLE. With `unique`
  * other than 0 each location comes once, where it comes first. With DONE the list is in `*nodes`, in the place of what was there;
  * with CUT_SHORT too, and has the nodes before the first that would go beyond the limits, which may be none. It has a node's
  * location, kind and number, and outlives the document; strings and JSON are in the document. */
-uint8_t jsonpath_select(jsonpath_path **path, jsonpath_document **document, uint8_t unique,
+uint8_t jsonpath_select(const jsonpath_path *path, const jsonpath_document *document, uint8_t unique,
                         const struct jsonpath_limits *limits, jsonpath_nodes **nodes);
 
 /* Frees a list and makes the variable NULL. Of NULL it does nothing. */
 void jsonpath_nodes_free(jsonpath_nodes **nodes);
 
 /* How many nodes a list has: DONE or EMPTY_HANDLE. */
-uint8_t jsonpath_nodes_length(jsonpath_nodes **nodes, size_t *length);
+uint8_t jsonpath_nodes_length(const jsonpath_nodes *nodes, size_t *length);
 
 /* Kinds of nodes. A number that is written as an integer is of the first of the three kinds that holds it. One with a point or an
  * exponent is a double, as 4.0 and 1e2, and so is -0. */
@@ -242,23 +259,23 @@ struct jsonpath_node {
 };
 
 /* What is known of the node at an index, from 0: DONE, EMPTY_HANDLE or NO_SUCH_NODE. */
-uint8_t jsonpath_node(jsonpath_nodes **nodes, size_t index, struct jsonpath_node *node);
+uint8_t jsonpath_node(const jsonpath_nodes *nodes, size_t index, struct jsonpath_node *node);
 
 /* The normalised path of the node at an index: DONE, NO_MEMORY, NO_ROOM, EMPTY_HANDLE or NO_SUCH_NODE. `out` and `*length` are
  * written as by jsonpath_report, here and below. */
-uint8_t jsonpath_node_location(jsonpath_nodes **nodes, size_t index, uint8_t *out, size_t out_length, size_t *length);
+uint8_t jsonpath_node_location(const jsonpath_nodes *nodes, size_t index, uint8_t *out, size_t out_length, size_t *length);
 
 /* The JSON pointer (RFC 6901) of the node at an index, likewise. */
-uint8_t jsonpath_node_pointer(jsonpath_nodes **nodes, size_t index, uint8_t *out, size_t out_length, size_t *length);
+uint8_t jsonpath_node_pointer(const jsonpath_nodes *nodes, size_t index, uint8_t *out, size_t out_length, size_t *length);
 
 /* The bytes of the string at an index, as the document has it at that node's location: DONE, NO_ROOM, EMPTY_HANDLE or
  * NO_SUCH_NODE, also where no string is there. */
-uint8_t jsonpath_node_text(jsonpath_nodes **nodes, jsonpath_document **document, size_t index, uint8_t *out,
+uint8_t jsonpath_node_text(const jsonpath_nodes *nodes, const jsonpath_document *document, size_t index, uint8_t *out,
                            size_t out_length, size_t *length);
 
 /* The compact JSON of what the document has at the location of the node at an index: DONE, NO_MEMORY, NO_ROOM, EMPTY_HANDLE or
  * NO_SUCH_NODE, also where nothing is there. */
-uint8_t jsonpath_node_json(jsonpath_nodes **nodes, jsonpath_document **document, size_t index, uint8_t *out,
+uint8_t jsonpath_node_json(const jsonpath_nodes *nodes, const jsonpath_document *document, size_t index, uint8_t *out,
                            size_t out_length, size_t *length);
 
 /* The library's version: major * 10000 + minor * 100 + patch. */

@@ -22,11 +22,11 @@ static uint8_t compile(jsonpath_path **rules) {
 }
 
 /* Counts the rules that hold of a document. */
-static uint8_t count(jsonpath_path **rules, jsonpath_document **document, size_t *holding) {
+static uint8_t count(jsonpath_path **rules, const jsonpath_document *document, size_t *holding) {
     uint8_t status = JSONPATH_DONE, holds;
     *holding = 0;
     for (int at = 0; at < RULES && status == JSONPATH_DONE; at++) {
-        status = jsonpath_exists(&rules[at], document, &holds);
+        status = jsonpath_exists(rules[at], document, &holds);
         if (status == JSONPATH_DONE) *holding += holds;
     }
     return status;
@@ -43,7 +43,7 @@ int main(void) {
         if (line[length - 1] == '\n') length--;
         /* What the handle held is freed once the next document is in it. */
         status = jsonpath_document_new((const uint8_t *)line, (size_t)length, &document, &position);
-        if (status == JSONPATH_DONE) status = count(rules, &document, &holding);
+        if (status == JSONPATH_DONE) status = count(rules, document, &holding);
         if (status == JSONPATH_DONE) {
             printf("%zu\n", holding);
         } else if (status == JSONPATH_DOCUMENT_REFUSED || status == JSONPATH_DOCUMENT_TOO_DEEP) {

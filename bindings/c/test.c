@@ -202,29 +202,29 @@ static const struct jsonpath_limits NO_LIMITS = {SIZE_MAX, SIZE_MAX};
 typedef uint8_t text_call(struct asked_with *, uint8_t *out, size_t out_length, size_t *length);
 
 static uint8_t path_text(struct asked_with *with, uint8_t *out, size_t out_length, size_t *length) {
-    return jsonpath_path_text(&with->path, out, out_length, length);
+    return jsonpath_path_text(with->path, out, out_length, length);
 }
 static uint8_t lines(struct asked_with *with, uint8_t *out, size_t out_length, size_t *length) {
-    return jsonpath_lines(&with->path, &with->document, with->form, &with->limits, out, out_length, length);
+    return jsonpath_lines(with->path, with->document, with->form, &with->limits, out, out_length, length);
 }
 static uint8_t lines_in(struct asked_with *with, uint8_t *out, size_t out_length, size_t *length) {
     size_t position = 7;
-    uint8_t status = jsonpath_lines_in(&with->path, (const uint8_t *)with->bytes, strlen(with->bytes), with->form,
+    uint8_t status = jsonpath_lines_in(with->path, (const uint8_t *)with->bytes, strlen(with->bytes), with->form,
                                        &with->limits, out, out_length, length, &position);
     holds(position == 7, "position is written by lines", with->bytes);
     return status;
 }
 static uint8_t location(struct asked_with *with, uint8_t *out, size_t out_length, size_t *length) {
-    return jsonpath_node_location(&with->nodes, with->index, out, out_length, length);
+    return jsonpath_node_location(with->nodes, with->index, out, out_length, length);
 }
 static uint8_t pointer(struct asked_with *with, uint8_t *out, size_t out_length, size_t *length) {
-    return jsonpath_node_pointer(&with->nodes, with->index, out, out_length, length);
+    return jsonpath_node_pointer(with->nodes, with->index, out, out_length, length);
 }
 static uint8_t text(struct asked_with *with, uint8_t *out, size_t out_length, size_t *length) {
-    return jsonpath_node_text(&with->nodes, &with->document, with->index, out, out_length, length);
+    return jsonpath_node_text(with->nodes, with->document, with->index, out, out_length, length);
 }
 static uint8_t json(struct asked_with *with, uint8_t *out, size_t out_length, size_t *length) {
-    return jsonpath_node_json(&with->nodes, &with->document, with->index, out, out_length, length);
+    return jsonpath_node_json(with->nodes, with->document, with->index, out, out_length, length);
 }
 
 /* Compiles a path that is one, in a handle that may be filled. */
@@ -251,7 +251,7 @@ static struct asked_with asked_of(const char *path, uint8_t numbers, const char 
     struct asked_with with = {NULL, NULL, NULL, 0, JSONPATH_VALUES, NO_LIMITS, document};
     compile(&with.path, path, numbers);
     read_to(&with.document, document);
-    uint8_t status = jsonpath_select(&with.path, &with.document, 0, &NO_LIMITS, &with.nodes);
+    uint8_t status = jsonpath_select(with.path, with.document, 0, &NO_LIMITS, &with.nodes);
     holds(status == JSONPATH_DONE && with.nodes != NULL, "selected", path);
     return with;
 }
@@ -318,9 +318,9 @@ static void counts_in(struct asked_with *with, size_t nodes, const char *what) {
         const uint8_t *text = (const uint8_t *)bytes;
         size_t count = 7, position = 7, length = strlen(with->bytes) + blanks;
         uint8_t exists = 7;
-        uint8_t status = jsonpath_count_in(&with->path, text, length, &count, &position);
+        uint8_t status = jsonpath_count_in(with->path, text, length, &count, &position);
         holds(status == JSONPATH_DONE && count == nodes && position == 7, "count in bytes", what);
-        status = jsonpath_exists_in(&with->path, text, length, &exists, &position);
+        status = jsonpath_exists_in(with->path, text, length, &exists, &position);
         holds(status == JSONPATH_DONE && exists == !!nodes && position == 7, "exists in bytes", what);
     }
     free(bytes);
@@ -337,12 +337,12 @@ static void refuses_in(struct asked_with *with, const char *bytes, size_t length
         size_t count = 7, position[3] = {0}, all = length + blanks, at = byte ? byte + blanks : 0;
         uint8_t exists = 7;
         struct answer answer = lent(ROOM);
-        answer.status = jsonpath_lines_in(&with->path, begin, all, form, &NO_LIMITS, answer.out, ROOM, &answer.length, position);
+        answer.status = jsonpath_lines_in(with->path, begin, all, form, &NO_LIMITS, answer.out, ROOM, &answer.length, position);
         holds(answer.status == wanted && position[0] == at, "lines of bytes that are refused", what);
         holds(is_untouched(answer.out, ROOM) && is_untouched(&answer.length, sizeof answer.length), "lines are written", what);
-        uint8_t status = jsonpath_count_in(&with->path, begin, all, &count, position + 1);
+        uint8_t status = jsonpath_count_in(with->path, begin, all, &count, position + 1);
         holds(status == wanted && position[1] == at && count == 7, "count in bytes that are refused", what);
-        status = jsonpath_exists_in(&with->path, begin, all, &exists, position + 2);
+        status = jsonpath_exists_in(with->path, begin, all, &exists, position + 2);
         holds(status == wanted && position[2] == at && exists == 7, "exists in bytes that are refused", what);
         free(answer.out);
     }
@@ -361,10 +361,10 @@ static void selects_compiled(const char *path, uint8_t numbers, const char *docu
     }
     size_t count = 7, length = 7, nodes = 0;
     for (const char *at = values; (at = strchr(at, '\n')); at++) nodes++;
-    holds(jsonpath_count(&with.path, &with.document, &count) == JSONPATH_DONE && count == nodes, "count", path);
-    holds(jsonpath_exists(&with.path, &with.document, &exists) == JSONPATH_DONE && exists == !!nodes, "exists", path);
+    holds(jsonpath_count(with.path, with.document, &count) == JSONPATH_DONE && count == nodes, "count", path);
+    holds(jsonpath_exists(with.path, with.document, &exists) == JSONPATH_DONE && exists == !!nodes, "exists", path);
     counts_in(&with, nodes, path);
-    holds(jsonpath_nodes_length(&with.nodes, &length) == JSONPATH_DONE && length == nodes, "length of a list", path);
+    holds(jsonpath_nodes_length(with.nodes, &length) == JSONPATH_DONE && length == nodes, "length of a list", path);
     for (; with.index < nodes; with.index++) {
         char value[ROOM], place[ROOM];
         sscanf(values, "%[^\n]", value), values += strlen(value) + 1;
@@ -405,9 +405,9 @@ static void compiled_paths(void) {
     jsonpath_path *other = NULL;
     uint8_t equal = 7;
     compile(&other, printed, JSONPATH_ALL_NUMBERS);
-    holds(jsonpath_path_equals(&with.path, &other, &equal) == JSONPATH_DONE && equal == 1, "equal", printed);
+    holds(jsonpath_path_equals(with.path, other, &equal) == JSONPATH_DONE && equal == 1, "equal", printed);
     compile(&other, "$", 255); /* What was there is freed. */
-    holds(jsonpath_path_equals(&other, &with.path, &equal) == JSONPATH_DONE && equal == 0, "not equal", printed);
+    holds(jsonpath_path_equals(other, with.path, &equal) == JSONPATH_DONE && equal == 0, "not equal", printed);
 
     struct jsonpath_refusal refusal;
     uint8_t status = jsonpath_path_new((const uint8_t *)"$.a ", 4, 0, &with.path, &refusal);
@@ -424,13 +424,33 @@ static void compiled_paths(void) {
     jsonpath_path_free(&other), emptied(&with);
 }
 
+/* Further owners of a path and a document: each has the same, takes one request for memory, and stays when the first is freed. */
+static void owners(void) {
+    struct asked_with with = asked_of("$[?@ > 1]", JSONPATH_ALL_NUMBERS, "[1,2,[3],3.5]");
+    jsonpath_path *path = NULL;
+    jsonpath_document *document = NULL;
+    uint8_t equal = 7;
+    compile(&path, "$", JSONPATH_WHOLE_NUMBERS); /* What was there is freed. */
+    granted = 1;
+    holds(jsonpath_path_share(with.path, &path) == JSONPATH_DONE && path != with.path, "status of an owner", "a path");
+    granted = 1;
+    holds(jsonpath_document_share(with.document, &document) == JSONPATH_DONE, "status of an owner", "a document");
+    granted = SIZE_MAX;
+    holds(jsonpath_path_equals(path, with.path, &equal) == JSONPATH_DONE && equal == 1, "paths of two owners", "a path");
+    writes(lines, &with, JSONPATH_DONE, "2\n3.5\n", "lines beside another owner");
+    jsonpath_path_free(&with.path), jsonpath_document_free(&with.document);
+    with.path = path, with.document = document;
+    writes(lines, &with, JSONPATH_DONE, "2\n3.5\n", "lines of the last owner");
+    emptied(&with);
+}
+
 /* How many nodes a path selects by each rule for numbers. */
 static void compares(const char *path, const char *document, size_t whole, size_t all) {
     uint8_t rules[] = {JSONPATH_WHOLE_NUMBERS, JSONPATH_ALL_NUMBERS, 2, 255};
     for (int at = 0; at < 4; at++) {
         struct asked_with with = asked_of(path, rules[at], document);
         size_t count = SIZE_MAX;
-        holds(jsonpath_count(&with.path, &with.document, &count) == JSONPATH_DONE, "status by a rule", path);
+        holds(jsonpath_count(with.path, with.document, &count) == JSONPATH_DONE, "status by a rule", path);
         holds(count == (at ? all : whole), "count by a rule", path);
         emptied(&with);
     }
@@ -487,9 +507,9 @@ static void documents(void) {
     char *most = nested(127);
     struct asked_with with = asked_of("$..*", JSONPATH_WHOLE_NUMBERS, most);
     size_t count = 0;
-    holds(jsonpath_count(&with.path, &with.document, &count) == JSONPATH_DONE && count == 126, "count", "127 deep");
+    holds(jsonpath_count(with.path, with.document, &count) == JSONPATH_DONE && count == 126, "count", "127 deep");
     read_to(&with.document, "[[], 1]"); /* What was there is freed. */
-    holds(jsonpath_count(&with.path, &with.document, &count) == JSONPATH_DONE && count == 2, "count", "read anew");
+    holds(jsonpath_count(with.path, with.document, &count) == JSONPATH_DONE && count == 2, "count", "read anew");
     emptied(&with);
     too_deep();
     refuses_document("", 0, JSONPATH_DOCUMENT_REFUSED, 1);
@@ -533,14 +553,14 @@ static void lists_within(struct jsonpath_limits limits, const char *path, uint8_
                          const char *locations) {
     struct asked_with with = asked_of("$..*", JSONPATH_WHOLE_NUMBERS, "{\"a\":1,\"b\":[2]}");
     compile(&with.path, path, JSONPATH_WHOLE_NUMBERS);
-    uint8_t status = jsonpath_select(&with.path, &with.document, unique, &limits, &with.nodes);
+    uint8_t status = jsonpath_select(with.path, with.document, unique, &limits, &with.nodes);
     holds(status == wanted, "status of a list", path);
     char place[ROOM];
     for (int taken; sscanf(locations, "%s %n", place, &taken) == 1; locations += taken, with.index++) {
         writes(location, &with, JSONPATH_DONE, place, path);
     }
     size_t length = SIZE_MAX;
-    holds(jsonpath_nodes_length(&with.nodes, &length) == JSONPATH_DONE && length == with.index, "nodes of a list", path);
+    holds(jsonpath_nodes_length(with.nodes, &length) == JSONPATH_DONE && length == with.index, "nodes of a list", path);
     writes_nothing(location, &with, JSONPATH_NO_SUCH_NODE, path);
     emptied(&with);
 }
@@ -606,12 +626,12 @@ static void stops(void) {
     with.limits.nodes = 3;
     writes(lines, &with, JSONPATH_CUT_SHORT, "1\n1\n1\n", "lines of the first nodes");
     uint8_t exists = 7;
-    holds(jsonpath_exists(&with.path, &with.document, &exists) == JSONPATH_DONE && exists == 1, "first node", path);
+    holds(jsonpath_exists(with.path, with.document, &exists) == JSONPATH_DONE && exists == 1, "first node", path);
     for (uint8_t unique = 0; unique < 2; unique++) {
         size_t length = 0;
-        uint8_t status = jsonpath_select(&with.path, &with.document, unique, &with.limits, &with.nodes);
+        uint8_t status = jsonpath_select(with.path, with.document, unique, &with.limits, &with.nodes);
         holds(status == JSONPATH_CUT_SHORT, "status of the first nodes", path);
-        holds(jsonpath_nodes_length(&with.nodes, &length) == JSONPATH_DONE && length == 3, "first nodes", path);
+        holds(jsonpath_nodes_length(with.nodes, &length) == JSONPATH_DONE && length == 3, "first nodes", path);
     }
     emptied(&with);
 }
@@ -621,13 +641,13 @@ static void knows(const char *document, struct jsonpath_node wanted) {
     struct asked_with with = asked_of("$", JSONPATH_WHOLE_NUMBERS, document);
     struct jsonpath_node node;
     memset(&node, UNTOUCHED, sizeof node);
-    holds(jsonpath_node(&with.nodes, 0, &node) == JSONPATH_DONE, "status of a node", document);
+    holds(jsonpath_node(with.nodes, 0, &node) == JSONPATH_DONE, "status of a node", document);
     holds(node.kind == wanted.kind && node.length == wanted.length, "kind or length", document);
     holds(node.integer == wanted.integer && node.unsigned_value == wanted.unsigned_value, "integer", document);
     holds(node.number == wanted.number, "double", document);
     memset(&node, UNTOUCHED, sizeof node);
-    holds(jsonpath_node(&with.nodes, 1, &node) == JSONPATH_NO_SUCH_NODE, "past the last node", document);
-    holds(jsonpath_node(&with.nodes, SIZE_MAX, &node) == JSONPATH_NO_SUCH_NODE, "far past the last node", document);
+    holds(jsonpath_node(with.nodes, 1, &node) == JSONPATH_NO_SUCH_NODE, "past the last node", document);
+    holds(jsonpath_node(with.nodes, SIZE_MAX, &node) == JSONPATH_NO_SUCH_NODE, "far past the last node", document);
     holds(is_untouched(&node, sizeof node), "node is written", document);
     emptied(&with);
 }
@@ -684,7 +704,7 @@ static void lists_alone(void) {
     struct asked_with with = asked_of("$['a/b'][*]", JSONPATH_WHOLE_NUMBERS, NAMED);
     jsonpath_document_free(&with.document), jsonpath_path_free(&with.path);
     struct jsonpath_node node;
-    holds(jsonpath_node(&with.nodes, 0, &node) == JSONPATH_DONE, "a node without its document", "list");
+    holds(jsonpath_node(with.nodes, 0, &node) == JSONPATH_DONE, "a node without its document", "list");
     holds(node.kind == JSONPATH_STRING && node.length == 3, "kind without its document", "list");
     writes(location, &with, JSONPATH_DONE, "$['a/b'][0]", "location without its document");
     writes(pointer, &with, JSONPATH_DONE, "/a~1b/0", "pointer without its document");
@@ -715,23 +735,28 @@ static void finds_empty(struct asked_with *with, const char *what) {
     compile(&other, "$", JSONPATH_WHOLE_NUMBERS);
     if (!with->path) {
         writes_nothing(path_text, with, empty, what);
-        holds(jsonpath_path_equals(&with->path, &other, &equal) == empty && equal == 7, "equals", what);
-        holds(jsonpath_path_equals(&other, &with->path, &equal) == empty && equal == 7, "is equal", what);
+        holds(jsonpath_path_equals(with->path, other, &equal) == empty && equal == 7, "equals", what);
+        holds(jsonpath_path_equals(other, with->path, &equal) == empty && equal == 7, "is equal", what);
+        holds(jsonpath_path_share(with->path, &other) == empty && other, "owner of a path", what);
         refuses_in(with, "[1]", 3, empty, 0, what);
         refuses_in(with, "{", 1, empty, 0, what);
     }
+    if (!with->document) {
+        jsonpath_document *none = NULL;
+        holds(jsonpath_document_share(with->document, &none) == empty && !none, "owner of a document", what);
+    }
     if (cannot_query) {
         writes_nothing(lines, with, empty, what);
-        holds(jsonpath_count(&with->path, &with->document, &count) == empty && count == 7, "count", what);
-        holds(jsonpath_exists(&with->path, &with->document, &exists) == empty && exists == 7, "exists", what);
-        holds(jsonpath_select(&with->path, &with->document, 0, &NO_LIMITS, &with->nodes) == empty, "select", what);
+        holds(jsonpath_count(with->path, with->document, &count) == empty && count == 7, "count", what);
+        holds(jsonpath_exists(with->path, with->document, &exists) == empty && exists == 7, "exists", what);
+        holds(jsonpath_select(with->path, with->document, 0, &NO_LIMITS, &with->nodes) == empty, "select", what);
         holds(with->nodes == kept, "a list is written", what);
     }
     if (!with->nodes) {
         writes_nothing(location, with, empty, what);
         writes_nothing(pointer, with, empty, what);
-        holds(jsonpath_nodes_length(&with->nodes, &length) == empty && length == 7, "length of a list", what);
-        holds(jsonpath_node(&with->nodes, 0, &node) == empty && is_untouched(&node, sizeof node), "node", what);
+        holds(jsonpath_nodes_length(with->nodes, &length) == empty && length == 7, "length of a list", what);
+        holds(jsonpath_node(with->nodes, 0, &node) == empty && is_untouched(&node, sizeof node), "node", what);
     }
     if (cannot_read) {
         writes_nothing(text, with, empty, what);
@@ -766,11 +791,11 @@ static void refused_queries(void) {
     const char *path = "$[?match(@, '\\\\w{1000}{10}')]";
     compile(&with.path, path, JSONPATH_WHOLE_NUMBERS);
     writes_nothing(lines, &with, refused, path);
-    holds(jsonpath_count(&with.path, &with.document, &count) == refused && count == 7, "count", path);
-    holds(jsonpath_exists(&with.path, &with.document, &exists) == refused && exists == 7, "exists", path);
+    holds(jsonpath_count(with.path, with.document, &count) == refused && count == 7, "count", path);
+    holds(jsonpath_exists(with.path, with.document, &exists) == refused && exists == 7, "exists", path);
     for (with.form = 0; with.form < 3; with.form++) refuses_in(&with, with.bytes, strlen(with.bytes), refused, 0, path);
     for (uint8_t unique = 0; unique < 2; unique++) {
-        holds(jsonpath_select(&with.path, &with.document, unique, &with.limits, &with.nodes) == refused, "select", path);
+        holds(jsonpath_select(with.path, with.document, unique, &with.limits, &with.nodes) == refused, "select", path);
     }
     writes(location, &with, JSONPATH_DONE, "$[0]", "list after a refusal");
     emptied(&with);
@@ -793,31 +818,43 @@ static uint8_t reads(struct asked_with *with) {
     size_t position;
     return jsonpath_document_new((const uint8_t *)"[{\"a\":\"bb\"},[1,2,3]]", 20, &with->document, &position);
 }
+static uint8_t shares_path(struct asked_with *with) {
+    jsonpath_path *other = NULL;
+    uint8_t status = jsonpath_path_share(with->path, &other);
+    jsonpath_path_free(&other);
+    return status;
+}
+static uint8_t shares_document(struct asked_with *with) {
+    jsonpath_document *other = NULL;
+    uint8_t status = jsonpath_document_share(with->document, &other);
+    jsonpath_document_free(&other);
+    return status;
+}
 static uint8_t selects_all(struct asked_with *with) {
-    return jsonpath_select(&with->path, &with->document, 0, &with->limits, &with->nodes);
+    return jsonpath_select(with->path, with->document, 0, &with->limits, &with->nodes);
 }
 static uint8_t selects_each_once(struct asked_with *with) {
-    return jsonpath_select(&with->path, &with->document, 1, &with->limits, &with->nodes);
+    return jsonpath_select(with->path, with->document, 1, &with->limits, &with->nodes);
 }
 static uint8_t counts(struct asked_with *with) {
     size_t count;
-    return jsonpath_count(&with->path, &with->document, &count);
+    return jsonpath_count(with->path, with->document, &count);
 }
 static uint8_t finds(struct asked_with *with) {
     uint8_t exists;
-    return jsonpath_exists(&with->path, &with->document, &exists);
+    return jsonpath_exists(with->path, with->document, &exists);
 }
 static uint8_t writes_lines(struct asked_with *with) {
     return lines(with, room_for_text, ROOM, &text_length);
 }
 static uint8_t counts_bytes(struct asked_with *with) {
     size_t count, position;
-    return jsonpath_count_in(&with->path, (const uint8_t *)with->bytes, strlen(with->bytes), &count, &position);
+    return jsonpath_count_in(with->path, (const uint8_t *)with->bytes, strlen(with->bytes), &count, &position);
 }
 static uint8_t finds_in_bytes(struct asked_with *with) {
     uint8_t exists;
     size_t position;
-    return jsonpath_exists_in(&with->path, (const uint8_t *)with->bytes, strlen(with->bytes), &exists, &position);
+    return jsonpath_exists_in(with->path, (const uint8_t *)with->bytes, strlen(with->bytes), &exists, &position);
 }
 static uint8_t writes_lines_of_bytes(struct asked_with *with) {
     return lines_in(with, room_for_text, ROOM, &text_length);
@@ -840,7 +877,7 @@ static void is_ready(struct asked_with *with, const char *what) {
     size_t length = 0;
     writes(path_text, with, JSONPATH_DONE, READY_PATH, what);
     writes(lines, with, JSONPATH_DONE, "{\"a\":\"bb\"}\n", what);
-    holds(jsonpath_nodes_length(&with->nodes, &length) == JSONPATH_DONE && length == 1, "list that is ready", what);
+    holds(jsonpath_nodes_length(with->nodes, &length) == JSONPATH_DONE && length == 1, "list that is ready", what);
     writes(location, with, JSONPATH_DONE, "$[0]", what);
 }
 
@@ -873,6 +910,8 @@ static void runs_out_on_handles(handle_call *call, const char *what) {
 static void refused_memory(void) {
     runs_out_on_handles(compiles, "jsonpath_path_new");
     runs_out_on_handles(reads, "jsonpath_document_new");
+    runs_out_on_handles(shares_path, "jsonpath_path_share");
+    runs_out_on_handles(shares_document, "jsonpath_document_share");
     runs_out_on_handles(selects_all, "jsonpath_select");
     runs_out_on_handles(selects_each_once, "jsonpath_select, each location once");
     runs_out_on_handles(counts, "jsonpath_count");
@@ -893,8 +932,8 @@ static void refused_memory(void) {
     size_t length = 0;
     struct jsonpath_node node;
     granted = 0;
-    uint8_t statuses = jsonpath_path_equals(&with.path, &other, &equal) | jsonpath_nodes_length(&with.nodes, &length)
-                       | jsonpath_node(&with.nodes, 0, &node) | text(&with, room_for_text, ROOM, &text_length);
+    uint8_t statuses = jsonpath_path_equals(with.path, other, &equal) | jsonpath_nodes_length(with.nodes, &length)
+                       | jsonpath_node(with.nodes, 0, &node) | text(&with, room_for_text, ROOM, &text_length);
     granted = SIZE_MAX;
     holds(statuses == JSONPATH_DONE && equal && length == 1 && text_length == 1, "without memory", "calls that take none");
     jsonpath_path_free(&other), emptied(&with);
@@ -903,6 +942,7 @@ static void refused_memory(void) {
 /* What is said of handles. */
 static void handles(void) {
     compiled_paths();
+    owners();
     compares("$[?@ == 4]", "[4,4.0,0.4e1]", 1, 3);
     compares("$[?@ < 9]", "[8,8.95,1e1]", 1, 2);
     compares("$[?@ >= 8.95]", "[8,8.95,9]", 1, 2);
@@ -925,9 +965,9 @@ static const char *const CASE = "$['path','document','stdout','stderr','status',
 /* The string at an index of a case, ended by a NUL. */
 static char *field(struct asked_with *with, size_t index, size_t *length) {
     uint8_t none;
-    jsonpath_node_text(&with->nodes, &with->document, index, &none, 0, length);
+    jsonpath_node_text(with->nodes, with->document, index, &none, 0, length);
     char *string = malloc(*length + 1);
-    uint8_t status = jsonpath_node_text(&with->nodes, &with->document, index, (uint8_t *)string, *length, length);
+    uint8_t status = jsonpath_node_text(with->nodes, with->document, index, (uint8_t *)string, *length, length);
     holds(status == JSONPATH_DONE, "field", "case");
     string[*length] = 0;
     return string;
@@ -957,7 +997,7 @@ static void is_refused(const char *path, uint8_t numbers, const char *document, 
 /* The rule for numbers that a case names; without one it is that of whole numbers. */
 static uint8_t rule(struct asked_with *with) {
     size_t count = 0, length;
-    jsonpath_nodes_length(&with->nodes, &count);
+    jsonpath_nodes_length(with->nodes, &count);
     char *name = count == 6 ? field(with, 5, &length) : NULL;
     uint8_t numbers = name && !strcmp(name, "all") ? JSONPATH_ALL_NUMBERS : JSONPATH_WHOLE_NUMBERS;
     free(name);
@@ -970,7 +1010,7 @@ static void is_answered(struct asked_with *with) {
     char *texts[4];
     struct jsonpath_node status = {0};
     for (size_t at = 0; at < 4; at++) texts[at] = field(with, at, &lengths[at]);
-    holds(jsonpath_node(&with->nodes, 4, &status) == JSONPATH_DONE, "status of a case", texts[0]);
+    holds(jsonpath_node(with->nodes, 4, &status) == JSONPATH_DONE, "status of a case", texts[0]);
     uint8_t numbers = rule(with);
     if (status.integer) is_refused(texts[0], numbers, texts[1], lengths[1], status.integer, texts[3]);
     else selects(texts[0], numbers, texts[1], texts[2]);
@@ -985,7 +1025,7 @@ static void *are_answered(void *name) {
     FILE *file = fopen(name, "r");
     for (; file && fgets(line, ROOM, file); count++) {
         read_to(&with.document, line);
-        holds(jsonpath_select(&with.path, &with.document, 0, &NO_LIMITS, &with.nodes) == JSONPATH_DONE, "case", line);
+        holds(jsonpath_select(with.path, with.document, 0, &NO_LIMITS, &with.nodes) == JSONPATH_DONE, "case", line);
         is_answered(&with);
     }
     holds(count > 0, "no cases", name);

@@ -150,9 +150,9 @@ static void show_refusal(struct text path, struct jsonpath_refusal refusal) {
 /* What a call is asked; each reads what it needs. */
 struct question {
     struct text path_text, document_text;
-    jsonpath_path **path;
-    jsonpath_document **document;
-    jsonpath_nodes **nodes;
+    const jsonpath_path *path;
+    const jsonpath_document *document;
+    const jsonpath_nodes *nodes;
     size_t index, position; /* The position is where the document is refused. */
     uint8_t form, numbers;
     struct jsonpath_limits limits;
@@ -304,13 +304,13 @@ static void check_text(struct text text, uint8_t numbers, uint8_t status, struct
 }
 
 /* A text that is refused by a rule for numbers leaves an empty handle empty, and a full one as it was. */
-static void check_refused(struct text text, uint8_t numbers, uint8_t status, jsonpath_path **path) {
+static void check_refused(struct text text, uint8_t numbers, uint8_t status, const jsonpath_path *path) {
     struct jsonpath_refusal refusal;
-    HOLD(*path == NULL);
+    HOLD(path == NULL);
     hold_refused(write_path, &(struct question){.path = path}, JSONPATH_EMPTY_HANDLE);
     jsonpath_path *kept = compiled_root(), *before = kept;
     HOLD(compile(text, numbers, &kept, &refusal) == status && kept == before);
-    struct text printed = answer_of(write_path, &(struct question){.path = &kept});
+    struct text printed = answer_of(write_path, &(struct question){.path = kept});
     HOLD(printed.length == 1 && printed.bytes[0] == '$');
     free(printed.bytes);
     jsonpath_path_free(&kept);
@@ -318,13 +318,13 @@ static void check_refused(struct text text, uint8_t numbers, uint8_t status, jso
 }
 
 /* What a path prints compiles by its rule for numbers to an equal path, which prints the same. */
-static void check_printed(jsonpath_path **path, uint8_t numbers) {
+static void check_printed(const jsonpath_path *path, uint8_t numbers) {
     uint8_t equal = MARK;
     struct text printed = answer_of(write_path, &(struct question){.path = path});
     jsonpath_path *again = compiled(printed, numbers);
-    HOLD(jsonpath_path_equals(path, &again, &equal) == JSONPATH_DONE && equal == 1);
-    HOLD(jsonpath_path_equals(&again, path, &equal) == JSONPATH_DONE && equal == 1);
-    struct text printed_again = answer_of(write_path, &(struct question){.path = &again});
+    HOLD(jsonpath_path_equals(path, again, &equal) == JSONPATH_DONE && equal == 1);
+    HOLD(jsonpath_path_equals(again, path, &equal) == JSONPATH_DONE && equal == 1);
+    struct text printed_again = answer_of(write_path, &(struct question){.path = again});
     HOLD(same(printed, printed_again));
     show_path(printed);
     jsonpath_path_free(&again);
@@ -339,7 +339,7 @@ static uint8_t choose(const struct question *asked, uint8_t unique, struct jsonp
                       size_t *count) {
     uint8_t status = jsonpath_select(asked->path, asked->document, unique, &limits, nodes);
     HOLD(status == JSONPATH_DONE || status == JSONPATH_CUT_SHORT);
-    HOLD(jsonpath_nodes_length(nodes, count) == JSONPATH_DONE && *count <= limits.nodes);
+    HOLD(jsonpath_nodes_length(*nodes, count) == JSONPATH_DONE && *count <= limits.nodes);
     return status;
 }
 
@@ -360,8 +360,9 @@ static void check_alone(const struct question *asked, struct text location, stru
     jsonpath_path *path = compiled(location, JSONPATH_WHOLE_NUMBERS);
     jsonpath_nodes *nodes = NULL;
     size_t count;
-    struct question alone = {.path = &path, .document = asked->document, .nodes = &nodes};
+    struct question alone = {.path = path, .document = asked->document};
     HOLD(choose(&alone, 0, NO_LIMITS, &nodes, &count) == JSONPATH_DONE && count == 1);
+    alone.nodes = nodes;
     struct text its_location = answer_of(write_location, &alone), its_json = answer_of(write_json, &alone);
     HOLD(same(its_location, location) && same(its_json, json));
     struct jsonpath_node wanted = node_of(asked), found = node_of(&alone);
@@ -381,7 +382,7 @@ static void check_json(struct text json) {
     size_t position;
     HOLD(jsonpath_document_new(json.bytes, json.length, &document, &position) == JSONPATH_DONE);
     struct question asked = {
-        .path = &root, .document = &document, .form = JSONPATH_VALUES, .limits = NO_LIMITS};
+        .path = root, .document = document, .form = JSONPATH_VALUES, .limits = NO_LIMITS};
     struct text values = answer_of(write_lines, &asked), left = values;
     take_with(&left, json, '\n');
     HOLD(left.length == 0);
@@ -436,7 +437,7 @@ static void check_nodes(struct question asked, const struct text lines[3], size_
     jsonpath_nodes *nodes = NULL;
     size_t listed;
     HOLD(choose(&asked, 0, NO_LIMITS, &nodes, &listed) == JSONPATH_DONE && listed == count);
-    asked.nodes = &nodes;
+    asked.nodes = nodes;
     for (asked.index = 0; asked.index < count; asked.index++) check_node(&asked, left);
     HOLD(left[0].length == 0 && left[1].length == 0 && left[2].length == 0);
     check_no_node(asked, count);
@@ -473,7 +474,7 @@ static void check_list(struct question asked, struct text locations, uint8_t uni
     size_t listed;
     struct text left = locations;
     uint8_t status = choose(&asked, unique, limits, &nodes, &listed);
-    asked.nodes = &nodes;
+    asked.nodes = nodes;
     while (left.length > 0) {
         struct text before = {locations.bytes, (size_t)(left.bytes - locations.bytes)};
         size_t length = line_length(left), names = name_bytes(left.bytes, length);
@@ -653,19 +654,19 @@ static void check_no_document(struct question asked) {
 static void check_path(struct question asked, uint8_t numbers) {
     struct jsonpath_refusal refusal;
     jsonpath_path *path = NULL;
-    asked.path = &path;
     asked.numbers = numbers;
     uint8_t status = compile(asked.path_text, numbers, &path, &refusal);
+    asked.path = path;
     check_text(asked.path_text, numbers, status, refusal);
     if (status == JSONPATH_PATH_REFUSED) show_refusal(asked.path_text, refusal);
     if (status != JSONPATH_DONE) {
-        check_refused(asked.path_text, numbers, status, &path);
+        check_refused(asked.path_text, numbers, status, path);
         hold_refused(write_report, &asked, status);
         hold_refused(write_lines_in, &asked, JSONPATH_EMPTY_HANDLE);
         return;
     }
-    check_printed(&path, numbers);
-    if (*asked.document == NULL) {
+    check_printed(path, numbers);
+    if (asked.document == NULL) {
         check_no_document(asked);
     } else {
         check_query(asked, numbers);
@@ -674,32 +675,35 @@ static void check_path(struct question asked, uint8_t numbers) {
     HOLD(path == NULL);
 }
 
-/* What a thread asks. */
+/* What a thread asks, and the document as it is read, or NULL where it is none. */
 struct input {
     struct text path, document;
+    jsonpath_document *read;
     uint8_t numbers;
 };
 
-/* Checks an input, with handles and texts of this thread's own. */
+/* Checks an input, with a path and texts of this thread's own. It frees its owner of the document. */
 static void *check_input(void *given) {
-    const struct input *input = given;
+    struct input *input = given;
     struct text path = copy(input->path.bytes, input->path.length);
     struct text text = copy(input->document.bytes, input->document.length);
-    jsonpath_document *document = read_document(text);
-    struct question asked = {.path_text = path, .document_text = text, .document = &document, .position = UNTOUCHED};
+    struct question asked = {.path_text = path, .document_text = text, .document = input->read, .position = UNTOUCHED};
     check_path(asked, input->numbers);
-    jsonpath_document_free(&document);
-    HOLD(document == NULL);
+    jsonpath_document_free(&input->read);
+    HOLD(input->read == NULL);
     free(path.bytes);
     free(text.bytes);
     return NULL;
 }
 
-/* Checks an input in this thread, and by the other rule for numbers in another one meanwhile. */
+/* Checks an input in this thread, and by the other rule for numbers in another one meanwhile, of the same document. */
 static void check_in_two_threads(struct input input) {
     struct input other = input;
     pthread_t thread;
+    other.read = NULL;
     other.numbers = input.numbers == JSONPATH_ALL_NUMBERS ? JSONPATH_WHOLE_NUMBERS : JSONPATH_ALL_NUMBERS;
+    uint8_t shared = jsonpath_document_share(input.read, &other.read);
+    HOLD(shared == (input.read == NULL ? JSONPATH_EMPTY_HANDLE : JSONPATH_DONE) && !other.read == !input.read);
     HOLD(pthread_create(&thread, NULL, check_input, &other) == 0);
     check_input(&input);
     HOLD(pthread_join(thread, NULL) == 0);
@@ -712,6 +716,7 @@ int LLVMFuzzerTestOneInput(const uint8_t *bytes, size_t length) {
     size_t path_length = nul == NULL ? texts.length : (size_t)(nul - texts.bytes), skipped = path_length + (nul != NULL);
     struct input input = {.path = {texts.bytes, path_length},
                           .document = {texts.bytes + skipped, texts.length - skipped},
+                          .read = read_document((struct text){texts.bytes + skipped, texts.length - skipped}),
                           .numbers = bytes[0] & BY_ALL_NUMBERS ? JSONPATH_ALL_NUMBERS : JSONPATH_WHOLE_NUMBERS};
     if (bytes[0] & IN_TWO_THREADS) {
         check_in_two_threads(input);

@@ -122,7 +122,7 @@ static void check_refused(const struct question *asked) {
 static struct text lines_of(struct question *asked, uint8_t form, uint8_t *room) {
     const struct jsonpath_limits limits = {MOST_NODES, MOST_BYTES};
     size_t length = 0, position;
-    uint8_t status = jsonpath_lines_in(&asked->compiled, asked->document.bytes, asked->document.length, form, &limits, room,
+    uint8_t status = jsonpath_lines_in(asked->compiled, asked->document.bytes, asked->document.length, form, &limits, room,
                                        MOST_BYTES, &length, &position);
     return (struct text){room, status == JSONPATH_DONE ? length : SIZE_MAX};
 }
@@ -188,7 +188,7 @@ static void check_query(struct question *asked) {
     asked->locations = lines_of(asked, JSONPATH_LOCATIONS, rooms[1]);
     int is_small = asked->values.length <= MOST_BYTES && asked->locations.length <= MOST_BYTES;
     if (is_small && (double)(clock() - start) / CLOCKS_PER_SEC < MOST_SECONDS) {
-        HOLD(jsonpath_count_in(&asked->compiled, asked->document.bytes, asked->document.length, &asked->count, &position) ==
+        HOLD(jsonpath_count_in(asked->compiled, asked->document.bytes, asked->document.length, &asked->count, &position) ==
              JSONPATH_DONE);
         check_answers(asked);
     }

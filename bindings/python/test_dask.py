@@ -1,4 +1,4 @@
-"""What `vozgumb.dask` selects in two worker processes, beside one process without Dask."""
+"""What `vozgumb.dask` selects in two worker processes of two threads each, beside one process without Dask."""
 import json
 import tempfile
 import unittest
@@ -30,7 +30,7 @@ class Selected(unittest.TestCase):
     def setUpClass(cls):
         folder = tempfile.TemporaryDirectory()
         cls.addClassCleanup(folder.cleanup)
-        cluster = cls.enterClass(LocalCluster(n_workers=2, threads_per_worker=1, dashboard_address=None))
+        cluster = cls.enterClass(LocalCluster(n_workers=2, threads_per_worker=2, dashboard_address=None))
         cls.enterClass(Client(cluster))
         cls.folder = Path(folder.name)
 

@@ -158,6 +158,13 @@ class Paths(unittest.TestCase):
             for row, report in zip(rows * 50, pool.map(lambda row: row[0].report(row[1]), rows * 50)):
                 self.assertEqual(report, row[2])
 
+    def test_threads_on_one_document(self):
+        path, document = JsonPath("$[?match(@, 'a+')]"), Document('["aa", "b", "aaa"]' + " " * 100_000)
+        asked = [path.count, path.exists, path.values, lambda document: [node.pointer for node in path.find(document)]] * 50
+        with ThreadPoolExecutor(8) as pool:
+            answers = list(pool.map(lambda ask: ask(document), asked))
+        self.assertEqual(answers, [2, True, ["aa", "aaa"], ["/0", "/2"]] * 50)
+
     def test_version(self):
         self.assertEqual(".".join(map(str, vozgumb.library_version())), vozgumb.__version__)
 

@@ -152,11 +152,11 @@ static struct outcome select_nodes(struct cursor *cursor) {
     struct outcome outcome =
         jsonpath_sqlite_limits(cursor->arguments[MAX_NODES - DOC], cursor->arguments[MAX_BYTES - DOC], &limits);
     if (outcome.code) return outcome;
-    uint8_t status = jsonpath_select(&cursor->path, &cursor->document, 0, &limits, &cursor->nodes);
+    uint8_t status = jsonpath_select(cursor->path, cursor->document, 0, &limits, &cursor->nodes);
     outcome = jsonpath_sqlite_outcome_of(status);
     if (outcome.code) return outcome;
     size_t length = 0;
-    jsonpath_nodes_length(&cursor->nodes, &length);
+    jsonpath_nodes_length(cursor->nodes, &length);
     if (status == JSONPATH_CUT_SHORT) return jsonpath_sqlite_beyond(&limits, length, "the names in the locations");
     cursor->length = length;
     return DONE;
@@ -209,16 +209,16 @@ static int rowid(sqlite3_vtab_cursor *base, sqlite3_int64 *row) {
 typedef uint8_t write_call(struct cursor *cursor, size_t *length);
 
 static uint8_t write_location(struct cursor *cursor, size_t *length) {
-    return jsonpath_node_location(&cursor->nodes, cursor->at, cursor->room, cursor->room_length, length);
+    return jsonpath_node_location(cursor->nodes, cursor->at, cursor->room, cursor->room_length, length);
 }
 static uint8_t write_pointer(struct cursor *cursor, size_t *length) {
-    return jsonpath_node_pointer(&cursor->nodes, cursor->at, cursor->room, cursor->room_length, length);
+    return jsonpath_node_pointer(cursor->nodes, cursor->at, cursor->room, cursor->room_length, length);
 }
 static uint8_t write_text(struct cursor *cursor, size_t *length) {
-    return jsonpath_node_text(&cursor->nodes, &cursor->document, cursor->at, cursor->room, cursor->room_length, length);
+    return jsonpath_node_text(cursor->nodes, cursor->document, cursor->at, cursor->room, cursor->room_length, length);
 }
 static uint8_t write_json(struct cursor *cursor, size_t *length) {
-    return jsonpath_node_json(&cursor->nodes, &cursor->document, cursor->at, cursor->room, cursor->room_length, length);
+    return jsonpath_node_json(cursor->nodes, cursor->document, cursor->at, cursor->room, cursor->room_length, length);
 }
 
 /* Makes a text of the row the column's value. */
@@ -262,7 +262,7 @@ static void column_value(struct cursor *cursor, sqlite3_context *context, const 
 static int column(sqlite3_vtab_cursor *base, sqlite3_context *context, int index) {
     struct cursor *cursor = (struct cursor *)base;
     struct jsonpath_node node = {0};
-    if (index == TYPE || index == VALUE) jsonpath_node(&cursor->nodes, cursor->at, &node);
+    if (index == TYPE || index == VALUE) jsonpath_node(cursor->nodes, cursor->at, &node);
     switch (index) {
         case ORDINAL: sqlite3_result_int64(context, (sqlite3_int64)cursor->at + 1); break;
         case LOCATION: column_text(cursor, context, write_location); break;

@@ -33,9 +33,9 @@ struct last {
 /* What a function is asked: a path, of a document, within limits. */
 struct asked {
     sqlite3_context *context;
-    jsonpath_path **path;
+    const jsonpath_path *path;
     struct text document;
-    jsonpath_document **read; /* The same, or NULL of one that is not short. */
+    const jsonpath_document *read; /* The same, or NULL of one that is not short. */
     struct jsonpath_limits limits;
 };
 
@@ -62,14 +62,13 @@ struct lines {
 static struct outcome read_short(struct asked *asked, struct last *last) {
     struct text text = asked->document;
     if (text.length >= SHORT) return DONE;
-    asked->read = &last->document;
-    if (last->document && last->length == text.length && !memcmp(last->bytes, text.bytes, text.length)) return DONE;
     size_t position = 1;
-    uint8_t status = jsonpath_document_new(text.bytes, text.length, &last->document, &position);
-    if (status == JSONPATH_DONE) {
-        last->length = text.length;
-        memcpy(last->bytes, text.bytes, text.length);
+    uint8_t status = JSONPATH_DONE;
+    if (!last->document || last->length != text.length || memcmp(last->bytes, text.bytes, text.length)) {
+        status = jsonpath_document_new(text.bytes, text.length, &last->document, &position);
+        if (status == JSONPATH_DONE) last->length = text.length, memcpy(last->bytes, text.bytes, text.length);
     }
+    if (status == JSONPATH_DONE) asked->read = last->document;
     return jsonpath_sqlite_outcome(status, text, position);
 }
 
@@ -308,7 +307,7 @@ static void answer(sqlite3_context *context, int count, sqlite3_value **values) 
     }
     if (!outcome.code) outcome = read_short(&asked, registered->last);
     if (!outcome.code) {
-        asked.path = &kept->path;
+        asked.path = kept->path;
         outcome = registered->question->answer(&asked);
     }
     jsonpath_sqlite_report(context, outcome);

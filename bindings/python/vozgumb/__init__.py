@@ -4,9 +4,9 @@
 >>> path.values('{"book": [{"title": "Moby Dick", "price": 8.99}, {"title": "Sword of Honour", "price": 12.99}]}')
 ['Moby Dick']
 
-Any number of threads may ask at once. A path and a document are each used by one thread at a time, under a lock of their
-own, so threads that share neither wait for nothing. A thread needs 1 MB of stack. In the child of a fork of a process with
-threads none of this may be used: there start processes by "spawn" or "forkserver" of `multiprocessing`.
+Any number of threads may ask one path and one document at once, and run in parallel while they are in the library. A thread
+needs 1 MB of stack. In the child of a fork of a process with threads none of this may be used: there start processes by "spawn"
+or "forkserver" of `multiprocessing`.
 
 Integers beyond 64 bits are read as floats, as `serde_json` reads them.
 """

@@ -3,7 +3,6 @@ from __future__ import annotations
 
 import ctypes
 import os
-import threading
 import weakref
 from ctypes import POINTER, c_char, c_char_p, c_double, c_int64, c_size_t, c_uint8, c_uint32, c_uint64, c_void_p
 from functools import lru_cache
@@ -40,26 +39,28 @@ class NodeFields(ctypes.Structure):
     ]
 
 
-TEXT, OUT, HANDLE = (c_char_p, c_size_t), (c_char_p, c_size_t, POINTER(c_size_t)), POINTER(c_void_p)
+TEXT, OUT = (c_char_p, c_size_t), (c_char_p, c_size_t, POINTER(c_size_t))
+# A variable of a handle, which a call fills or frees; and what it holds, which a call asks.
+HANDLE, ASKED = POINTER(c_void_p), c_void_p
 # The parameters of each call that answers a status.
 PARAMETERS: dict[str, tuple[Any, ...]] = {
     "message": (*TEXT, c_uint8, *OUT),
     "hint": (*TEXT, c_uint8, *OUT),
     "path_new": (*TEXT, c_uint8, HANDLE, POINTER(Refusal)),
-    "path_text": (HANDLE, *OUT),
+    "path_text": (ASKED, *OUT),
     "document_new": (*TEXT, HANDLE, POINTER(c_size_t)),
-    "lines": (HANDLE, HANDLE, c_uint8, POINTER(Limits), *OUT),
-    "count": (HANDLE, HANDLE, POINTER(c_size_t)),
-    "exists": (HANDLE, HANDLE, POINTER(c_uint8)),
-    "lines_in": (HANDLE, *TEXT, c_uint8, POINTER(Limits), *OUT, POINTER(c_size_t)),
-    "count_in": (HANDLE, *TEXT, POINTER(c_size_t), POINTER(c_size_t)),
-    "exists_in": (HANDLE, *TEXT, POINTER(c_uint8), POINTER(c_size_t)),
-    "select": (HANDLE, HANDLE, c_uint8, POINTER(Limits), HANDLE),
-    "nodes_length": (HANDLE, POINTER(c_size_t)),
-    "node": (HANDLE, c_size_t, POINTER(NodeFields)),
-    "node_location": (HANDLE, c_size_t, *OUT),
-    "node_pointer": (HANDLE, c_size_t, *OUT),
-    "node_json": (HANDLE, HANDLE, c_size_t, *OUT),
+    "lines": (ASKED, ASKED, c_uint8, POINTER(Limits), *OUT),
+    "count": (ASKED, ASKED, POINTER(c_size_t)),
+    "exists": (ASKED, ASKED, POINTER(c_uint8)),
+    "lines_in": (ASKED, *TEXT, c_uint8, POINTER(Limits), *OUT, POINTER(c_size_t)),
+    "count_in": (ASKED, *TEXT, POINTER(c_size_t), POINTER(c_size_t)),
+    "exists_in": (ASKED, *TEXT, POINTER(c_uint8), POINTER(c_size_t)),
+    "select": (ASKED, ASKED, c_uint8, POINTER(Limits), HANDLE),
+    "nodes_length": (ASKED, POINTER(c_size_t)),
+    "node": (ASKED, c_size_t, POINTER(NodeFields)),
+    "node_location": (ASKED, c_size_t, *OUT),
+    "node_pointer": (ASKED, c_size_t, *OUT),
+    "node_json": (ASKED, ASKED, c_size_t, *OUT),
 }
 FREED = "path", "document", "nodes"
 
@@ -82,14 +83,12 @@ LIBRARY = _load()
 
 
 class Handle:
-    """A handle, empty at first, which is freed with this object. Who makes a call on it holds its lock."""
+    """A handle, empty at first, which is freed with this object. Any number of threads may ask what it holds at once."""
 
-    __slots__ = "pointer", "lock", "__weakref__"
+    __slots__ = "pointer", "__weakref__"
 
     def __init__(self, free: Callable[[c_void_p], None]) -> None:
         self.pointer = c_void_p()
-        # What interrupts this thread between two calls, as a handler of signals in Python, may ask too.
-        self.lock = threading.RLock()
         # At the end of the process a thread may still be in a call, and the system takes the memory back.
         weakref.finalize(self, free, self.pointer).atexit = False
 

@@ -3,11 +3,11 @@
     from dask.distributed import Client, LocalCluster
     from vozgumb.dask import select
 
-    with LocalCluster(n_workers=4, threads_per_worker=1) as cluster, Client(cluster):
+    with LocalCluster(n_workers=2, threads_per_worker=2) as cluster, Client(cluster):
         titles = select("logs/*.ndjson", "$.message").compute()
 
-Workers need this package. Give each of them one thread: the threads of a worker share its compiled path, which one of them
-uses at a time.
+Workers need this package. The threads of a worker share its compiled path and ask it at once. What they do in Python itself, as
+reading lines and loading values, one of them does at a time.
 """
 from __future__ import annotations
 

@@ -6,8 +6,7 @@
     events = dask.dataframe.read_parquet("events")
     events["doc"].jsonpath.exists("$[?@.status >= 500]").sum().compute()
 
-Workers need this package. Each compiles a path of the same text once. Give each of them one thread: the threads of a worker share
-its compiled path, which one of them uses at a time.
+Workers need this package. Each compiles a path of the same text once, which its threads ask at once.
 """
 from __future__ import annotations
 

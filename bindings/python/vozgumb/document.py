@@ -14,6 +14,8 @@ SMALL_ROOM, LARGE_ROOM = 1 << 10, 1 << 16
 class Document:
     """A JSON text that is read once. It takes ten to twenty times the text's size in memory.
 
+    Any number of threads may ask one document at once.
+
     >>> from vozgumb import JsonPath
     >>> document = Document('{"a": [1, 2]}')
     >>> JsonPath("$.a[*]").count(document), JsonPath("$.b").count(document)

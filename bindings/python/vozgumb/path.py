@@ -59,7 +59,8 @@ class JsonPath:
     With "all" numbers comparisons take each number by its exact value, as the RFC asks. With "whole" ones a number that is
     not held as a 64-bit integer equals nothing.
 
-    Paths are equal if they are printed as the same text, whatever they do with numbers.
+    Paths are equal if they are printed as the same text, whatever they do with numbers. Any number of threads may ask one path at
+    once, and run in parallel while they are in the library.
 
     >>> path = JsonPath("$.items[?@.price < 10].name")
     >>> path.values('{"items": [{"name": "pen", "price": 2}, {"name": "desk", "price": 90}]}')
@@ -145,17 +146,15 @@ class JsonPath:
         return out.text(), status != CUT_SHORT
 
     def _ask(self, name: str, asked: Union[Document, bytes], *arguments: Any) -> int:
-        """The status of a call on the path and a document, whose locks are always taken in this order; or on bytes, of which it
-        reads what the path can reach. A refusal is raised."""
+        """The status of a call on the path and a document, or on bytes, of which it reads what the path can reach. A refusal is
+        raised."""
         position = c_size_t()
         if isinstance(asked, Document):
             call = getattr(LIBRARY, f"jsonpath_{name}")
-            with self._handle.lock, asked._handle.lock:
-                status: int = call(self._handle.pointer, asked._handle.pointer, *arguments)
+            status: int = call(self._handle.pointer, asked._handle.pointer, *arguments)
         else:
             call = getattr(LIBRARY, f"jsonpath_{name}_in")
-            with self._handle.lock:
-                status = call(self._handle.pointer, asked, len(asked), *arguments, position)
+            status = call(self._handle.pointer, asked, len(asked), *arguments, position)
         check(status, position.value)
         return status
 
@@ -211,14 +210,12 @@ def _loads(lines: str) -> list[Any]:
 
 
 def _node(nodes: Handle, document: Document, index: int, out: Out) -> Node:
-    """The node at an index of a list that no other thread has."""
+    """The node at an index of a list."""
     fields = NodeFields()
     check(LIBRARY.jsonpath_node(nodes.pointer, index, fields))
     check(out.status(LIBRARY.jsonpath_node_location, nodes.pointer, index))
     location = out.text()
     check(out.status(LIBRARY.jsonpath_node_pointer, nodes.pointer, index))
     pointer = out.text()
-    with document._handle.lock:
-        status = out.status(LIBRARY.jsonpath_node_json, nodes.pointer, document._handle.pointer, index)
-    check(status)
+    check(out.status(LIBRARY.jsonpath_node_json, nodes.pointer, document._handle.pointer, index))
     return Node(location, pointer, NodeKind(fields.kind), out.text())

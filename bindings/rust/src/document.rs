@@ -6,8 +6,8 @@ use std::fmt;
 
 /// A JSON document, which is read once and asked any number of paths.
 ///
-/// It is `Send` and not `Sync`: a thread may hand it to another, but each call takes it for itself. To ask one document from
-/// several threads, put it in a `Mutex`, or let each thread read its own.
+/// It is `Send` and `Sync`: any number of threads may ask one document at once. A clone is another owner of the same document,
+/// and panics where memory is refused for a few bytes.
 ///
 /// ```
 /// use jsonpath::{Document, JsonPath};
@@ -16,14 +16,11 @@ use std::fmt;
 /// assert!(JsonPath::parse("$.user.name")?.exists(&document)?);
 /// assert_eq!(JsonPath::parse("$.user.*")?.count(&document)?, 2);
 ///
-/// let moved = std::thread::spawn(move || JsonPath::parse("$..*").unwrap().count(&document));
+/// let clone = document.clone();
+/// let moved = std::thread::spawn(move || JsonPath::parse("$..*").unwrap().count(&clone));
+/// assert_eq!(JsonPath::parse("$..name")?.count(&document)?, 1);
 /// assert_eq!(moved.join().unwrap(), Ok(3));
 /// # Ok::<(), Box<dyn std::error::Error>>(())
-/// ```
-///
-/// ```compile_fail
-/// fn needs_sync<T: Sync>() {}
-/// needs_sync::<jsonpath::Document>();
 /// ```
 pub struct Document {
     handle: DocumentHandle,
@@ -61,6 +58,15 @@ impl Document {
     /// How many bytes were read.
     pub(crate) fn length(&self) -> usize {
         self.length
+    }
+}
+
+impl Clone for Document {
+    fn clone(&self) -> Document {
+        Document {
+            handle: self.handle.share().expect("memory for an owner"),
+            length: self.length,
+        }
     }
 }
 

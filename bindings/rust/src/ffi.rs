@@ -4,7 +4,7 @@
 //! its length, what a call writes is a vector that it alone borrows or a variable of the function, and a handle keeps to
 //! [`Handle`].
 
-use std::cell::{Cell, UnsafeCell};
+use std::cell::Cell;
 use std::os::raw::c_uchar;
 use std::ptr;
 
@@ -122,36 +122,38 @@ impl Kept for RawNodes {
     const FREE: unsafe extern "C" fn(*mut *mut RawNodes) = jsonpath_nodes_free;
 }
 
-/// A variable of a handle. It begins as null, calls alone change it, and it is freed once.
-///
-/// A call takes what is in the variable out and puts it back, also where it only reads. So the variable is in an
-/// `UnsafeCell`, which no reference ever points into, and one thread at a time has it: the type is not `Sync`.
+/// A variable of a handle. It begins as null, one call fills it, and one call frees it.
 pub(crate) struct Handle<T: Kept> {
-    variable: UnsafeCell<*mut T>,
+    variable: *mut T,
 }
 
-// SAFETY: The header lets a handle go from one thread to another between calls, and Rust orders what the two do. What is
-// behind it has no part in common with anything else.
+// SAFETY: The library's proof has `Send` of what a handle owns, and Rust orders what two threads do with one.
 unsafe impl<T: Kept> Send for Handle<T> {}
 
+// SAFETY: Any number of threads may ask what a handle owns at once: the proof has `Send` of what a call is lent. By a `&`
+// to a handle calls only ask; filling and freeing take it by `&mut`.
+unsafe impl<T: Kept> Sync for Handle<T> {}
+
 impl<T: Kept> Handle<T> {
-    /// A handle with nothing in it.
-    fn empty() -> Handle<T> {
-        Handle {
-            variable: UnsafeCell::new(ptr::null_mut()),
-        }
+    /// The handle that a call fills, and its status. It is empty unless all was done.
+    fn filled(call: impl FnOnce(*mut *mut T) -> u8) -> (Handle<T>, Status) {
+        let mut handle = Handle {
+            variable: ptr::null_mut(),
+        };
+        let status = Status::of(call(&mut handle.variable));
+        (handle, status)
     }
 
-    /// The variable, for one call.
-    fn variable(&self) -> *mut *mut T {
-        self.variable.get()
+    /// What the handle owns, for a call that asks it.
+    fn asked(&self) -> *const T {
+        self.variable
     }
 }
 
 impl<T: Kept> Drop for Handle<T> {
     fn drop(&mut self) {
         // SAFETY: The variable is this handle's own.
-        unsafe { T::FREE(self.variable()) }
+        unsafe { T::FREE(&mut self.variable) }
     }
 }
 
@@ -188,16 +190,17 @@ extern "C" {
         path: *mut *mut RawPath,
         refusal: *mut Refusal,
     ) -> u8;
+    fn jsonpath_path_share(path: *const RawPath, other: *mut *mut RawPath) -> u8;
     fn jsonpath_path_free(path: *mut *mut RawPath);
     fn jsonpath_path_text(
-        path: *mut *mut RawPath,
+        path: *const RawPath,
         out: *mut c_uchar,
         out_length: usize,
         length: *mut usize,
     ) -> u8;
     fn jsonpath_path_equals(
-        path: *mut *mut RawPath,
-        other: *mut *mut RawPath,
+        path: *const RawPath,
+        other: *const RawPath,
         equal: *mut u8,
     ) -> u8;
     fn jsonpath_document_new(
@@ -206,10 +209,14 @@ extern "C" {
         document: *mut *mut RawDocument,
         position: *mut usize,
     ) -> u8;
+    fn jsonpath_document_share(
+        document: *const RawDocument,
+        other: *mut *mut RawDocument,
+    ) -> u8;
     fn jsonpath_document_free(document: *mut *mut RawDocument);
     fn jsonpath_lines(
-        path: *mut *mut RawPath,
-        document: *mut *mut RawDocument,
+        path: *const RawPath,
+        document: *const RawDocument,
         form: u8,
         limits: *const Limits,
         out: *mut c_uchar,
@@ -217,17 +224,17 @@ extern "C" {
         length: *mut usize,
     ) -> u8;
     fn jsonpath_count(
-        path: *mut *mut RawPath,
-        document: *mut *mut RawDocument,
+        path: *const RawPath,
+        document: *const RawDocument,
         count: *mut usize,
     ) -> u8;
     fn jsonpath_exists(
-        path: *mut *mut RawPath,
-        document: *mut *mut RawDocument,
+        path: *const RawPath,
+        document: *const RawDocument,
         exists: *mut u8,
     ) -> u8;
     fn jsonpath_lines_in(
-        path: *mut *mut RawPath,
+        path: *const RawPath,
         document: *const c_uchar,
         document_length: usize,
         form: u8,
@@ -238,54 +245,54 @@ extern "C" {
         position: *mut usize,
     ) -> u8;
     fn jsonpath_count_in(
-        path: *mut *mut RawPath,
+        path: *const RawPath,
         document: *const c_uchar,
         document_length: usize,
         count: *mut usize,
         position: *mut usize,
     ) -> u8;
     fn jsonpath_exists_in(
-        path: *mut *mut RawPath,
+        path: *const RawPath,
         document: *const c_uchar,
         document_length: usize,
         exists: *mut u8,
         position: *mut usize,
     ) -> u8;
     fn jsonpath_select(
-        path: *mut *mut RawPath,
-        document: *mut *mut RawDocument,
+        path: *const RawPath,
+        document: *const RawDocument,
         unique: u8,
         limits: *const Limits,
         nodes: *mut *mut RawNodes,
     ) -> u8;
     fn jsonpath_nodes_free(nodes: *mut *mut RawNodes);
-    fn jsonpath_nodes_length(nodes: *mut *mut RawNodes, length: *mut usize) -> u8;
-    fn jsonpath_node(nodes: *mut *mut RawNodes, index: usize, node: *mut Known) -> u8;
+    fn jsonpath_nodes_length(nodes: *const RawNodes, length: *mut usize) -> u8;
+    fn jsonpath_node(nodes: *const RawNodes, index: usize, node: *mut Known) -> u8;
     fn jsonpath_node_location(
-        nodes: *mut *mut RawNodes,
+        nodes: *const RawNodes,
         index: usize,
         out: *mut c_uchar,
         out_length: usize,
         length: *mut usize,
     ) -> u8;
     fn jsonpath_node_pointer(
-        nodes: *mut *mut RawNodes,
+        nodes: *const RawNodes,
         index: usize,
         out: *mut c_uchar,
         out_length: usize,
         length: *mut usize,
     ) -> u8;
     fn jsonpath_node_text(
-        nodes: *mut *mut RawNodes,
-        document: *mut *mut RawDocument,
+        nodes: *const RawNodes,
+        document: *const RawDocument,
         index: usize,
         out: *mut c_uchar,
         out_length: usize,
         length: *mut usize,
     ) -> u8;
     fn jsonpath_node_json(
-        nodes: *mut *mut RawNodes,
-        document: *mut *mut RawDocument,
+        nodes: *const RawNodes,
+        document: *const RawDocument,
         index: usize,
         out: *mut c_uchar,
         out_length: usize,
@@ -335,39 +342,36 @@ pub(crate) fn hint(path: &str, numbers: u8, out: &mut Vec<u8>) -> (Status, usize
 impl PathHandle {
     /// Compiles a path.
     pub(crate) fn compile(text: &str, numbers: u8) -> Result<PathHandle, (Status, Refusal)> {
-        let (path, mut refusal) = (Handle::empty(), Refusal::default());
-        // SAFETY: The text is read, the new variable and `refusal` are written.
-        let status = unsafe {
-            jsonpath_path_new(
-                text.as_ptr(),
-                text.len(),
-                numbers,
-                path.variable(),
-                &mut refusal,
-            )
-        };
-        Status::of(status)
-            .done(path)
-            .map_err(|status| (status, refusal))
+        let (bytes, length, mut refusal) = (text.as_ptr(), text.len(), Refusal::default());
+        let (path, status) = Handle::filled(|variable| {
+            // SAFETY: The text is read, the new variable and `refusal` are written.
+            unsafe { jsonpath_path_new(bytes, length, numbers, variable, &mut refusal) }
+        });
+        status.done(path).map_err(|status| (status, refusal))
+    }
+
+    /// Another owner of the path.
+    pub(crate) fn share(&self) -> Result<PathHandle, Status> {
+        let (path, status) = Handle::filled(|variable| {
+            // SAFETY: The path is read, the new variable is written.
+            unsafe { jsonpath_path_share(self.asked(), variable) }
+        });
+        status.done(path)
     }
 
     /// Writes the path's text.
     pub(crate) fn text(&self, out: &mut Vec<u8>) -> (Status, usize) {
         write(out, |bytes, room, length| {
-            // SAFETY: The variable, the vector and its length are written.
-            unsafe { jsonpath_path_text(self.variable(), bytes, room, length) }
+            // SAFETY: The path is read, the vector and its length are written.
+            unsafe { jsonpath_path_text(self.asked(), bytes, room, length) }
         })
     }
 
     /// Whether two paths have the same tree.
     pub(crate) fn equals(&self, other: &PathHandle) -> bool {
-        // A call may not be handed the same variable twice.
-        if ptr::eq(self, other) {
-            return true;
-        }
         let mut equal = 0;
-        // SAFETY: The two variables are not the same, and both and `equal` are written.
-        let status = unsafe { jsonpath_path_equals(self.variable(), other.variable(), &mut equal) };
+        // SAFETY: The two paths are read, `equal` is written.
+        let status = unsafe { jsonpath_path_equals(self.asked(), other.asked(), &mut equal) };
         Status::of(status) == Status::Done && equal == 1
     }
 
@@ -379,9 +383,9 @@ impl PathHandle {
         limits: &Limits,
         out: &mut Vec<u8>,
     ) -> (Status, usize) {
-        let (path, document) = (self.variable(), document.variable());
+        let (path, document) = (self.asked(), document.asked());
         write(out, |bytes, room, length| {
-            // SAFETY: `limits` is read, the two variables, the vector and its length are written.
+            // SAFETY: The path, the document and `limits` are read, the vector and its length are written.
             unsafe { jsonpath_lines(path, document, form, limits, bytes, room, length) }
         })
     }
@@ -389,16 +393,16 @@ impl PathHandle {
     /// How many nodes the path selects.
     pub(crate) fn count(&self, document: &DocumentHandle) -> Result<usize, Status> {
         let mut count = 0;
-        // SAFETY: The two variables and `count` are written.
-        let status = unsafe { jsonpath_count(self.variable(), document.variable(), &mut count) };
+        // SAFETY: The path and the document are read, `count` is written.
+        let status = unsafe { jsonpath_count(self.asked(), document.asked(), &mut count) };
         Status::of(status).done(count)
     }
 
     /// Whether the path selects a node.
     pub(crate) fn exists(&self, document: &DocumentHandle) -> Result<bool, Status> {
         let mut exists = 0;
-        // SAFETY: The two variables and `exists` are written.
-        let status = unsafe { jsonpath_exists(self.variable(), document.variable(), &mut exists) };
+        // SAFETY: The path and the document are read, `exists` is written.
+        let status = unsafe { jsonpath_exists(self.asked(), document.asked(), &mut exists) };
         Status::of(status).done(exists == 1)
     }
 
@@ -411,10 +415,10 @@ impl PathHandle {
         out: &mut Vec<u8>,
         position: &Cell<usize>,
     ) -> (Status, usize) {
-        let (path, data, size) = (self.variable(), document.as_ptr(), document.len());
+        let (path, data, size) = (self.asked(), document.as_ptr(), document.len());
         let position = position.as_ptr();
         write(out, |bytes, room, length| {
-            // SAFETY: The document and `limits` are read, the variable, the vector, its length and `position` are written.
+            // SAFETY: The path, the document and `limits` are read, the vector, its length and `position` are written.
             unsafe {
                 jsonpath_lines_in(
                     path, data, size, form, limits, bytes, room, length, position,
@@ -427,9 +431,9 @@ impl PathHandle {
     pub(crate) fn count_in(&self, document: &[u8]) -> Result<usize, (Status, usize)> {
         let (mut count, mut position) = (0, 0);
         let (data, size) = (document.as_ptr(), document.len());
-        // SAFETY: The document is read, the variable, `count` and `position` are written.
+        // SAFETY: The path and the document are read, `count` and `position` are written.
         let status =
-            unsafe { jsonpath_count_in(self.variable(), data, size, &mut count, &mut position) };
+            unsafe { jsonpath_count_in(self.asked(), data, size, &mut count, &mut position) };
         Status::of(status)
             .done(count)
             .map_err(|status| (status, position))
@@ -439,9 +443,9 @@ impl PathHandle {
     pub(crate) fn exists_in(&self, document: &[u8]) -> Result<bool, (Status, usize)> {
         let (mut exists, mut position) = (0, 0);
         let (data, size) = (document.as_ptr(), document.len());
-        // SAFETY: The document is read, the variable, `exists` and `position` are written.
+        // SAFETY: The path and the document are read, `exists` and `position` are written.
         let status =
-            unsafe { jsonpath_exists_in(self.variable(), data, size, &mut exists, &mut position) };
+            unsafe { jsonpath_exists_in(self.asked(), data, size, &mut exists, &mut position) };
         Status::of(status)
             .done(exists == 1)
             .map_err(|status| (status, position))
@@ -454,18 +458,12 @@ impl PathHandle {
         unique: bool,
         limits: &Limits,
     ) -> Result<(NodesHandle, bool), Status> {
-        let nodes = Handle::empty();
-        // SAFETY: `limits` is read, and the three variables are written.
-        let status = unsafe {
-            jsonpath_select(
-                self.variable(),
-                document.variable(),
-                u8::from(unique),
-                limits,
-                nodes.variable(),
-            )
-        };
-        match Status::of(status) {
+        let (path, document, unique) = (self.asked(), document.asked(), u8::from(unique));
+        let (nodes, status) = Handle::filled(|variable| {
+            // SAFETY: The path, the document and `limits` are read, the new variable is written.
+            unsafe { jsonpath_select(path, document, unique, limits, variable) }
+        });
+        match status {
             Status::CutShort => Ok((nodes, true)),
             status => status.done((nodes, false)),
         }
@@ -475,19 +473,21 @@ impl PathHandle {
 impl DocumentHandle {
     /// Reads a document. A refusal has its position.
     pub(crate) fn read(bytes: &[u8]) -> Result<DocumentHandle, (Status, usize)> {
-        let (document, mut position) = (Handle::empty(), 0);
-        // SAFETY: The bytes are read, the new variable and `position` are written.
-        let status = unsafe {
-            jsonpath_document_new(
-                bytes.as_ptr(),
-                bytes.len(),
-                document.variable(),
-                &mut position,
-            )
-        };
-        Status::of(status)
-            .done(document)
-            .map_err(|status| (status, position))
+        let (data, size, mut position) = (bytes.as_ptr(), bytes.len(), 0);
+        let (document, status) = Handle::filled(|variable| {
+            // SAFETY: The bytes are read, the new variable and `position` are written.
+            unsafe { jsonpath_document_new(data, size, variable, &mut position) }
+        });
+        status.done(document).map_err(|status| (status, position))
+    }
+
+    /// Another owner of the document.
+    pub(crate) fn share(&self) -> Result<DocumentHandle, Status> {
+        let (document, status) = Handle::filled(|variable| {
+            // SAFETY: The document is read, the new variable is written.
+            unsafe { jsonpath_document_share(self.asked(), variable) }
+        });
+        status.done(document)
     }
 }
 
@@ -495,32 +495,32 @@ impl NodesHandle {
     /// How many nodes there are.
     pub(crate) fn length(&self) -> usize {
         let mut length = 0;
-        // SAFETY: The variable and `length` are written.
-        unsafe { jsonpath_nodes_length(self.variable(), &mut length) };
+        // SAFETY: The list is read, `length` is written.
+        unsafe { jsonpath_nodes_length(self.asked(), &mut length) };
         length
     }
 
     /// What is known of the node at an index.
     pub(crate) fn node(&self, index: usize) -> Result<Known, Status> {
         let mut node = Known::default();
-        // SAFETY: The variable and `node` are written.
-        let status = unsafe { jsonpath_node(self.variable(), index, &mut node) };
+        // SAFETY: The list is read, `node` is written.
+        let status = unsafe { jsonpath_node(self.asked(), index, &mut node) };
         Status::of(status).done(node)
     }
 
     /// Writes the normalised path of the node at an index.
     pub(crate) fn location(&self, index: usize, out: &mut Vec<u8>) -> (Status, usize) {
         write(out, |bytes, room, length| {
-            // SAFETY: The variable, the vector and its length are written.
-            unsafe { jsonpath_node_location(self.variable(), index, bytes, room, length) }
+            // SAFETY: The list is read, the vector and its length are written.
+            unsafe { jsonpath_node_location(self.asked(), index, bytes, room, length) }
         })
     }
 
     /// Writes the JSON pointer of the node at an index.
     pub(crate) fn pointer(&self, index: usize, out: &mut Vec<u8>) -> (Status, usize) {
         write(out, |bytes, room, length| {
-            // SAFETY: The variable, the vector and its length are written.
-            unsafe { jsonpath_node_pointer(self.variable(), index, bytes, room, length) }
+            // SAFETY: The list is read, the vector and its length are written.
+            unsafe { jsonpath_node_pointer(self.asked(), index, bytes, room, length) }
         })
     }
 
@@ -531,9 +531,9 @@ impl NodesHandle {
         index: usize,
         out: &mut Vec<u8>,
     ) -> (Status, usize) {
-        let (nodes, document) = (self.variable(), document.variable());
+        let (nodes, document) = (self.asked(), document.asked());
         write(out, |bytes, room, length| {
-            // SAFETY: The two variables, the vector and its length are written.
+            // SAFETY: The list and the document are read, the vector and its length are written.
             unsafe { jsonpath_node_text(nodes, document, index, bytes, room, length) }
         })
     }
@@ -545,9 +545,9 @@ impl NodesHandle {
         index: usize,
         out: &mut Vec<u8>,
     ) -> (Status, usize) {
-        let (nodes, document) = (self.variable(), document.variable());
+        let (nodes, document) = (self.asked(), document.asked());
         write(out, |bytes, room, length| {
-            // SAFETY: The two variables, the vector and its length are written.
+            // SAFETY: The list and the document are read, the vector and its length are written.
             unsafe { jsonpath_node_json(nodes, document, index, bytes, room, length) }
         })
     }

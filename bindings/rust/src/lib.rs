@@ -28,9 +28,8 @@
 //!
 //! # Threads
 //!
-//! Paths and documents are `Send` and not `Sync`. The library takes what is in a handle out for each call, also where it
-//! only reads, so two threads may not use one at a time; what they use apart shares nothing. Give each thread a clone of a
-//! path, or put what they share in a `Mutex`.
+//! Paths, documents and lists of nodes are `Send` and `Sync`: any number of threads may ask them at once, by references or by
+//! clones, which are further owners of the same. What a query needs for itself, as the patterns that it has built, it has alone.
 //!
 //! A call uses as much of the stack as the path and the document nest, so its thread needs 1 MB of it left; a thread of the
 //! standard library has 2 MB unless it asks for less. No call may be made from a signal handler, nor in the child of a fork

@@ -10,7 +10,7 @@ use std::ops::Range;
 /// The nodes that a path selects from a document, in the order of the RFC. The list borrows the document, where their texts
 /// are.
 ///
-/// It stays in the thread that asked, since each call takes the list and its document for itself.
+/// It is `Send` and `Sync`, as its document is.
 ///
 /// ```
 /// use jsonpath::{Document, JsonPath};
@@ -24,9 +24,9 @@ use std::ops::Range;
 /// # Ok::<(), Box<dyn std::error::Error>>(())
 /// ```
 ///
-/// ```compile_fail
-/// fn needs_send<T: Send>() {}
-/// needs_send::<jsonpath::Nodes>();
+/// ```
+/// fn needs_send_and_sync<T: Send + Sync>() {}
+/// needs_send_and_sync::<jsonpath::Nodes>();
 /// ```
 pub struct Nodes<'d> {
     handle: NodesHandle,

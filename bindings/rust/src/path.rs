@@ -10,6 +10,7 @@ use std::cell::Cell;
 use std::fmt;
 use std::hash::{Hash, Hasher};
 use std::str::FromStr;
+use std::sync::Arc;
 
 /// How the comparisons of a path take the numbers of documents.
 ///
@@ -33,32 +34,31 @@ pub enum Numbers {
 
 /// A path under the built-in functions, compiled once and asked of any number of documents.
 ///
-/// Two are equal if they have the same tree, whatever they do with numbers. A clone is compiled anew, and panics where
-/// memory is refused for it.
+/// Two are equal if they have the same tree, whatever they do with numbers. A clone is another owner of the same path, and
+/// panics where memory is refused for a few bytes.
 ///
-/// It is `Send` and not `Sync`: a thread may hand it to another, but each call takes it for itself. To ask one path in
-/// several threads, give each a clone.
+/// It is `Send` and `Sync`: any number of threads may ask one path at once.
 ///
 /// ```
 /// use jsonpath::JsonPath;
 ///
 /// let path: JsonPath = "$..name".parse()?;
 /// assert_eq!(path, JsonPath::parse("$ ..name")?);
+/// std::thread::scope(|scope| {
+///     for _ in 0..2 {
+///         scope.spawn(|| assert!(path.query_bytes(b"{}").unwrap().is_empty()));
+///     }
+/// });
 /// let clone = path.clone();
 /// std::thread::spawn(move || assert!(clone.query_bytes(b"{}").unwrap().is_empty()));
 /// # Ok::<(), jsonpath::ParseError>(())
 /// ```
-///
-/// ```compile_fail
-/// fn needs_sync<T: Sync>() {}
-/// needs_sync::<jsonpath::JsonPath>();
-/// ```
 pub struct JsonPath {
     handle: PathHandle,
     /// The text that was parsed.
-    text: String,
+    text: Arc<str>,
     /// The text that the tree prints.
-    printed: String,
+    printed: Arc<str>,
     numbers: Numbers,
 }
 
@@ -95,8 +95,8 @@ impl JsonPath {
             written(2 * text.len(), |out| handle.text(out)).map_err(|_| ParseError::no_memory())?;
         Ok(JsonPath {
             handle,
-            text: text.to_string(),
-            printed,
+            text: text.into(),
+            printed: printed.into(),
             numbers,
         })
     }
@@ -370,7 +370,12 @@ impl JsonPath {
 
 impl Clone for JsonPath {
     fn clone(&self) -> JsonPath {
-        JsonPath::parse_with(&self.text, self.numbers).expect("a path is refused only memory")
+        JsonPath {
+            handle: self.handle.share().expect("memory for an owner"),
+            text: self.text.clone(),
+            printed: self.printed.clone(),
+            numbers: self.numbers,
+        }
     }
 }
 

@@ -1,13 +1,16 @@
--- The handles, as structs of one pointer that own what they hold.
-use Rattle.jsonpath_c.proofs.Words.{refl, Owner}
+-- The structs by which C holds and lends, as structs of one pointer and what that owns or shows.
+use Rattle.jsonpath_c.proofs.Words.{refl, Owner, held, lent}
 use Rattle.jsonpath_c.specs.contracts.handle.path.PathHandle as path_handle
+use Rattle.jsonpath_c.specs.contracts.handle.path.PathRef as path_ref
 use Rattle.jsonpath_c.specs.contracts.compiled.Compiled as path
 use Rattle.jsonpath_c.specs.contracts.handle.document.DocumentHandle as document_handle
+use Rattle.jsonpath_c.specs.contracts.handle.document.DocumentRef as document_ref
 use Rattle.jsonpath_c.specs.contracts.handle.document.Document as document
 use Rattle.jsonpath_c.specs.contracts.handle.nodes.NodesHandle as nodes_handle
+use Rattle.jsonpath_c.specs.contracts.handle.nodes.NodesRef as nodes_ref
 use Rattle.jsonpath_c.specs.contracts.handle.nodes.Nodes as nodes
 
-abbrev pub path_owner : Owner path.the_row
+abbrev pub path_owner : Owner (held path.the_row)
 path_owner = record {
   name = path_handle.the_type.name;
   row = path_handle.the_row;
@@ -20,7 +23,20 @@ path_owner = record {
   silent = λ h f. refl;
 }
 
-abbrev pub document_owner : Owner document.the_row
+abbrev pub path_lender : Owner (lent path.the_row)
+path_lender = record {
+  name = path_ref.the_type.name;
+  row = path_ref.the_row;
+  at = λ h. h.at;
+  value = λ h. h.value;
+  make = λ p v. record { at = p; value = v };
+  owned = λ h vs. refl;
+  made = λ p v vs. refl;
+  valued = λ p v. refl;
+  silent = λ h f. refl;
+}
+
+abbrev pub document_owner : Owner (held document.the_row)
 document_owner = record {
   name = document_handle.the_type.name;
   row = document_handle.the_row;
@@ -33,10 +49,36 @@ document_owner = record {
   silent = λ h f. refl;
 }
 
-abbrev pub nodes_owner : Owner nodes.the_row
+abbrev pub document_lender : Owner (lent document.the_row)
+document_lender = record {
+  name = document_ref.the_type.name;
+  row = document_ref.the_row;
+  at = λ h. h.at;
+  value = λ h. h.value;
+  make = λ p v. record { at = p; value = v };
+  owned = λ h vs. refl;
+  made = λ p v vs. refl;
+  valued = λ p v. refl;
+  silent = λ h f. refl;
+}
+
+abbrev pub nodes_owner : Owner (held nodes.the_row)
 nodes_owner = record {
   name = nodes_handle.the_type.name;
   row = nodes_handle.the_row;
+  at = λ h. h.at;
+  value = λ h. h.value;
+  make = λ p v. record { at = p; value = v };
+  owned = λ h vs. refl;
+  made = λ p v vs. refl;
+  valued = λ p v. refl;
+  silent = λ h f. refl;
+}
+
+abbrev pub nodes_lender : Owner (lent nodes.the_row)
+nodes_lender = record {
+  name = nodes_ref.the_type.name;
+  row = nodes_ref.the_row;
   at = λ h. h.at;
   value = λ h. h.value;
   make = λ p v. record { at = p; value = v };

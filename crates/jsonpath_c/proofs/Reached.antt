@@ -16,10 +16,10 @@ SelectsAlike form c bytes nodes = (d : Data) × ReadsAs bytes d × ((others : Li
 
 pub selects_alike : (form : Form) (c : Compiled) (bytes : List ℕ) (value : Data) (nodes : List Located) → IsReached form c bytes value → SelectsFrom c value nodes → SelectsAlike form c bytes nodes
 selects_alike Location c bytes value nodes read selects =
-    let found = (read.1.2 (functions_of c) (path_tree c.path) (places nodes) (inl refl)).1 (nodes, selects, refl) in
+    let found = (read.1.2 (functions_of c) (path_tree c.path.value) (places nodes) (inl refl)).1 (nodes, selects, refl) in
     (read.1.0, (read.0, read.1.1), (found.0, found.1, sym found.2))
 selects_alike form c bytes value nodes read selects =
-    (read.1.0, (read.0, read.1.1), (nodes, (read.1.2 (functions_of c) (path_tree c.path) nodes (inl refl)).1 selects, refl))
+    (read.1.0, (read.0, read.1.1), (nodes, (read.1.2 (functions_of c) (path_tree c.path.value) nodes (inl refl)).1 selects, refl))
 
 -- the whole document is read for a path, in whatever form
 pub whole_reached : (form : Form) (c : Compiled) (bytes : List ℕ) (value : Data) → ReadsAs bytes value → IsReached form c bytes value

@@ -12,7 +12,10 @@ pub use Rattle.jsonpath_lines.proofs.Pieces.{lines_pushed}
 pub use Rattle.jsonpath_lines.proofs.Words.{AreEnough}
 pub use Rattle.jsonpath_program.specs.declared.report.DocumentError.TheVariants.{NotJson}
 pub use Rattle.jsonpath_program.specs.declared.report.ReportError.TheVariants.{Document, Path, Query}
-pub use Rattle.nullable_box.proofs.Moved.{Owner, moved, nullable_box}
+pub use Rattle.nullable_box.proofs.Moved.{Owner, moved, nullable_box, nullable_ref}
+pub use Rattle.nullable_box.proofs.Sent.{held_keyless, lent_keyless}
+pub use Rattle.nullable_box.specs.Held.{held}
+pub use Rattle.nullable_box.specs.Shown.{lent}
 pub use Rattle.serde_json_path_nodes.proofs.Words.{Bool, Err, IfOk, List, Ok, Result, Some, [], ap, append-nil, append_assoc, arith, drop, drop_more, false, inl, inr, length, length-append, length_push, map, map-append, refl, rules, string_bytes, subst, sym, take, take-append-drop, true, ℕ, ◌++◌, ◌+◌, ◌<◌, ◌∙◌, ◌∷◌, ◌≡◌, ◌≤◌, ◌⊎◌}
 pub use Rattle.serde_json_path_reach.specs.Readers.{KeepsPlacesFor}
 pub use Rattle.serde_json_path_syntax.proofs.Words.{Bor, Pattern, QueryError}

@@ -16,38 +16,35 @@ use Rattle.jsonpath_c.specs.declared.node_texts.LocationForm.TheVariants.{Path, 
 abbrev pub BothHold : {A B : Type 0} → Option A → Option B → (A → B → Type 0) → Type 0
 BothHold a b Says = MatchOption a ⊥ (λ x. MatchOption b ⊥ (λ y. Says x y))
 
--- A handle is lent: a call answers 7 exactly if it is empty, and it holds afterwards what it held.
-pub record IsLent {A : Type 0} (old new : Option A) (status : ℕ) : Type 0 where
-  pub empty : (status ≡ 7) ↔ (old ≡ None)
-  pub kept : new ≡ old
+-- a call that is lent a handle answers 7 exactly if it is empty
+abbrev pub TellsEmpty : {A : Type 0} → Option A → ℕ → Type 0
+TellsEmpty handle status = (status ≡ 7) ↔ (handle ≡ None)
 
--- Two handles are lent: 7 exactly if one is empty.
-pub record AreLent {A B : Type 0} (old new : Option A) (old_other new_other : Option B) (status : ℕ) : Type 0 where
-  pub empty : (status ≡ 7) ↔ ((old ≡ None) ⊎ (old_other ≡ None))
-  pub kept : new ≡ old
-  pub kept_other : new_other ≡ old_other
+-- a call that is lent two handles answers 7 exactly if one is empty
+abbrev pub TellsEitherEmpty : {A B : Type 0} → Option A → Option B → ℕ → Type 0
+TellsEitherEmpty handle other status = (status ≡ 7) ↔ ((handle ≡ None) ⊎ (other ≡ None))
 
 -- ---- paths
 
 -- the functions under which a compiled path runs
 abbrev pub functions_of : Compiled → FunctionSet
-functions_of c = with_rule_of c.path builtin_functions
+functions_of c = with_rule_of c.path.value builtin_functions
 
 -- a path's handle holds the path that a text is, by the rule that a number names
 abbrev pub HoldsPathOf : List ℕ → ℕ → Option Compiled → Type 0
 HoldsPathOf text numbers handle = MatchOption handle ⊥ (λ c.
-    IsAccepted (rule_of numbers) builtin_functions.signature (chars text) (path_tree c.path)
-    × (path_rule c.path ≡ rule_of numbers))
+    IsAccepted (rule_of numbers) builtin_functions.signature (chars text) (path_tree c.path.value)
+    × (path_rule c.path.value ≡ rule_of numbers))
 
 -- ---- paths and documents
 
 -- the path selects these nodes from the document, in order
 abbrev pub SelectsFrom : Compiled → Data → List Located → Type 0
-SelectsFrom c d nodes = Selects (functions_of c) (path_tree c.path) d nodes
+SelectsFrom c d nodes = Selects (functions_of c) (path_tree c.path.value) d nodes
 
 -- some call of the path goes by a pattern that `regex` reads, on the document
 abbrev pub CallsByPatternFrom : Compiled → Data → Type 0
-CallsByPatternFrom c d = CallsByPattern (functions_of c) d (path_tree c.path)
+CallsByPatternFrom c d = CallsByPattern (functions_of c) d (path_tree c.path.value)
 
 -- whether there are nodes, as 1 or 0
 abbrev pub TellsSome : ℕ → List Located → Type 0
@@ -55,12 +52,12 @@ TellsSome some nodes = ((some ≡ 1) × (nodes ≢ [])) ⊎ ((some ≡ 0) × (no
 
 -- two handles hold a path and a document, from which the path selects nodes of which this holds
 abbrev pub SelectThose : Option Compiled → Option Document → (List Located → Type 0) → Type 0
-SelectThose path document Says = BothHold path document (λ c d. (nodes : List Located) × SelectsFrom c (view d.value) nodes × Says nodes)
+SelectThose path document Says = BothHold path document (λ c d. (nodes : List Located) × SelectsFrom c (view d.json.value) nodes × Says nodes)
 
--- A path is asked of a document: both handles are lent, and with 3 a call goes by a pattern.
-pub record IsAsked (old_path new_path : Option Compiled) (old_document new_document : Option Document) (status : ℕ) : Type 0 where
-  pub lent : AreLent old_path new_path old_document new_document status
-  pub pattern_refused : status ≡ 3 → BothHold old_path old_document (λ c d. CallsByPatternFrom c (view d.value))
+-- A path is asked of a document: 7 tells that a handle is empty, and with 3 a call goes by a pattern.
+pub record IsAsked (path : Option Compiled) (document : Option Document) (status : ℕ) : Type 0 where
+  pub empty : TellsEitherEmpty path document status
+  pub pattern_refused : status ≡ 3 → BothHold path document (λ c d. CallsByPatternFrom c (view d.json.value))
 
 -- ---- paths and bytes
 
@@ -77,12 +74,12 @@ pub record TellsFault (bytes : List ℕ) (old_position new_position status : ℕ
   pub position : (status ≡ 2) ⊎ (status ≡ 9) → (1 ≤ new_position) × (new_position ≤ length bytes + 1)
   pub kept_position : status ≢ 2 → status ≢ 9 → new_position ≡ old_position
 
--- A path is asked of bytes: its handle is lent, of bytes that are no document the fault is told, and with 3 a call goes by a
--- pattern on the document that they are.
-pub record IsAskedOf (old_path new_path : Option Compiled) (bytes : List ℕ) (old_position new_position status : ℕ) : Type 0 where
-  pub lent : IsLent old_path new_path status
+-- A path is asked of bytes: 7 tells that its handle is empty, of bytes that are no document the fault is told, and with 3 a call
+-- goes by a pattern on the document that they are.
+pub record IsAskedOf (path : Option Compiled) (bytes : List ℕ) (old_position new_position status : ℕ) : Type 0 where
+  pub empty : TellsEmpty path status
   pub fault : TellsFault bytes old_position new_position status
-  pub pattern_refused : status ≡ 3 → HoldOf old_path bytes CallsByPatternFrom
+  pub pattern_refused : status ≡ 3 → HoldOf path bytes CallsByPatternFrom
 
 -- with these statuses nothing is answered of the document that bytes are: they are none, memory was refused, or the path's
 -- handle is empty
@@ -158,7 +155,7 @@ HoldsFirst handle limits nodes all = MatchOption handle ⊥ (λ list. AreFirstNo
 -- a value of which this holds stands in a document where a list's node at an index was
 abbrev pub HasValueAt : Nodes → ℕ → Document → (Data → Type 0) → Type 0
 HasValueAt list index d Says = MatchOption (slice_get list.nodes index) ⊥ (λ node.
-    MatchOption (at (view d.value) (location_of node)) ⊥ Says)
+    MatchOption (at (view d.json.value) (location_of node)) ⊥ Says)
 
 -- the same of two handles
 abbrev pub StandsAt : Option Nodes → ℕ → Option Document → (Data → Type 0) → Type 0

@@ -32,8 +32,8 @@ pub record ArePut (lines : FirstLines) (old_out new_out : List ℕ) (new_size st
 
 -- what is read of bytes for lines of a path in a form: what the path can reach, and of locations alone the places
 abbrev pub IsReached : Form → Compiled → List ℕ → Data → Type 0
-IsReached Location c bytes value = IsReadForPlaces bytes (path_tree c.path ∷ []) value
-IsReached form c bytes value = IsReadFor bytes (path_tree c.path ∷ []) value
+IsReached Location c bytes value = IsReadForPlaces bytes (path_tree c.path.value ∷ []) value
+IsReached form c bytes value = IsReadFor bytes (path_tree c.path.value ∷ []) value
 
 -- what is left of limits has room for a node, and this is what is left after it
 abbrev pub IsLeftAfter : Located → Limits → Limits → Type 0

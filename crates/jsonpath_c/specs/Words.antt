@@ -9,6 +9,7 @@ pub use Rattle.jsonpath_owned_nodes.specs.declared.node_info.NodeInfo.TheVariant
 pub use Rattle.jsonpath_owned_nodes.specs.declared.node_info.NodeInfo.{NodeInfo}
 pub use Rattle.jsonpath_program.specs.Report.{CallsByPatternOn, IsNoPath, IsReportIn}
 pub use Rattle.nullable_box.specs.Held.{held}
+pub use Rattle.nullable_box.specs.Shown.{lent}
 pub use Rattle.serde_json_path.specs.Fitting.{FitsBuiltin, FitsBuiltin-prop}
 pub use Rattle.serde_json_path.specs.Words.{IsRead, document_of, kind_of, message_of, path_rule, path_signatures, path_tree, position_of, query_of, rest, set_of, with_rule_of}
 pub use Rattle.serde_json_path_core.specs.Inside.Words.{CallsByPattern, OnlyMemoryOrPattern, Selects}
@@ -20,7 +21,7 @@ pub use Rattle.serde_json_path_parser.specs.declared.error.ParseError.{ParseErro
 pub use Rattle.serde_json_path_parser.specs.declared.error.ParseErrorKind.TheVariants.{BadEscape, BadMemberName, ControlCharacter, ExpectedClosingBracket, ExpectedClosingParenthesis, ExpectedComparisonOperator, ExpectedEndingQuote, ExpectedExpression, ExpectedRoot, ExpectedSelector, ExponentOrEmptyFraction, FractionTooLong, IntegerOutOfRange, NestedTooDeep, NoMemory, NonSingularQuery, NumberOutOfRange, TextAfterPath, UndefinedFunction, WrongArgumentType, WrongNumberOfArguments, WrongReturnType}
 pub use Rattle.serde_json_path_parser.specs.declared.error.ParseErrorKind.{ParseErrorKind}
 pub use Rattle.serde_json_path_reach.specs.Alike.{IsReadFor, IsReadForPlaces}
-pub use Rattle.serde_json_path_syntax.specs.Words.{Memory, Query, query_text}
+pub use Rattle.serde_json_path_syntax.specs.Words.{Memory, Query, query_text, tree_of}
 pub use Rattle.std.specs.Coded.{coded_option}
 pub use Rattle.std.specs.Float.{float_zero}
 pub use Rattle.std.specs.Option.{MatchOption, unwrap_or}

@@ -1,19 +1,19 @@
 //! What compiled paths select from documents that are read: lines, how many nodes, whether there is one.
 
 ghost use Rattle.std.specs.Prelude.{◌≡◌, ◌≢◌, ◌⊎◌, ◌↔◌, Err, IfOk, List, length};
-ghost use Rattle.jsonpath_c.specs.Clauses.{Located, AnswersLinesOf, AreLent, AreLinesFrom, ArePut, BothHold, CallsByPatternFrom, IsAsked, SelectThose, SelectsFrom, TellsSome, form_of, view};
+ghost use Rattle.jsonpath_c.specs.Clauses.{Located, AnswersLinesOf, AreLinesFrom, ArePut, BothHold, CallsByPatternFrom, IsAsked, SelectThose, SelectsFrom, TellsEitherEmpty, TellsSome, form_of, view};
 
 use crate::bounded::{FirstLines, first_lines};
 use crate::compiled::Compiled;
 use crate::counted::count_of;
-use crate::handle::document::DocumentHandle;
-use crate::handle::path::PathHandle;
+use crate::handle::document::DocumentRef;
+use crate::handle::path::PathRef;
 use crate::limits::Limits;
 use crate::output::{put, put_answer};
 use crate::status::{CUT_SHORT, DONE, EMPTY_HANDLE, NO_MEMORY, QUERY_REFUSED};
 use crate::walks::walk;
 use jsonpath_lines::Form;
-use nullable_box::{Handle, take_both};
+use nullable_box::get_both;
 use serde_json::Value;
 use serde_json_path::QueryError;
 use serde_json_path::functions::PatternStore;
@@ -75,27 +75,24 @@ pub(crate) fn put_lines(lines: &FirstLines, out: &mut [u8], size: &mut usize) ->
 #[unsafe(no_mangle)]
 pub extern "C" fn jsonpath_lines(
     alloc: Global,
-    path: &mut PathHandle,
-    document: &mut DocumentHandle,
+    path: PathRef,
+    document: DocumentRef,
     form: u8,
     limits: &Limits,
     out: &mut [u8],
     size: &mut usize,
 ) -> u8
-    ensures answers { result ≢ 7 → BothHold path.old.value document.old.value (λ c d.
-        AnswersLinesOf (form_of form) limits.now c (view d.value) out.old out.new size.old size.new
-        result) }
-    ensures lent { AreLent path.old.value path.new.value document.old.value document.new.value
-        result }
+    ensures answers { result ≢ 7 → BothHold path.value document.value (λ c d.
+        AnswersLinesOf (form_of form) limits.now c (view d.json.value) out.old out.new size.old
+        size.new result) }
+    ensures empty { TellsEitherEmpty path.value document.value result }
     ensures kept_out { result ≡ 7 → out.new ≡ out.old }
     ensures kept_size { result ≡ 7 → size.new ≡ size.old }
 {
-    let Some((asked, read)) = take_both(alloc, path, document) else {
+    let Some((asked, read)) = get_both(path, document) else {
         return EMPTY_HANDLE;
     };
-    let found = lines_of(alloc, form_named(form), limits, &asked, &read.value);
-    path.put(alloc, asked);
-    document.put(alloc, read);
+    let found = lines_of(alloc, form_named(form), limits, asked, &read.json);
     match found {
         Ok(lines) => put_lines(&lines, out, size),
         Err(e) => query_status(e),
@@ -119,23 +116,20 @@ pub(crate) fn counted(alloc: Global, path: &Compiled, document: &Value) -> Resul
 #[unsafe(no_mangle)]
 pub extern "C" fn jsonpath_count(
     alloc: Global,
-    path: &mut PathHandle,
-    document: &mut DocumentHandle,
+    path: PathRef,
+    document: DocumentRef,
     count: &mut usize,
 ) -> u8
     ensures statuses { (result ≡ 0) ⊎ (result ≡ 3) ⊎ (result ≡ 4) ⊎ (result ≡ 7) }
-    ensures done { result ≡ 0 → SelectThose path.old.value document.old.value
+    ensures done { result ≡ 0 → SelectThose path.value document.value
         (λ nodes. count.new ≡ length nodes) }
-    ensures asked { IsAsked path.old.value path.new.value document.old.value document.new.value
-        result }
+    ensures asked { IsAsked path.value document.value result }
     ensures kept_count { result ≢ 0 → count.new ≡ count.old }
 {
-    let Some((asked, read)) = take_both(alloc, path, document) else {
+    let Some((asked, read)) = get_both(path, document) else {
         return EMPTY_HANDLE;
     };
-    let found = counted(alloc, &asked, &read.value);
-    path.put(alloc, asked);
-    document.put(alloc, read);
+    let found = counted(alloc, asked, &read.json);
     put_answer(found.map_err(query_status), count)
 }
 
@@ -160,22 +154,19 @@ pub(crate) fn selects_some(
 #[unsafe(no_mangle)]
 pub extern "C" fn jsonpath_exists(
     alloc: Global,
-    path: &mut PathHandle,
-    document: &mut DocumentHandle,
+    path: PathRef,
+    document: DocumentRef,
     exists: &mut u8,
 ) -> u8
     ensures statuses { (result ≡ 0) ⊎ (result ≡ 3) ⊎ (result ≡ 4) ⊎ (result ≡ 7) }
-    ensures done { result ≡ 0 → SelectThose path.old.value document.old.value
+    ensures done { result ≡ 0 → SelectThose path.value document.value
         (TellsSome exists.new) }
-    ensures asked { IsAsked path.old.value path.new.value document.old.value document.new.value
-        result }
+    ensures asked { IsAsked path.value document.value result }
     ensures kept_exists { result ≢ 0 → exists.new ≡ exists.old }
 {
-    let Some((asked, read)) = take_both(alloc, path, document) else {
+    let Some((asked, read)) = get_both(path, document) else {
         return EMPTY_HANDLE;
     };
-    let found = selects_some(alloc, &asked, &read.value);
-    path.put(alloc, asked);
-    document.put(alloc, read);
+    let found = selects_some(alloc, asked, &read.json);
     put_answer(found.map_err(query_status), exists)
 }

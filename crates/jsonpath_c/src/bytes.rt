@@ -6,12 +6,12 @@ ghost use Rattle.jsonpath_c.specs.Clauses.{AnswersLinesOf, HoldOf, IsAskedOf, Is
 use crate::answers::{counted, form_named, lines_of, put_lines, query_status, selects_some};
 use crate::compiled::Compiled;
 use crate::documents::document_in;
-use crate::handle::path::PathHandle;
+use crate::handle::path::PathRef;
 use crate::limits::Limits;
 use crate::output::put_answer;
 use crate::status::{EMPTY_HANDLE, NO_MEMORY};
 use jsonpath_lines::Form;
-use nullable_box::Handle;
+use nullable_box::Lent;
 use serde_json::Value;
 use serde_json_path::{DocumentReader, QueryError, read_for};
 use std::alloc::Global;
@@ -21,7 +21,7 @@ use std::alloc::Global;
 fn reached(alloc: Global, form: Form, path: &Compiled, bytes: &[u8]) -> Option<Value>
     ensures { IfSome result (λ value. IsReached form path.now bytes.now (view value)) }
 {
-    let paths = [path.path.tree()];
+    let paths = [path.tree()];
     match form {
         Form::Location => match DocumentReader::of_places(alloc, &paths) {
             Ok(reader) => reader.read(alloc, bytes).ok(),
@@ -70,7 +70,7 @@ fn asked_of<T, A: Fn(&Value) -> Result<T, QueryError>>(
 #[unsafe(no_mangle)]
 pub extern "C" fn jsonpath_lines_in(
     alloc: Global,
-    path: &mut PathHandle,
+    path: PathRef,
     document: &[u8],
     form: u8,
     limits: &Limits,
@@ -78,21 +78,19 @@ pub extern "C" fn jsonpath_lines_in(
     size: &mut usize,
     position: &mut usize,
 ) -> u8
-    ensures answers { IsNoAnswer result ⊎ HoldOf path.old.value document.now (λ c d.
+    ensures answers { IsNoAnswer result ⊎ HoldOf path.value document.now (λ c d.
         AnswersLinesOf (form_of form) limits.now c d out.old out.new size.old size.new result) }
-    ensures asked { IsAskedOf path.old.value path.new.value document.now position.old position.new
-        result }
+    ensures asked { IsAskedOf path.value document.now position.old position.new result }
     ensures kept_out { IsNoAnswer result → out.new ≡ out.old }
     ensures kept_size { IsNoAnswer result → size.new ≡ size.old }
 {
-    let Some(asked) = path.take(alloc) else {
+    let Some(asked) = path.get() else {
         return EMPTY_HANDLE;
     };
     let form = form_named(form);
-    let found = asked_of(alloc, form, &asked, document, position, |value| {
-        lines_of(alloc, form, limits, &asked, value)
+    let found = asked_of(alloc, form, asked, document, position, move |value| {
+        lines_of(alloc, form, limits, asked, value)
     });
-    path.put(alloc, asked);
     match found {
         Ok(lines) => put_lines(&lines, out, size),
         Err(status) => status,
@@ -104,25 +102,28 @@ pub extern "C" fn jsonpath_lines_in(
 #[unsafe(no_mangle)]
 pub extern "C" fn jsonpath_count_in(
     alloc: Global,
-    path: &mut PathHandle,
+    path: PathRef,
     document: &[u8],
     count: &mut usize,
     position: &mut usize,
 ) -> u8
-    ensures done { result ≡ 0 → HoldOf path.old.value document.now (λ c d.
+    ensures done { result ≡ 0 → HoldOf path.value document.now (λ c d.
         (nodes : List Located) × SelectsFrom c d nodes × (count.new ≡ length nodes)) }
-    ensures asked { IsAskedOf path.old.value path.new.value document.now position.old position.new
-        result }
+    ensures asked { IsAskedOf path.value document.now position.old position.new result }
     ensures statuses { (result ≡ 0) ⊎ (result ≡ 3) ⊎ IsNoAnswer result }
     ensures kept_count { result ≢ 0 → count.new ≡ count.old }
 {
-    let Some(asked) = path.take(alloc) else {
+    let Some(asked) = path.get() else {
         return EMPTY_HANDLE;
     };
-    let found = asked_of(alloc, Form::Location, &asked, document, position, |value| {
-        counted(alloc, &asked, value)
-    });
-    path.put(alloc, asked);
+    let found = asked_of(
+        alloc,
+        Form::Location,
+        asked,
+        document,
+        position,
+        move |value| { counted(alloc, asked, value) },
+    );
     put_answer(found, count)
 }
 
@@ -131,24 +132,27 @@ pub extern "C" fn jsonpath_count_in(
 #[unsafe(no_mangle)]
 pub extern "C" fn jsonpath_exists_in(
     alloc: Global,
-    path: &mut PathHandle,
+    path: PathRef,
     document: &[u8],
     exists: &mut u8,
     position: &mut usize,
 ) -> u8
-    ensures done { result ≡ 0 → HoldOf path.old.value document.now (λ c d.
+    ensures done { result ≡ 0 → HoldOf path.value document.now (λ c d.
         (nodes : List Located) × SelectsFrom c d nodes × TellsSome exists.new nodes) }
-    ensures asked { IsAskedOf path.old.value path.new.value document.now position.old position.new
-        result }
+    ensures asked { IsAskedOf path.value document.now position.old position.new result }
     ensures statuses { (result ≡ 0) ⊎ (result ≡ 3) ⊎ IsNoAnswer result }
     ensures kept_exists { result ≢ 0 → exists.new ≡ exists.old }
 {
-    let Some(asked) = path.take(alloc) else {
+    let Some(asked) = path.get() else {
         return EMPTY_HANDLE;
     };
-    let found = asked_of(alloc, Form::Location, &asked, document, position, |value| {
-        selects_some(alloc, &asked, value)
-    });
-    path.put(alloc, asked);
+    let found = asked_of(
+        alloc,
+        Form::Location,
+        asked,
+        document,
+        position,
+        move |value| { selects_some(alloc, asked, value) },
+    );
     put_answer(found, exists)
 }

@@ -1,12 +1,12 @@
 //! Documents that are read once.
 
 ghost use Rattle.std.specs.Prelude.{◌≡◌, ◌≢◌, ◌⊎◌, ◌↔◌, None, IfErr, IfOk};
-ghost use Rattle.jsonpath_c.specs.Clauses.{MatchOption, view, ReadsAs, TellsFault, status_of};
+ghost use Rattle.jsonpath_c.specs.Clauses.{BothHold, MatchOption, view, ReadsAs, TellsEmpty, TellsFault, status_of};
 
-use crate::handle::document::{Document, DocumentHandle};
-use crate::status::{DOCUMENT_REFUSED, DOCUMENT_TOO_DEEP, DONE, NO_MEMORY};
+use crate::handle::document::{Document, DocumentHandle, DocumentRef};
+use crate::status::{DOCUMENT_REFUSED, DOCUMENT_TOO_DEEP, DONE, EMPTY_HANDLE, NO_MEMORY};
 use jsonpath_document::{DocumentFault, read_document};
-use nullable_box::Handle;
+use nullable_box::{Handle, Lent};
 use serde_json::Value;
 use std::alloc::Global;
 
@@ -51,7 +51,7 @@ pub extern "C" fn jsonpath_document_new(
 ) -> u8
     ensures statuses { (result ≡ 0) ⊎ (result ≡ 2) ⊎ (result ≡ 4) ⊎ (result ≡ 9) }
     ensures done { result ≡ 0 → MatchOption document.new.value ⊥ (λ d.
-        ReadsAs bytes.now (view d.value)) }
+        ReadsAs bytes.now (view d.json.value)) }
     ensures fault { TellsFault bytes.now position.old position.new result }
     ensures kept { result ≢ 0 → document.new.value ≡ document.old.value }
 {
@@ -59,11 +59,37 @@ pub extern "C" fn jsonpath_document_new(
         Ok(value) => value,
         Err(status) => return status,
     };
-    match Box::new(alloc, Document { value }) {
-        Ok(read) => {
-            document.put(alloc, read);
-            DONE
-        }
+    let Ok(read) = Document::new(alloc, value) else {
+        return NO_MEMORY;
+    };
+    match document.hold(alloc, read) {
+        Ok(()) => DONE,
+        Err(_) => NO_MEMORY,
+    }
+}
+
+/// Makes another owner of a document: 0 with the same document in the handle, in the place of what was there; 4 without memory;
+/// 7 of an empty handle.
+#[unsafe(no_mangle)]
+pub extern "C" fn jsonpath_document_share(
+    alloc: Global,
+    document: DocumentRef,
+    other: &mut DocumentHandle,
+) -> u8
+    ensures statuses { (result ≡ 0) ⊎ (result ≡ 4) ⊎ (result ≡ 7) }
+    ensures empty { TellsEmpty document.value result }
+    ensures done { result ≡ 0 → BothHold document.value other.new.value (λ d e.
+        e.json.value ≡ d.json.value) }
+    ensures kept { result ≢ 0 → other.new.value ≡ other.old.value }
+{
+    let Some(read) = document.get() else {
+        return EMPTY_HANDLE;
+    };
+    let Ok(shared) = read.share() else {
+        return NO_MEMORY;
+    };
+    match other.hold(alloc, shared) {
+        Ok(()) => DONE,
         Err(_) => NO_MEMORY,
     }
 }

@@ -1,7 +1,10 @@
 //! What C holds by pointers: paths, documents and nodes.
 //!
-//! A handle is a pointer, which is null where it holds nothing. A call takes what is held out of it as a box, and puts the box
-//! back, which copies a pointer and takes no memory.
+//! A handle is a pointer to a box, which is null where it holds nothing. A call that fills a handle or frees what it holds is
+//! handed the variable of the pointer, as `PathHandle`. A call that asks is handed the pointer, as `PathRef`, and reads what is
+//! there by a shared reference, as any number of calls may at once.
+//!
+//! What is in the box of a path or a document is one of the owners of an `Arc`: `jsonpath_path_share` makes another box of another.
 
 pub mod document;
 pub mod nodes;

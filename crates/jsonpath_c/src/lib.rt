@@ -1,7 +1,7 @@
 //! The engine for programs in C, and in languages that call C: the exports of `include/jsonpath.h`.
 //!
 //! Each call takes texts as a pointer and a length, and answers a status. It writes its text to what the caller lends, or says
-//! how much it needs. Some read a path and a document each time; others take them from handles, where a program keeps what was
+//! how much it needs. Some read a path and a document each time; others ask those of handles, where a program keeps what was
 //! compiled and read once. What is proved holds where the caller keeps to what the header says of memory, threads and the stack.
 //!
 //! ```text
@@ -38,10 +38,10 @@ pub use answers::{jsonpath_count, jsonpath_exists, jsonpath_lines};
 pub use bytes::{jsonpath_count_in, jsonpath_exists_in, jsonpath_lines_in};
 pub use check::{jsonpath_check, jsonpath_hint, jsonpath_message};
 pub use compiled::Compiled;
-pub use documents::{jsonpath_document_free, jsonpath_document_new};
-pub use handle::document::{Document, DocumentHandle};
-pub use handle::nodes::{Nodes, NodesHandle};
-pub use handle::path::PathHandle;
+pub use documents::{jsonpath_document_free, jsonpath_document_new, jsonpath_document_share};
+pub use handle::document::{Document, DocumentHandle, DocumentRef};
+pub use handle::nodes::{Nodes, NodesHandle, NodesRef};
+pub use handle::path::{PathHandle, PathRef};
 pub use limits::Limits;
 pub use lines::{jsonpath_locations, jsonpath_report, jsonpath_values};
 pub use node::Node;
@@ -49,7 +49,10 @@ pub use node_texts::{
     jsonpath_node_json, jsonpath_node_location, jsonpath_node_pointer, jsonpath_node_text,
 };
 pub use nodes::{jsonpath_node, jsonpath_nodes_free, jsonpath_nodes_length, jsonpath_select};
-pub use paths::{jsonpath_path_equals, jsonpath_path_free, jsonpath_path_new, jsonpath_path_text};
+pub use paths::{
+    jsonpath_path_equals, jsonpath_path_free, jsonpath_path_new, jsonpath_path_share,
+    jsonpath_path_text,
+};
 pub use refusal::Refusal;
 
 /// The version, of 0.7.2.

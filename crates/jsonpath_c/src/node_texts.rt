@@ -1,13 +1,13 @@
 //! The texts of selected nodes: their locations, and what stands there in a document.
 
 ghost use Rattle.std.specs.Prelude.{◌≡◌, ◌⊎◌, ℕ, List, None, IfOk, slice_get, string_bytes, ⊤};
-ghost use Rattle.jsonpath_c.specs.Clauses.{MatchOption, string, normal, pointer, location_of, IsJsonOf, AnswersText, AreLent, HasValueAt, IsLent, IsOfNode, IsPast, StandsAt, location_text};
+ghost use Rattle.jsonpath_c.specs.Clauses.{MatchOption, string, normal, pointer, location_of, IsJsonOf, AnswersText, HasValueAt, IsOfNode, IsPast, StandsAt, TellsEitherEmpty, TellsEmpty, location_text};
 
-use crate::handle::document::{Document, DocumentHandle};
-use crate::handle::nodes::{Nodes, NodesHandle};
+use crate::handle::document::{Document, DocumentRef};
+use crate::handle::nodes::{Nodes, NodesRef};
 use crate::output::put;
 use crate::status::{EMPTY_HANDLE, NO_MEMORY, NO_SUCH_NODE};
-use nullable_box::{Handle, take_both};
+use nullable_box::{Lent, get_both};
 use serde_json::Value;
 use serde_json_path::NormalizedPath;
 use std::alloc::{AllocError, Global};
@@ -65,77 +65,68 @@ fn put_location(
 #[unsafe(no_mangle)]
 pub extern "C" fn jsonpath_node_location(
     alloc: Global,
-    nodes: &mut NodesHandle,
+    nodes: NodesRef,
     index: usize,
     out: &mut [u8],
     size: &mut usize,
 ) -> u8
-    ensures text { AnswersText (IsOfNode normal nodes.old.value index) out.old out.new size.old
+    ensures text { AnswersText (IsOfNode normal nodes.value index) out.old out.new size.old
         size.new result }
     ensures statuses { (result ≡ 0) ⊎ (result ≡ 4) ⊎ (result ≡ 5) ⊎ (result ≡ 7) ⊎ (result ≡ 10) }
-    ensures past { result ≡ 10 → IsPast nodes.old.value index }
-    ensures lent { IsLent nodes.old.value nodes.new.value result }
+    ensures past { result ≡ 10 → IsPast nodes.value index }
+    ensures empty { TellsEmpty nodes.value result }
 {
-    let Some(list) = nodes.take(alloc) else {
+    let Some(list) = nodes.get() else {
         return EMPTY_HANDLE;
     };
-    let status = put_location(alloc, &list, index, LocationForm::Path, out, size);
-    nodes.put(alloc, list);
-    status
+    put_location(alloc, list, index, LocationForm::Path, out, size)
 }
 
 /// The same with the JSON pointer of the node (RFC 6901).
 #[unsafe(no_mangle)]
 pub extern "C" fn jsonpath_node_pointer(
     alloc: Global,
-    nodes: &mut NodesHandle,
+    nodes: NodesRef,
     index: usize,
     out: &mut [u8],
     size: &mut usize,
 ) -> u8
-    ensures text { AnswersText (IsOfNode pointer nodes.old.value index) out.old out.new size.old
+    ensures text { AnswersText (IsOfNode pointer nodes.value index) out.old out.new size.old
         size.new result }
     ensures statuses { (result ≡ 0) ⊎ (result ≡ 4) ⊎ (result ≡ 5) ⊎ (result ≡ 7) ⊎ (result ≡ 10) }
-    ensures past { result ≡ 10 → IsPast nodes.old.value index }
-    ensures lent { IsLent nodes.old.value nodes.new.value result }
+    ensures past { result ≡ 10 → IsPast nodes.value index }
+    ensures empty { TellsEmpty nodes.value result }
 {
-    let Some(list) = nodes.take(alloc) else {
+    let Some(list) = nodes.get() else {
         return EMPTY_HANDLE;
     };
-    let status = put_location(alloc, &list, index, LocationForm::Pointer, out, size);
-    nodes.put(alloc, list);
-    status
+    put_location(alloc, list, index, LocationForm::Pointer, out, size)
 }
 
 /// Puts the bytes of the string that stands in a document where the node at an index was, from 0: 0; 5 where they find no
 /// room; 7 where a handle is empty; 10 past the last node, and where no string stands there.
 #[unsafe(no_mangle)]
 pub extern "C" fn jsonpath_node_text(
-    alloc: Global,
-    nodes: &mut NodesHandle,
-    document: &mut DocumentHandle,
+    nodes: NodesRef,
+    document: DocumentRef,
     index: usize,
     out: &mut [u8],
     size: &mut usize,
 ) -> u8
-    ensures text { AnswersText (λ text. StandsAt nodes.old.value index document.old.value (λ v.
+    ensures text { AnswersText (λ text. StandsAt nodes.value index document.value (λ v.
         v ≡ string text)) out.old out.new size.old size.new result }
     ensures statuses { (result ≡ 0) ⊎ (result ≡ 5) ⊎ (result ≡ 7) ⊎ (result ≡ 10) }
-    ensures absent { result ≡ 10 → StandsAt nodes.old.value index document.old.value
+    ensures absent { result ≡ 10 → StandsAt nodes.value index document.value
         (λ v. (text : List ℕ) × (v ≡ string text)) → ⊥ }
-    ensures lent { AreLent nodes.old.value nodes.new.value document.old.value document.new.value
-        result }
+    ensures empty { TellsEitherEmpty nodes.value document.value result }
 {
-    let Some((list, read)) = take_both(alloc, nodes, document) else {
+    let Some((list, read)) = get_both(nodes, document) else {
         return EMPTY_HANDLE;
     };
-    let status = match list.nodes.value_in(index, &read.value) {
+    match list.nodes.value_in(index, &read.json) {
         Some(Value::String(text)) => put(text.as_str(), out, size),
         _ => NO_SUCH_NODE,
-    };
-    nodes.put(alloc, list);
-    document.put(alloc, read);
-    status
+    }
 }
 
 /// Puts the compact JSON of the value that stands in a document where the node at an index was, from 0.
@@ -152,7 +143,7 @@ fn put_json(
     ensures statuses { (result ≡ 0) ⊎ (result ≡ 4) ⊎ (result ≡ 5) ⊎ (result ≡ 10) }
     ensures absent { result ≡ 10 → HasValueAt list.now index document.now (λ v. ⊤) → ⊥ }
 {
-    let Some(value) = list.nodes.value_in(index, &document.value) else {
+    let Some(value) = list.nodes.value_in(index, &document.json) else {
         return NO_SUCH_NODE;
     };
     match value.to_string(alloc) {
@@ -166,25 +157,21 @@ fn put_json(
 #[unsafe(no_mangle)]
 pub extern "C" fn jsonpath_node_json(
     alloc: Global,
-    nodes: &mut NodesHandle,
-    document: &mut DocumentHandle,
+    nodes: NodesRef,
+    document: DocumentRef,
     index: usize,
     out: &mut [u8],
     size: &mut usize,
 ) -> u8
-    ensures text { AnswersText (λ text. StandsAt nodes.old.value index document.old.value (λ v.
+    ensures text { AnswersText (λ text. StandsAt nodes.value index document.value (λ v.
         IsJsonOf v text)) out.old out.new size.old size.new result }
     ensures statuses { (result ≡ 0) ⊎ (result ≡ 4) ⊎ (result ≡ 5) ⊎ (result ≡ 7) ⊎ (result ≡ 10) }
-    ensures absent { result ≡ 10 → StandsAt nodes.old.value index document.old.value
+    ensures absent { result ≡ 10 → StandsAt nodes.value index document.value
         (λ v. ⊤) → ⊥ }
-    ensures lent { AreLent nodes.old.value nodes.new.value document.old.value document.new.value
-        result }
+    ensures empty { TellsEitherEmpty nodes.value document.value result }
 {
-    let Some((list, read)) = take_both(alloc, nodes, document) else {
+    let Some((list, read)) = get_both(nodes, document) else {
         return EMPTY_HANDLE;
     };
-    let status = put_json(alloc, &list, &read, index, out, size);
-    nodes.put(alloc, list);
-    document.put(alloc, read);
-    status
+    put_json(alloc, list, read, index, out, size)
 }

@@ -1,20 +1,20 @@
 //! Lists of selected nodes.
 
 ghost use Rattle.std.specs.Prelude.{◌≡◌, ◌≢◌, ◌⊎◌, List, None, Err, IfOk, length, true, false};
-ghost use Rattle.jsonpath_c.specs.Clauses.{MatchOption, Located, known_of, AreFirstNodes, CallsByPatternFrom, HasNode, HoldsFirst, IsAsked, IsLent, IsPast, SelectThose, SelectsFrom, asked_of, told_of, view};
+ghost use Rattle.jsonpath_c.specs.Clauses.{MatchOption, Located, known_of, AreFirstNodes, CallsByPatternFrom, HasNode, HoldsFirst, IsAsked, IsPast, SelectThose, SelectsFrom, TellsEmpty, asked_of, told_of, view};
 
 use crate::answers::query_status;
 use crate::compiled::Compiled;
-use crate::handle::document::DocumentHandle;
-use crate::handle::nodes::{Nodes, NodesHandle};
-use crate::handle::path::PathHandle;
+use crate::handle::document::DocumentRef;
+use crate::handle::nodes::{Nodes, NodesHandle, NodesRef};
+use crate::handle::path::PathRef;
 use crate::limits::Limits;
 use crate::node::Node;
 use crate::output::put;
 use crate::selected::{FirstNodes, first_nodes, first_unique_nodes};
 use crate::status::{CUT_SHORT, DONE, EMPTY_HANDLE, NO_MEMORY, NO_SUCH_NODE};
 use crate::walks::walk;
-use nullable_box::{Handle, take_both};
+use nullable_box::{Handle, Lent, get_both};
 use serde_json::Value;
 use serde_json_path::QueryError;
 use serde_json_path::functions::PatternStore;
@@ -49,37 +49,31 @@ fn selected(
 #[unsafe(no_mangle)]
 pub extern "C" fn jsonpath_select(
     alloc: Global,
-    path: &mut PathHandle,
-    document: &mut DocumentHandle,
+    path: PathRef,
+    document: DocumentRef,
     unique: u8,
     limits: &Limits,
     nodes: &mut NodesHandle,
 ) -> u8
     ensures statuses { (result ≡ 0) ⊎ (result ≡ 3) ⊎ (result ≡ 4) ⊎ (result ≡ 7) ⊎ (result ≡ 8) }
-    ensures done { result ≡ 0 → SelectThose path.old.value document.old.value
+    ensures done { result ≡ 0 → SelectThose path.value document.value
         (λ found. HoldsFirst nodes.new.value limits.now (asked_of unique found) true) }
-    ensures cut { result ≡ 8 → SelectThose path.old.value document.old.value
+    ensures cut { result ≡ 8 → SelectThose path.value document.value
         (λ found. HoldsFirst nodes.new.value limits.now (asked_of unique found) false) }
-    ensures asked { IsAsked path.old.value path.new.value document.old.value document.new.value
-        result }
+    ensures asked { IsAsked path.value document.value result }
     ensures kept { result ≢ 0 → result ≢ 8 → nodes.new.value ≡ nodes.old.value }
 {
-    let Some((asked, read)) = take_both(alloc, path, document) else {
+    let Some((asked, read)) = get_both(path, document) else {
         return EMPTY_HANDLE;
     };
-    let found = selected(alloc, &asked, &read.value, unique, limits);
-    path.put(alloc, asked);
-    document.put(alloc, read);
+    let found = selected(alloc, asked, &read.json, unique, limits);
     let first = match found {
         Ok(first) => first,
         Err(e) => return query_status(e),
     };
     let status = if first.all { DONE } else { CUT_SHORT };
-    match Box::new(alloc, Nodes { nodes: first.nodes }) {
-        Ok(list) => {
-            nodes.put(alloc, list);
-            status
-        }
+    match nodes.hold(alloc, Nodes { nodes: first.nodes }) {
+        Ok(()) => status,
         Err(_) => NO_MEMORY,
     }
 }
@@ -94,46 +88,34 @@ pub extern "C" fn jsonpath_nodes_free(alloc: Global, nodes: &mut NodesHandle)
 
 /// Tells how many nodes a list has: 0, or 7 of an empty handle.
 #[unsafe(no_mangle)]
-pub extern "C" fn jsonpath_nodes_length(
-    alloc: Global,
-    nodes: &mut NodesHandle,
-    size: &mut usize,
-) -> u8
+pub extern "C" fn jsonpath_nodes_length(nodes: NodesRef, size: &mut usize) -> u8
     ensures statuses { (result ≡ 0) ⊎ (result ≡ 7) }
-    ensures done { result ≡ 0 → MatchOption nodes.old.value ⊥ (λ list.
+    ensures done { result ≡ 0 → MatchOption nodes.value ⊥ (λ list.
         size.new ≡ length list.nodes) }
-    ensures lent { IsLent nodes.old.value nodes.new.value result }
+    ensures empty { TellsEmpty nodes.value result }
     ensures kept_size { result ≢ 0 → size.new ≡ size.old }
 {
-    let Some(list) = nodes.take(alloc) else {
+    let Some(list) = nodes.get() else {
         return EMPTY_HANDLE;
     };
     *size = list.nodes.len();
-    nodes.put(alloc, list);
     DONE
 }
 
 /// Tells what is known of the node at an index, from 0, without its document: 0; 7 of an empty handle; 10 past the last node.
 #[unsafe(no_mangle)]
-pub extern "C" fn jsonpath_node(
-    alloc: Global,
-    nodes: &mut NodesHandle,
-    index: usize,
-    node: &mut Node,
-) -> u8
+pub extern "C" fn jsonpath_node(nodes: NodesRef, index: usize, node: &mut Node) -> u8
     ensures statuses { (result ≡ 0) ⊎ (result ≡ 7) ⊎ (result ≡ 10) }
-    ensures done { result ≡ 0 → HasNode nodes.old.value index
+    ensures done { result ≡ 0 → HasNode nodes.value index
         (λ known. node.new ≡ told_of (known_of known)) }
-    ensures past { result ≡ 10 → IsPast nodes.old.value index }
-    ensures lent { IsLent nodes.old.value nodes.new.value result }
+    ensures past { result ≡ 10 → IsPast nodes.value index }
+    ensures empty { TellsEmpty nodes.value result }
     ensures kept_node { result ≢ 0 → node.new ≡ node.old }
 {
-    let Some(list) = nodes.take(alloc) else {
+    let Some(list) = nodes.get() else {
         return EMPTY_HANDLE;
     };
-    let info = list.nodes.get(index);
-    nodes.put(alloc, list);
-    match info {
+    match list.nodes.get(index) {
         Some(info) => {
             *node = Node::of(info);
             DONE

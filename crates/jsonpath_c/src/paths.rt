@@ -1,14 +1,14 @@
 //! Paths that are compiled once.
 
 ghost use Rattle.std.specs.Prelude.{◌≡◌, ◌≢◌, ◌⊎◌, None};
-ghost use Rattle.jsonpath_c.specs.Clauses.{MatchOption, path_tree, numbers_view, query_text, AnswersPath, AnswersText, rule_of, AreLent, BothHold, HoldsPathOf, IsLent};
+ghost use Rattle.jsonpath_c.specs.Clauses.{MatchOption, path_tree, numbers_view, query_text, AnswersPath, AnswersText, rule_of, BothHold, HoldsPathOf, TellsEitherEmpty, TellsEmpty};
 
 use crate::compiled::Compiled;
-use crate::handle::path::PathHandle;
+use crate::handle::path::{PathHandle, PathRef};
 use crate::output::put;
 use crate::refusal::{Refusal, put_refusal};
 use crate::status::{DONE, EMPTY_HANDLE, NO_MEMORY, NOT_UTF8};
-use nullable_box::{Handle, take_both};
+use nullable_box::{Handle, Lent, get_both};
 use serde_json_path::{JsonPath, Numbers};
 use std::alloc::Global;
 
@@ -43,11 +43,33 @@ pub extern "C" fn jsonpath_path_new(
         Ok(parsed) => parsed,
         Err(e) => return put_refusal(&e, refusal),
     };
-    match Box::new(alloc, Compiled::new(parsed)) {
-        Ok(compiled) => {
-            path.put(alloc, compiled);
-            DONE
-        }
+    let Ok(compiled) = Compiled::new(alloc, parsed) else {
+        return NO_MEMORY;
+    };
+    match path.hold(alloc, compiled) {
+        Ok(()) => DONE,
+        Err(_) => NO_MEMORY,
+    }
+}
+
+/// Makes another owner of a path: 0 with the same path in the handle, in the place of what was there; 4 without memory; 7 of an
+/// empty handle.
+#[unsafe(no_mangle)]
+pub extern "C" fn jsonpath_path_share(alloc: Global, path: PathRef, other: &mut PathHandle) -> u8
+    ensures statuses { (result ≡ 0) ⊎ (result ≡ 4) ⊎ (result ≡ 7) }
+    ensures empty { TellsEmpty path.value result }
+    ensures done { result ≡ 0 → BothHold path.value other.new.value (λ c d.
+        d.path.value ≡ c.path.value) }
+    ensures kept { result ≢ 0 → other.new.value ≡ other.old.value }
+{
+    let Some(compiled) = path.get() else {
+        return EMPTY_HANDLE;
+    };
+    let Ok(shared) = compiled.share() else {
+        return NO_MEMORY;
+    };
+    match other.hold(alloc, shared) {
+        Ok(()) => DONE,
         Err(_) => NO_MEMORY,
     }
 }
@@ -64,21 +86,19 @@ pub extern "C" fn jsonpath_path_free(alloc: Global, path: &mut PathHandle)
 #[unsafe(no_mangle)]
 pub extern "C" fn jsonpath_path_text(
     alloc: Global,
-    path: &mut PathHandle,
+    path: PathRef,
     out: &mut [u8],
     size: &mut usize,
 ) -> u8
-    ensures text { AnswersText (λ text. MatchOption path.old.value ⊥ (λ c.
-        text ≡ query_text (path_tree c.path))) out.old out.new size.old size.new result }
+    ensures text { AnswersText (λ text. MatchOption path.value ⊥ (λ c.
+        text ≡ query_text (path_tree c.path.value))) out.old out.new size.old size.new result }
     ensures statuses { (result ≡ 0) ⊎ (result ≡ 4) ⊎ (result ≡ 5) ⊎ (result ≡ 7) }
-    ensures lent { IsLent path.old.value path.new.value result }
+    ensures empty { TellsEmpty path.value result }
 {
-    let Some(compiled) = path.take(alloc) else {
+    let Some(compiled) = path.get() else {
         return EMPTY_HANDLE;
     };
-    let text = compiled.path.to_text(alloc);
-    path.put(alloc, compiled);
-    match text {
+    match compiled.path.to_text(alloc) {
         Ok(text) => put(text.as_str(), out, size),
         Err(_) => NO_MEMORY,
     }
@@ -86,24 +106,17 @@ pub extern "C" fn jsonpath_path_text(
 
 /// Tells whether two paths have the same tree: 0 with 1 or 0 in `equal`; 7 where a handle is empty.
 #[unsafe(no_mangle)]
-pub extern "C" fn jsonpath_path_equals(
-    alloc: Global,
-    path: &mut PathHandle,
-    other: &mut PathHandle,
-    equal: &mut u8,
-) -> u8
+pub extern "C" fn jsonpath_path_equals(path: PathRef, other: PathRef, equal: &mut u8) -> u8
     ensures statuses { (result ≡ 0) ⊎ (result ≡ 7) }
-    ensures done { result ≡ 0 → BothHold path.old.value other.old.value (λ c d.
-        ((equal.new ≡ 1) × (path_tree c.path ≡ path_tree d.path))
-        ⊎ ((equal.new ≡ 0) × (path_tree c.path ≢ path_tree d.path))) }
-    ensures lent { AreLent path.old.value path.new.value other.old.value other.new.value result }
+    ensures done { result ≡ 0 → BothHold path.value other.value (λ c d.
+        ((equal.new ≡ 1) × (path_tree c.path.value ≡ path_tree d.path.value))
+        ⊎ ((equal.new ≡ 0) × (path_tree c.path.value ≢ path_tree d.path.value))) }
+    ensures empty { TellsEitherEmpty path.value other.value result }
     ensures kept_equal { result ≢ 0 → equal.new ≡ equal.old }
 {
-    let Some((compiled, against)) = take_both(alloc, path, other) else {
+    let Some((compiled, against)) = get_both(path, other) else {
         return EMPTY_HANDLE;
     };
-    *equal = u8::from(compiled.path == against.path);
-    path.put(alloc, compiled);
-    other.put(alloc, against);
+    *equal = u8::from(*compiled.path == *against.path);
     DONE
 }

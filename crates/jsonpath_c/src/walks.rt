@@ -17,7 +17,7 @@ pub(crate) fn walk<'a>(
     store: &'a PatternStore,
 ) -> Result<Walk<'a, 'a, CachedPatterns<'a>>, QueryError>
     ensures selects { IfOk result (λ walk. SelectsFrom path.now (view document.now) (rest walk)) }
-    ensures query { IfOk result (λ walk. query_of walk ≡ path_tree path.now.path) }
+    ensures query { IfOk result (λ walk. query_of walk ≡ path_tree path.now.path.value) }
     ensures set { IfOk result (λ walk. set_of walk ≡ functions_of path.now) }
     ensures document { IfOk result (λ walk. document_of walk ≡ view document.now) }
     ensures refused { IfErr result (λ e. e ≡ Memory) }

@@ -1,10 +1,10 @@
 //! Handles for C, whatever they hold.
 
-ghost use Rattle.std.specs.Prelude.{◌≡◌, ◌⊎◌, Option, Some, None};
+ghost use Rattle.std.specs.Prelude.{◌≡◌, IfErr, IfOk, Option, Some, None};
 ghost use Rattle.std.specs.Option.{MatchOption};
 
 use crate::NullableBox;
-use std::alloc::Global;
+use std::alloc::{AllocError, Global};
 use std::mem::replace;
 
 /// A struct by which C holds a value, or nothing.
@@ -32,33 +32,13 @@ pub trait Handle: Sized {
         replace(self, empty).into_nullable().into_box(alloc)
     }
 
-    /// Holds what is in a box, in place of what was held, which is freed.
-    final fn put(&mut self, alloc: Global, value: Box<Self::Held>)
-        ensures { holds self.new ≡ Some value.value }
+    /// Holds a value, in place of what was held, which is freed.
+    final fn hold(&mut self, alloc: Global, value: Self::Held) -> Result<(), AllocError>
+        ensures held { IfOk result (λ _. holds self.new ≡ Some value) }
+        ensures kept { IfErr result (λ _. holds self.new ≡ holds self.old) }
     {
-        let full = Self::of(NullableBox::of(value));
+        let full = Self::of(NullableBox::of(Box::new(alloc, value)?));
         drop(replace(self, full).into_nullable().into_box(alloc));
-    }
-}
-
-/// Takes what two handles hold, or nothing where one is empty.
-pub fn take_both<A: Handle, B: Handle>(
-    alloc: Global,
-    first: &mut A,
-    second: &mut B,
-) -> Option<(Box<A::Held>, Box<B::Held>)>
-    ensures { MatchOption result
-        (((A.holds first.old ≡ None) ⊎ (B.holds second.old ≡ None))
-        × (A.holds first.new ≡ A.holds first.old) × (B.holds second.new ≡ B.holds second.old))
-        (λ both. (A.holds first.old ≡ Some both.0.value)
-        × (B.holds second.old ≡ Some both.1.value)) }
-{
-    let held = first.take(alloc)?;
-    match second.take(alloc) {
-        Some(other) => Some((held, other)),
-        None => {
-            first.put(alloc, held);
-            None
-        }
+        Ok(())
     }
 }

@@ -293,9 +293,6 @@ fn long_texts() {
 
 #[test]
 fn documents_and_paths_go_to_other_threads() {
-    fn needs_send<T: Send>() {}
-    needs_send::<Document>();
-    needs_send::<JsonPath>();
     let (path, document) = (path("$[?match(@, 'a+')]"), document(r#"["aa", "b"]"#));
     assert_eq!(path.count(&document), Ok(1));
     let moved = thread::spawn(move || {
@@ -305,6 +302,53 @@ fn documents_and_paths_go_to_other_threads() {
     let (path, document, text) = moved.join().unwrap();
     assert_eq!(text.unwrap(), "\"aa\"");
     assert_eq!(path.exists(&document), Ok(true));
+}
+
+/// Asks a path of a document in each way, and holds the answers to what `$[?match(@, 'a+')]` selects from `["aa", "b", "aaa"]`.
+fn asks(path: &JsonPath, document: &Document, nodes: &Nodes<'_>) {
+    let texts = |nodes: &Nodes<'_>| -> Vec<String> {
+        nodes
+            .iter()
+            .filter_map(|node| node.as_str().map(str::to_string))
+            .collect()
+    };
+    for _ in 0..50 {
+        assert_eq!(path.count(document), Ok(2));
+        assert_eq!(path.exists(document), Ok(true));
+        assert_eq!(texts(&path.query(document).unwrap()), ["aa", "aaa"]);
+        assert_eq!(texts(nodes), ["aa", "aaa"]);
+        assert_eq!(path, &path.clone());
+    }
+}
+
+#[test]
+fn threads_share_a_path_a_document_and_nodes() {
+    fn needs_send_and_sync<T: Send + Sync>() {}
+    needs_send_and_sync::<Document>();
+    needs_send_and_sync::<JsonPath>();
+    needs_send_and_sync::<Nodes<'_>>();
+    let (path, document) = (path("$[?match(@, 'a+')]"), document(r#"["aa", "b", "aaa"]"#));
+    let nodes = path.query(&document).unwrap();
+    thread::scope(|scope| {
+        for _ in 0..4 {
+            scope.spawn(|| asks(&path, &document, &nodes));
+        }
+    });
+}
+
+#[test]
+fn owners_go_to_threads_that_outlive_the_first() {
+    let (path, document) = (path("$[?match(@, 'a+')]"), document(r#"["aa", "b", "aaa"]"#));
+    let threads: Vec<_> = (0..4)
+        .map(|_| (path.clone(), document.clone()))
+        .map(|(path, document)| {
+            thread::spawn(move || asks(&path, &document, &path.query(&document).unwrap()))
+        })
+        .collect();
+    drop((path, document));
+    for thread in threads {
+        thread.join().unwrap();
+    }
 }
 
 #[test]

@@ -1,13 +1,13 @@
 //! A path that C holds.
 
 ghost use Rattle.std.specs.Prelude.{◌≡◌, Option};
-ghost use Rattle.jsonpath_c.specs.Words.{coded_option, held};
+ghost use Rattle.jsonpath_c.specs.Words.{coded_option, held, lent};
 ghost use Rattle.jsonpath_c.specs.contracts.compiled.Compiled.{the_row};
 ghost use Rattle.jsonpath_c.specs.declared.compiled.Compiled.{Compiled};
 
 use crate::compiled::Compiled;
-use nullable_box::{Handle, NullableBox};
-use std::marker::Model;
+use nullable_box::{Handle, Lent, NullableBox, NullableRef};
+use std::marker::{Model, Send};
 
 /// A path that C holds by a pointer, or nothing, where the pointer is null.
 #[repr(C)]
@@ -20,6 +20,8 @@ pub struct PathHandle {
 impl Model for PathHandle {
     ghost also_owns = { λ handle. held the_row handle.at handle.value };
 }
+
+unsafe impl Send for PathHandle {}
 
 impl Handle for PathHandle {
     type Held = Compiled;
@@ -39,6 +41,36 @@ impl Handle for PathHandle {
         let PathHandle { at } = self;
         NullableBox {
             at: at as *mut Compiled,
+        }
+    }
+}
+
+/// A path that C lends for a call by a pointer, or nothing, where the pointer is null.
+#[repr(C)]
+#[derive(Drop)]
+pub struct PathRef {
+    at: *const u8,
+    /// What it lends.
+    pub ghost value: { Option Compiled } by { coded_option (the_row).coded },
+}
+
+impl Model for PathRef {
+    ghost also_owns = { λ handle. lent the_row handle.at handle.value };
+}
+
+unsafe impl Send for PathRef {}
+
+impl Lent for PathRef {
+    type Held = Compiled;
+
+    ghost lends = { λ handle. handle.value };
+
+    fn into_nullable(self) -> NullableRef<Compiled>
+        ensures { result.value ≡ self.value }
+    {
+        let PathRef { at } = self;
+        NullableRef {
+            at: at as *const Compiled,
         }
     }
 }

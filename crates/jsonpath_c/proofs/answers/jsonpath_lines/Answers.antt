@@ -6,8 +6,8 @@ pub returns-in-Ok-clause-answers : goal.returns-in-Ok-clause-answers
 returns-in-Ok-clause-answers c =
     let form = form_of c.args.form in
     let limits = c.args.limits.now in
-    let path = c.in-Some.asked.value in
-    let document = view c.in-Some.read.value.value in
+    let path = c.in-Some.asked.now in
+    let document = view c.in-Some.read.now.json.value in
     let out = c.put_lines.new.out in
     let size = c.put_lines.new.size in
     let lines : AreLinesFrom form limits path document c.in-Ok.lines = search rules in

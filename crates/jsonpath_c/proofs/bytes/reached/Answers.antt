@@ -8,7 +8,7 @@ some_of_ok P (Err e) h = tt
 pub returns-in-Ok : goal.returns-in-Ok
 returns-in-Ok c =
     let path = c.args.path.now in
-    let q = path_tree path.path in
+    let q = path_tree path.path.value in
     let keeps : KeepsPlacesFor c.in-Ok.reader (q ∷ []) = rw c.tree.ensures.tree at c.in-Ok.ensures in
     let found = some_of_ok _ c.read.result (c.read.ensures.places (q ∷ []) keeps) in
     rw c.ok.ensures.value (subst (λ (form : Form). IfSome (result_ok c.read.result) (λ v. IsReached form path c.args.bytes.now (view v))) (sym c.in-Location.is) found)
