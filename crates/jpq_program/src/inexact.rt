@@ -63,6 +63,8 @@ fn are_of_numbers(bytes: &[u8]) -> bool {
 
 /// Whether a number around a place may have more than [`DIGITS`] bytes: then nine of them stand before the place, or after it. The
 /// farthest of these tells of most numbers that they are shorter.
+// Not inlined, so that what it computes of a place is not computed of each.
+#[inline(never)]
 fn may_be_long(bytes: &[u8], index: usize) -> bool {
     const HALF: usize = DIGITS / 2 + 1;
     let (start, end) = (index.saturating_sub(HALF), index.saturating_add(HALF));
