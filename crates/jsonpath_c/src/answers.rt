@@ -11,7 +11,7 @@ use crate::handle::path::PathRef;
 use crate::limits::Limits;
 use crate::output::{put, put_answer};
 use crate::status::{CUT_SHORT, DONE, EMPTY_HANDLE, NO_MEMORY, QUERY_REFUSED};
-use crate::walks::walk;
+use crate::walks::{plain_walk, walk};
 use jsonpath_lines::Form;
 use nullable_box::get_both;
 use serde_json::Value;
@@ -106,6 +106,9 @@ pub(crate) fn counted(alloc: Global, path: &Compiled, document: &Value) -> Resul
     ensures refused { result ≡ Err QueryError.Pattern
         → CallsByPatternFrom path.now (view document.now) }
 {
+    if !path.may_call {
+        return count_of(plain_walk(alloc, path, document)?);
+    }
     let store = PatternStore::new();
     let nodes = walk(alloc, path, document, &store)?;
     count_of(nodes)
@@ -133,6 +136,32 @@ pub extern "C" fn jsonpath_count(
     put_answer(found.map_err(query_status), count)
 }
 
+/// Whether a path that calls no function selects a node from a document, 1 or 0.
+// Not inlined, as the next: each makes room for its own walk alone.
+#[inline(never)]
+fn selects_plainly(alloc: Global, path: &Compiled, document: &Value) -> Result<u8, QueryError>
+    ensures some { IfOk result (λ some. (nodes : List Located)
+        × SelectsFrom path.now (view document.now) nodes × TellsSome some nodes) }
+    ensures refused { result ≡ Err QueryError.Pattern
+        → CallsByPatternFrom path.now (view document.now) }
+{
+    let mut nodes = plain_walk(alloc, path, document)?;
+    Ok(u8::from(nodes.next()?.is_some()))
+}
+
+/// The same of any path.
+#[inline(never)]
+fn selects_by_patterns(alloc: Global, path: &Compiled, document: &Value) -> Result<u8, QueryError>
+    ensures some { IfOk result (λ some. (nodes : List Located)
+        × SelectsFrom path.now (view document.now) nodes × TellsSome some nodes) }
+    ensures refused { result ≡ Err QueryError.Pattern
+        → CallsByPatternFrom path.now (view document.now) }
+{
+    let store = PatternStore::new();
+    let mut nodes = walk(alloc, path, document, &store)?;
+    Ok(u8::from(nodes.next()?.is_some()))
+}
+
 /// Whether a path selects a node from a document, 1 or 0. It stops at the first.
 pub(crate) fn selects_some(
     alloc: Global,
@@ -144,9 +173,11 @@ pub(crate) fn selects_some(
     ensures refused { result ≡ Err QueryError.Pattern
         → CallsByPatternFrom path.now (view document.now) }
 {
-    let store = PatternStore::new();
-    let mut nodes = walk(alloc, path, document, &store)?;
-    Ok(u8::from(nodes.next()?.is_some()))
+    if path.may_call {
+        selects_by_patterns(alloc, path, document)
+    } else {
+        selects_plainly(alloc, path, document)
+    }
 }
 
 /// Tells whether a path selects a node from a document, and stops at the first: 0 with 1 or 0 in `exists`; 3 where the query is

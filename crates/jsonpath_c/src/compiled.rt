@@ -13,17 +13,19 @@ use std::sync::Arc;
 pub struct Compiled {
     /// The path.
     pub path: Arc<JsonPath, Global>,
+    /// Whether it may call functions: only then its text has a parenthesis. Of others no patterns need to be kept.
+    pub may_call: bool,
     ghost fits: { FitsBuiltin (path_signatures path.value) } by { FitsBuiltin-prop (path_signatures path.value) },
 }
 
 impl Compiled {
     /// A path of `parse`.
-    pub(crate) fn new(alloc: Global, path: JsonPath) -> Result<Compiled, AllocError>
+    pub(crate) fn new(alloc: Global, path: JsonPath, may_call: bool) -> Result<Compiled, AllocError>
         requires { FitsBuiltin (path_signatures path) }
         ensures { IfOk result (λ compiled. compiled.path.value ≡ path) }
     {
         let path = Arc::new(alloc, path)?;
-        Ok(Compiled { path })
+        Ok(Compiled { path, may_call })
     }
 
     /// The path's syntax tree.
@@ -38,6 +40,9 @@ impl Compiled {
         ensures { IfOk result (λ compiled. compiled.path.value ≡ self.now.path.value) }
     {
         let path = Arc::try_clone(&self.path)?;
-        Ok(Compiled { path })
+        Ok(Compiled {
+            path,
+            may_call: self.may_call,
+        })
     }
 }

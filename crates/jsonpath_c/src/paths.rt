@@ -43,7 +43,7 @@ pub extern "C" fn jsonpath_path_new(
         Ok(parsed) => parsed,
         Err(e) => return put_refusal(&e, refusal),
     };
-    let Ok(compiled) = Compiled::new(alloc, parsed) else {
+    let Ok(compiled) = Compiled::new(alloc, parsed, text.contains('(')) else {
         return NO_MEMORY;
     };
     match path.hold(alloc, compiled) {
