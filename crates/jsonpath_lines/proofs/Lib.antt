@@ -4,6 +4,7 @@
 -- EachOnce: nodes of which each location is taken once.
 -- Seen: a line so far, in colours.
 -- Scalars: the texts of null, truth values and integers are their JSON in each layout.
+-- Quoted: texts without escapes in JSON, and the strings that they are.
 -- Arrays: the array of nodes, written item by item, is its JSON.
 -- Appended: what writes leave, one after the other.
 -- Beginnings: what a write leaves, and beginnings of texts.
@@ -13,6 +14,7 @@ pub mod Chosen
 pub mod EachOnce
 pub mod Seen
 pub mod Scalars
+pub mod Quoted
 pub mod Arrays
 pub mod Appended
 pub mod Beginnings

@@ -10,7 +10,7 @@ unfolding pretty_from
 pretty_token t = append-nil (token_text t)
 
 -- a value of one token that has no float and is its outline: its compact text is its JSON in each layout
-in_each : (layout : Layout) (d : Data) (t : Token) → json_tokens (outline d) ≡ t ∷ [] → token_text t ≡ compact_text d → HasNumbers (outline d) → blank (outline d) ≡ outline d
+pub in_each : (layout : Layout) (d : Data) (t : Token) → json_tokens (outline d) ≡ t ∷ [] → token_text t ≡ compact_text d → HasNumbers (outline d) → blank (outline d) ≡ outline d
     → of_json (outline d) ≡ Some d → has_float d ≡ false → IsLaid layout d (compact_text d)
 in_each layout d t one text numbers same back exact =
     let said : tokens (compact_text d) ≡ json_tokens (outline d) = ap tokens (sym (print-outline d)) ∙ tokens-print (json_tokens (outline d)) (ArePrintable-json_tokens (outline d) numbers) in

@@ -3,10 +3,11 @@ unfoldable pub use Rattle.json.specs.Layout.{pretty_from}
 unfoldable pub use Rattle.json.specs.Print.{ArePrintable, escape_byte, print_from}
 pub use Rattle.json.proofs.Numbered.{ArePrintableOrBad-tokens, value-HasNumbers}
 pub use Rattle.json.proofs.Printed.Decimals.{IsNumber-decimal, IsNumber-signed_decimal}
+pub use Rattle.json.proofs.Printed.Strings.{escape_byte_plain}
 pub use Rattle.json.proofs.Printed.Tokens.{print_from-append, tokens-print}
 pub use Rattle.json.proofs.Printed.Trees.{ArePrintable-json_tokens, value-json_tokens}
 pub use Rattle.json.specs.Layout.{pretty}
-pub use Rattle.json.specs.Print.{ArePrintableOrBad, ends, print, token_text}
+pub use Rattle.json.specs.Print.{ArePrintableOrBad, ends, escape, print, token_text}
 pub use Rattle.json.specs.Reads.{token_of}
 pub use Rattle.json.specs.Token.{Token, end_object}
 pub use Rattle.json.specs.Tree.{HasNumbers, ItemsHaveNumbers, items_tokens, json_tokens, members_tokens}
@@ -31,6 +32,6 @@ pub use Rattle.serde_json_path.proofs.Words.{Bool, Err, List, None, Ok, OnOk, Op
 pub use Rattle.serde_json_path_nodes.proofs.Words.{take-append-drop, take_rest, Data, Items, Located, Members, Step, array, as_i64, as_number, as_u64, boolean, cases_Bool, chars_rest, depth, first_places, first_places_after, fold-append, is_among, item, items_depth, list_any-append, located, location_of, member, members_depth, nat_tests, ne_eqb, negative, no_items, no_members, normal, null, number, object, on_ok_weaker, option_and_then, same_steps, same_steps_decides, signed_decimal, string, unsigned}
 pub use Rattle.serde_json_path_nodes.specs.declared.located_node.LocatedNode.{LocatedNode}
 pub use Rattle.serde_json_path_syntax.proofs.Words.{length-map, length-take, length-take-le, map_push, nil_from_length, take-append-le, take-map, take_all, take_more}
-pub use Rattle.std.proofs.lemmas.Grind.{common_steps}
+pub use Rattle.std.proofs.lemmas.Grind.{common_steps, flat_map-append}
 pub use Rattle.std.proofs.KnownBytes.{Appends-kept, Appends-trans}
-pub use Rattle.std.specs.Prelude.{drop, ◌-◌}
+pub use Rattle.std.specs.Prelude.{drop, slice_index, ◌-◌}

@@ -1,6 +1,7 @@
 //! The JSON of values, appended to a text.
 
-ghost use Rattle.std.specs.Prelude.{◌≡◌, ◌++◌, IfOk, OnOk, string_bytes};
+ghost use Rattle.std.specs.Prelude.{◌≡◌, ◌++◌, codes, IfOk, IsTrue, OnOk, string_bytes};
+ghost use Rattle.json.specs.Print.{escape};
 ghost use Rattle.jsonpath_lines.specs.Words.{IsUtf8, tokens, ArePrintable, view, located, Appends, IsIndented, IsItem, IsLaid, path_string};
 
 use crate::forms::Layout;
@@ -56,6 +57,31 @@ fn push_number(
     push_printed(alloc, layout, text, value)
 }
 
+/// Whether no byte of a text has an escape in JSON.
+#[inline(always)]
+fn has_no_escape(text: &str) -> bool
+    ensures { IsTrue result → escape text.now ≡ text.now }
+{
+    let bytes = text.as_bytes();
+    for byte in bytes {
+        if *byte < b' ' || *byte == b'"' || *byte == b'\\' {
+            return false;
+        }
+    }
+    true
+}
+
+/// Appends a text in double quotes.
+#[inline(always)]
+fn push_in_quotes(text: &mut String, own: &str) -> Result<(), AllocError>
+    ensures { OnOk result (string_bytes text.new
+        ≡ string_bytes text.old ++ (codes "\"" ++ (own.now ++ codes "\""))) }
+{
+    text.push('"')?;
+    text.push_str(own)?;
+    text.push('"')
+}
+
 /// Appends the JSON of a value.
 #[inline(always)]
 pub(crate) fn push_json(
@@ -72,6 +98,7 @@ pub(crate) fn push_json(
         Value::Bool(true) => text.push_str("true"),
         Value::Bool(false) => text.push_str("false"),
         Value::Number(_) => push_number(alloc, layout, text, value),
+        Value::String(own) if has_no_escape(own.as_str()) => push_in_quotes(text, own.as_str()),
         _ => push_printed(alloc, layout, text, value),
     }
 }
