@@ -42,8 +42,9 @@ pub(crate) struct Comparison<'x> {
     pub(crate) right: SideForm<'x>,
 }
 
-/// The value that segments of a singular query select from a value, or Nothing.
-#[inline(always)]
+/// The value that segments of a singular query select from a value, or Nothing. Inlined, it would make each comparison clear a
+/// place for where it comes to.
+#[inline(never)]
 fn descended<'b, F: Functions>(
     scope: &Scope<'_, 'b, F>,
     segments: &[Part],
