@@ -34,9 +34,11 @@ pub(crate) const WORD_AFTER_OPERAND: &[Slip] = slips! {
     Any, Word(&["endswith", "ends_with", "ends"]) => "`match(@.a, '.*x')`";
     Any, Word(&["like", "matches", "regex"]) => "`match(@.a, 'b.*')`, or `search` for a part of the text";
     Any, Word(&["exists", "has"]) => "`[?@.a]`: a query alone tests that there is a node";
-    Any, Word(&["anyof", "noneof", "subsetof"])
-        => "`@.a[?@ == 'x']`: no operator compares lists, but a filter within can";
-    Any, Word(&["size"]) => "`length(@.a) == 2`";
+    Any, Word(&["anyof"]) => "`@.a[?@ == 'x']`: no operator compares lists, but a filter within can";
+    Any, Word(&["noneof"]) => "`!@.a[?@ == 'x']`: no operator compares lists, but a filter within can";
+    Any, Word(&["subsetof", "allof"])
+        => "`!@.a[?@ != 'x' && @ != 'y']`: no operator compares lists, but a filter can";
+    Any, Word(&["size", "sizeof"]) => "`length(@.a) == 2`";
     Any, Word(&["empty"]) => "`length(@.a) == 0`";
     Any, Word(&["is", "eq", "ne", "lt", "le", "gt", "ge", "equals"]) => "`==`, `!=`, `<`, `<=`, `>` or `>=`";
 };
@@ -65,7 +67,8 @@ pub(crate) const AFTER_OPERAND: &[Slip] = slips! {
     Ends(&["*"]), Starts(&["*"]) => "`..*` for every depth";
     Any, Starts(&["->"]) => "`@.a.b`: a dot for ->";
     Any, Starts(&["\\."]) => "`@['a.b']`: such a name is quoted in brackets";
-    Ends(&[".io", ".com", ".org", ".net"]), Starts(&["/"]) => "`@['a.io/b']`: such a name is quoted in brackets";
+    Ends(&[".io", ".com", ".org", ".net", ".sh", ".dev"]), Starts(&["/"])
+        => "`@['a.io/b']`: such a name is quoted in brackets";
     EndsInDigit, Starts(&["-0", "-10-", "-11-", "-12-", "/0", "/10/", "/11/", "/12/"])
         => "`'2024-01-01'`: a date is a text in quotes";
     EndsInName, Dashed => "`@['a-b']`: such a name is quoted in brackets";

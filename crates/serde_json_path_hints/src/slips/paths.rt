@@ -1,7 +1,7 @@
 //! Slips at the root, at names after dots, and after the path.
 
 use crate::condition::Condition::{
-    Any, Dashed, Digit, Empty, Ends, EndsInName, Holds, Name, Starts, Word,
+    Any, Call, Dashed, Digit, Empty, Ends, EndsInName, Holds, Name, Starts, Word,
 };
 use crate::slip::Slip;
 
@@ -15,6 +15,7 @@ pub(crate) const ROOT: &[Slip] = slips! {
     Any, Starts(&["#/"]) => "`$.a.b` for the JSON pointer #/a/b";
     Any, Starts(&["@"]) => "`$` for `@`, which only stands in filters";
     Any, Starts(&["\"", "'", "`", "“", "‘"]) => "the path without quotes around it";
+    Any, Starts(&["＄", "［", "【"]) => "plain `$`, `[` and `]`, as in `$[0]`";
     Any, Starts(&["{range"]) => "`$.a[*].b` for each item: there are no loops in paths";
     Any, Starts(&["{"]) => "`$.a[*]`: no braces around a path";
     Any, Starts(&["jsonpath=", "JSONPath="]) => "the path alone, as in `$.a[*]`";
@@ -22,7 +23,7 @@ pub(crate) const ROOT: &[Slip] = slips! {
     Any, Holds(&["[?"]) => "`$` or `$.` before it, as in `$.a[?@.b]`";
     Any, Holds(&[" | ", "|."]) => "`$.a.b`: there are no pipes in paths";
     Any, Holds(&["\\."]) => "`$['a.b']`: such a name is quoted in brackets";
-    Any, Holds(&[".io/", ".com/", ".org/", ".net/"]) => "`$['a.io/b']`: such a name is quoted in brackets";
+    Any, Holds(&[".io/", ".com/", ".org/", ".net/", ".sh/", ".dev/"]) => "`$['a.io/b']`: such a name is quoted in brackets";
     Any, Ends(&[".."]) => "`$..*` for every depth";
     Any, Ends(&["."]) => "`$`, and no dot at the end";
     Any, Starts(&[".[]"]) => "`$[*]` for all";
@@ -30,6 +31,7 @@ pub(crate) const ROOT: &[Slip] = slips! {
     Any, Starts(&[".", "["]) => "`$` before it, as in `$.a` or `$[0]`";
     Any, Starts(&["?"]) => "`$[?@.a]`: a filter stands in brackets";
     Any, Starts(&["*"]) => "`$.*`";
+    Any, Call => "a function only stands in a filter: `$[?length(@.a) > 1]`";
     Any, Name => "`$.` before it, as in `$.a.b`";
 };
 
@@ -63,6 +65,7 @@ pub(crate) const AFTER_PATH: &[Slip] = slips! {
     EndsInName, Starts(&["("]) => "in filters alone: the RFC's functions `length`, `count`, `match`, `search`, `value`";
     Any, Starts(&["# ", "// ", "/* ", "-- "]) => "there are no comments in paths";
     Any, Starts(&["［", "【"]) => "plain `[` and `]`, as in `$[0]`";
+    Ends(&["［", "【"]), Any => "plain `[` and `]`, as in `$[0]`";
     Any, Starts(&["**"]) => "`$..*` for every depth";
     Ends(&["*"]), Starts(&["*"]) => "`$..*` for every depth";
     Any, Starts(&["^"]) => "no path leads to a parent: filter it, as in `$[?@.a]`";
@@ -78,7 +81,8 @@ pub(crate) const AFTER_PATH: &[Slip] = slips! {
     Ends(&["]", "*"]), Name => "a dot before the name, as in `$[0].a`";
     Any, Starts(&["->"]) => "`$.a.b`: a dot for ->";
     EndsInName, Starts(&["\\."]) => "`$['a.b']`: such a name is quoted in brackets";
-    Ends(&[".io", ".com", ".org", ".net"]), Starts(&["/"]) => "`$['a.io/b']`: such a name is quoted in brackets";
+    Ends(&[".io", ".com", ".org", ".net", ".sh", ".dev"]), Starts(&["/"])
+        => "`$['a.io/b']`: such a name is quoted in brackets";
     EndsInName, Dashed => "`$['a-b']`: such a name is quoted in brackets";
     EndsInName, Name => "`$['a b']`: such a name is quoted in brackets";
     EndsInName, Starts(&["@", "$", "#", ":"]) => "`$['a:b']`: such a name is quoted in brackets";

@@ -20,6 +20,7 @@ pub(crate) const SELECTOR: &[Slip] = slips! {
     Any, Dashed => "`['-a']`: a name in brackets is quoted";
     Any, Starts(&["-"]) => "a digit right after `-`, as in `[-1]`";
     Any, Starts(&["+"]) => "`[1]` without `+`";
+    Any, Starts(&["？"]) => "a plain `?`, as in `[?@.a]`";
     Any, Starts(&["("]) => "`[?@.a]` for a filter: brackets hold no other expressions";
     Any, Starts(&["@", "$"]) => "`[?@.a]`: a filter starts with `?`";
     Any, Starts(&["."]) => "`['a']`: a name in brackets is quoted";
@@ -31,6 +32,7 @@ pub(crate) const CLOSING_BRACKET: &[Slip] = slips! {
     Any, Starts(&[")"]) => "one `)` less";
     Any, Starts(&["］", "】"]) => "plain `[` and `]`, as in `$[0]`";
     Ends(&["］", "】"]), Empty => "plain `[` and `]`, as in `$[0]`";
+    Any, Starts(&["，"]) => "a plain comma, as in `[0,1]`";
     Ends(&[",0"]), Starts(&["00"]) => "`1000`: no comma within a number";
     Ends(&["[0", ",0", ", 0"]), Digit => "`[0,1]` with a comma, or `[1]`: no zero before another digit";
     Ends(&[" 0", "=0", "<0", ">0", ":0", "-0"]), Digit => "`1`: no zero before another digit";
