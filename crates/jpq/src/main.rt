@@ -13,9 +13,12 @@ use jpq_program::colours::{Colours, takes_colors};
 use jpq_program::inputs::Inputs;
 use jpq_program::run::run;
 use jpq_program::streams::Streams;
+use std::alloc::{AllocError, Global};
+use std::env::{Env, FillError};
 use std::fs::File;
 use std::io::{IsTerminal, Read, Stdin, Write};
 use std::process::ExitCode;
+use std::str::from_utf8;
 use std::{env, io};
 
 /// An input of the program.
@@ -56,14 +59,55 @@ fn words(rt: &HostRuntime) -> io::Result<Vec<String>> {
     Ok(env::args(rt)?.collect(rt.alloc())?)
 }
 
+/// How many bytes a word may have that is looked at again, to be named.
+const LONGEST: usize = 4096;
+
+/// What is told of a word that is not UTF-8: its number, and the word with `\xff` for what is not printed of ASCII.
+fn foreign_word(alloc: Global, number: usize, word: &[u8]) -> Result<String, AllocError> {
+    let mut text = format!(in alloc; "jpq: word {number} of the command line is not UTF-8: ")?;
+    for byte in word {
+        match *byte {
+            b' '..=b'~' => text.push(*byte as char)?,
+            other => write!(text, "\\x{other:02x}")?,
+        }
+    }
+    text.push('\n')?;
+    Ok(text)
+}
+
+/// What is told of words that are not all UTF-8, by the first that is not.
+fn foreign_words(rt: &HostRuntime) -> Result<String, AllocError> {
+    let mut bytes = [0u8; LONGEST];
+    for number in 1..usize::MAX {
+        match rt.arg(number, &mut bytes) {
+            Ok(length) => {
+                let word = &bytes[..length];
+                if from_utf8(word).is_err() {
+                    return foreign_word(rt.alloc(), number, word);
+                }
+            }
+            Err(FillError::TooLong) => {}
+            Err(FillError::NotPresent) => break,
+        }
+    }
+    String::from_str(rt.alloc(), "jpq: a word of the command line is not UTF-8\n")
+}
+
 /// Tells why the words can't be read: one is not UTF-8, or memory is refused. Gives the exit status.
-fn refuse_words<E: Write>(e: &io::Error, err: &mut E) -> u8 {
-    let (text, status) = match e.kind() {
-        io::ErrorKind::InvalidData => ("jpq: a word of the command line is not UTF-8\n", 64),
-        _ => ("jpq: no memory\n", 2),
-    };
-    let _ = err.write_all(text.as_bytes());
-    status
+fn refuse_words<E: Write>(rt: &HostRuntime, e: &io::Error, err: &mut E) -> u8 {
+    if e.kind() == io::ErrorKind::InvalidData {
+        if let Ok(text) = foreign_words(rt) {
+            let _ = err.write_all(text.as_bytes());
+            return 64;
+        }
+    }
+    let _ = err.write_all(b"jpq: no memory\n");
+    2
+}
+
+/// How many columns the environment says that the terminal has.
+fn columns(rt: &HostRuntime) -> Option<usize> {
+    env::var(rt, "COLUMNS").ok()?.as_str().parse().ok()
 }
 
 /// Whether the environment has a variable whose value is not empty and not this one.
@@ -83,7 +127,7 @@ fn main(rt: HostRuntime) -> ExitCode {
     let mut err = rt.stderr();
     let words = match words(&rt) {
         Ok(words) => words,
-        Err(e) => return ExitCode::from(refuse_words(&e, &mut err)),
+        Err(e) => return ExitCode::from(refuse_words(&rt, &e, &mut err)),
     };
     let mut inputs = MachineInputs { rt: &rt };
     let out = rt.stdout();
@@ -99,7 +143,15 @@ fn main(rt: HostRuntime) -> ExitCode {
     let palette = env::var(&rt, "JPQ_COLORS").ok();
     let palette = palette.as_ref().map(|text| text.as_str());
     let colours = Colours { taken, palette };
+    let width = if err.is_terminal() {
+        columns(&rt)
+    } else {
+        None
+    };
     let mut streams = Streams::new(rt.alloc(), out, err);
+    if let Some(width) = width {
+        streams.columns = width;
+    }
     let status = run(rt.alloc(), &words, colours, &mut inputs, &mut streams);
     ExitCode::from(status)
 }

@@ -16,7 +16,7 @@ static NEEDS: [(&'static str, &'static str); 3] = [
 ];
 
 /// The options that do nothing together, or not both.
-static CONFLICTS: [(&'static str, &'static str); 34] = [
+static CONFLICTS: [(&'static str, &'static str); 46] = [
     ("check", "values"),
     ("check", "raw"),
     ("check", "locations"),
@@ -35,6 +35,18 @@ static CONFLICTS: [(&'static str, &'static str); 34] = [
     ("check", "tab"),
     ("check", "ascii"),
     ("check", "null"),
+    ("check", "with-filename"),
+    ("check", "no-filename"),
+    ("check", "no-path-number"),
+    ("count", "pretty"),
+    ("count", "indent"),
+    ("count", "tab"),
+    ("count", "ascii"),
+    ("quiet", "pretty"),
+    ("quiet", "indent"),
+    ("quiet", "tab"),
+    ("quiet", "ascii"),
+    ("quiet", "null"),
     ("tsv", "max"),
     ("tsv", "max-all"),
     ("tsv", "unique"),

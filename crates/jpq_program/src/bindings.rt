@@ -2,6 +2,7 @@
 
 ghost use Rattle.std.specs.Prelude.{◌≡◌, [], IfOk};
 
+use serde_json_path_nodes::Quoted;
 use std::alloc::{AllocError, Global};
 
 /// A name, and the text that stands for it.
@@ -11,7 +12,19 @@ pub(crate) struct Binding<'a> {
     pub(crate) value: &'a str,
 }
 
-/// The bindings of words such as `title=Moby Dick`, in order, or the first word that is none.
+/// Puts a binding, in the place of an earlier one of its name.
+fn put<'a>(bindings: &mut Vec<Binding<'a>>, binding: Binding<'a>) -> Result<(), AllocError> {
+    for index in 0..bindings.len() {
+        if bindings[index].name == binding.name {
+            bindings[index] = binding;
+            return Ok(());
+        }
+    }
+    bindings.push(binding)?;
+    Ok(())
+}
+
+/// The bindings of words such as `title=Moby Dick`, or the first word that is none. Of two of one name the last counts.
 pub(crate) fn bindings_of<'a>(
     alloc: Global,
     words: &[&'a str],
@@ -21,7 +34,7 @@ pub(crate) fn bindings_of<'a>(
     let mut bindings = Vec::new(alloc);
     for word in words {
         match word.split_once('=') {
-            Some((name, value)) if !name.is_empty() => bindings.push(Binding { name, value })?,
+            Some((name, value)) if !name.is_empty() => put(&mut bindings, Binding { name, value })?,
             _ => return Ok(Err(*word)),
         }
     }
@@ -49,27 +62,31 @@ struct Binder<'a> {
     at_selector: bool,
 }
 
-/// The name in a string such as `'$name'`.
-fn name_in(string: &str) -> Option<&str> {
-    let inside = string.strip_prefix('\'')?.strip_suffix('\'')?;
-    inside.strip_prefix('$')
+impl Binding<'_> {
+    /// The literal for which the value stands, as a canonical path has it.
+    fn literal(&self, alloc: Global) -> Result<String, AllocError> {
+        let own = format!(in alloc; "${}", self.name)?;
+        format!(in alloc; "{}", Quoted(own.as_str()))
+    }
 }
 
 impl Binder<'_> {
     /// The number of the binding of a literal.
-    fn binding_of(&self) -> Option<usize> {
+    fn binding_of(&self) -> Result<Option<usize>, AllocError> {
         if self.at_selector {
-            return None;
+            return Ok(None);
         }
-        let name = name_in(self.string.as_str())?;
-        self.bindings
-            .iter()
-            .position(|binding| binding.name == name)
+        for (number, binding) in self.bindings.iter().enumerate() {
+            if binding.literal(self.alloc)?.as_str() == self.string.as_str() {
+                return Ok(Some(number));
+            }
+        }
+        Ok(None)
     }
 
     /// Ends the string at hand. A literal that has a binding becomes its value.
     fn end_string(&mut self) -> Result<(), AllocError> {
-        match self.binding_of() {
+        match self.binding_of()? {
             Some(number) => {
                 if let Some(binding) = self.bindings.get(number) {
                     push_quoted(self.alloc, &mut self.text, binding.value)?;

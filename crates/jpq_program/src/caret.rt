@@ -11,12 +11,8 @@ const BEFORE: usize = 60;
 /// How many bytes from a place on are shown at most.
 const AFTER: usize = 40;
 
-/// How many bytes of a document's line are shown at most before a place. With two blanks, twice three dots and what follows,
-/// these are 78 columns.
-const LINE_BEFORE: usize = 42;
-
-/// How many bytes of a document's line are shown at most from a place on.
-const LINE_AFTER: usize = 28;
+/// What stands in a line beside the bytes of a document: two blanks, twice three dots, and two columns that stay free.
+const BESIDE: usize = 10;
 
 /// A text that is cut round a place.
 #[derive(Drop)]
@@ -65,11 +61,14 @@ fn first_text(bytes: &[u8], count: usize) -> (&str, bool) {
 }
 
 impl<'a> Window<'a> {
-    /// The line round a place in a document, which is the number of a byte from 1, without the blanks at its ends.
-    fn of_line(bytes: &'a [u8], place: usize) -> Window<'a> {
+    /// The line round a place in a document, which is the number of a byte from 1, without the blanks at its ends, within so many
+    /// columns: three fifths of its bytes before the place, and the others from there on.
+    fn of_line(bytes: &'a [u8], place: usize, columns: usize) -> Window<'a> {
         let (before, after) = bytes.split_at(place.saturating_sub(1).min(bytes.len()));
-        let (before, begins_late) = last_text(before, LINE_BEFORE);
-        let (after, ends_early) = first_text(after, LINE_AFTER);
+        let room = columns.saturating_sub(BESIDE);
+        let room_after = room / 5 * 2;
+        let (before, begins_late) = last_text(before, room.saturating_sub(room_after));
+        let (after, ends_early) = first_text(after, room_after);
         let (before, begins_late) = match before.rsplit_once('\n') {
             Some((_, line)) => (line, false),
             None => (before, begins_late),
@@ -187,13 +186,15 @@ pub(crate) fn push_with_caret(to: &mut String, text: &str, place: usize) -> Resu
     push_window(to, &Window::new(text, place))
 }
 
-/// Appends the line of a document round a place, the number of a byte from 1, in the same way. Of an empty line it appends nothing.
+/// Appends the line of a document round a place, the number of a byte from 1, in the same way, within so many columns. Of an empty
+/// line it appends nothing.
 pub(crate) fn push_line_with_caret(
     to: &mut String,
     bytes: &[u8],
     place: usize,
+    columns: usize,
 ) -> Result<(), AllocError> {
-    let window = Window::of_line(bytes, place);
+    let window = Window::of_line(bytes, place, columns);
     if window.before.is_empty() && window.after.is_empty() {
         return Ok(());
     }

@@ -65,9 +65,14 @@ fn document_of(line: &[u8]) -> &[u8]
     }
 }
 
-/// Whether a line is an opening bracket or brace alone, as indented documents begin.
-fn opens_alone(line: &[u8]) -> bool {
-    matches!(without_mark(line).trim_ascii(), b"[" | b"{")
+/// What is told of an input whose first line is only the beginning of a document.
+const ONLY_BEGUN: &str =
+    "line 1 is only the beginning of a document (is it one document? leave out -L)";
+
+/// Whether an input has no lines that are documents, as its first one shows: it is compressed or UTF-16, or only the beginning of
+/// a document, since it ends by what no document ends by.
+fn is_no_line(line: &[u8]) -> bool {
+    encoding_of(line).is_some() || matches!(line.trim_ascii().last(), Some(b'[' | b'{' | b','))
 }
 
 impl Documents<'_> {
@@ -143,7 +148,8 @@ impl Documents<'_> {
                 Some(encoding) => write!(message, "jpq: {name}: {encoding}\n")?,
                 None => {
                     let lines_before = source.line.saturating_sub(1);
-                    push_document_refusal(&mut message, name, lines_before, bytes, &e)?;
+                    let columns = streams.columns;
+                    push_document_refusal(&mut message, name, lines_before, bytes, &e, columns)?;
                 }
             }
             streams.tell(message.as_str());
@@ -188,18 +194,19 @@ impl Documents<'_> {
         Ok(Next::More)
     }
 
-    /// Tells that an input is one document in many lines, where each line should be one.
-    fn refuse_many_lines<W: Write, E: Write>(
+    /// Tells why an input has no lines that are documents, as its first one shows: it is compressed or UTF-16, or it is one document
+    /// in many lines.
+    fn refuse_lines<W: Write, E: Write>(
         &self,
         name: &str,
+        line: &[u8],
         streams: &mut Streams<W, E>,
     ) -> Result<Next, Stop>
         ensures { IfOk result (λ _. streams.new.outcome.refused ≡ true) }
     {
         let name = shown_name(name);
-        streams.tell_refusal(format!(in self.alloc;
-            "jpq: {name}: line 1 is only the beginning of a document (is it one document? leave out -L)\n"
-        )?.as_str());
+        let fault = encoding_of(line).unwrap_or(ONLY_BEGUN);
+        streams.tell_refusal(format!(in self.alloc; "jpq: {name}: {fault}\n")?.as_str());
         if self.strict {
             return Err(Stop::Refused);
         }
@@ -273,8 +280,8 @@ impl Documents<'_> {
                     self.tell_more_lines(name, streams)?;
                     return Ok(Next::More);
                 }
-                Ok(_) if number == 1 && opens_alone(&line) => {
-                    return self.refuse_many_lines(name, streams);
+                Ok(_) if number == 1 && is_no_line(&line) => {
+                    return self.refuse_lines(name, &line, streams);
                 }
                 Ok(_) => {
                     let source = Source { name, line: number };

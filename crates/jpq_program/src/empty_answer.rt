@@ -12,6 +12,8 @@ use std::slice;
 enum Slip {
     /// This name after a dot.
     Dotted(&'static str),
+    /// A name after a dot that has a sign of a comparison in it, or a bracket, as other keyboards have them.
+    DottedSign,
     /// This name alone in brackets.
     Quoted(&'static str),
     /// A name alone in brackets that has a dot in it.
@@ -39,6 +41,10 @@ const REASONS: &[(Slip, &str)] = &[
     (
         Slip::Dotted("count"),
         "'count' is a member's name here; count(@.*) in a filter is how many nodes there are",
+    ),
+    (
+        Slip::DottedSign,
+        "'≤', '≥', '≠' and wide brackets are part of a name; write <=, >=, != and plain [ and ]",
     ),
     (
         Slip::Quoted("*"),
@@ -93,6 +99,13 @@ impl Slip {
                 },
             ) => own.as_str() == *name,
             (
+                Slip::DottedSign,
+                Node::Segment {
+                    segment: Segment::DotName(own),
+                    ..
+                },
+            ) => has_foreign_sign(own.as_str()),
+            (
                 Slip::Quoted(_) | Slip::QuotedDot,
                 Node::Segment {
                     segment: Segment::LongHand(selectors),
@@ -116,7 +129,8 @@ impl Slip {
         match (self, node) {
             (Slip::StepZero, Node::Selector(Selector::Slice(slice))) => slice.step == Some(0),
             (Slip::RootCompared, Node::Basic(Basic::Relation { left, right, .. })) => {
-                is_root(tree, *left) && is_literal(tree.node(*right))
+                (is_root(tree, *left) && is_literal(tree.node(*right)))
+                    || (is_literal(tree.node(*left)) && is_root(tree, *right))
             }
             (
                 Slip::Swapped,
@@ -239,6 +253,12 @@ impl Marks {
         }
         Ok(signs)
     }
+}
+
+/// Whether a name has a sign of a comparison in it, or a bracket, as other keyboards have them. Most names are ASCII, which takes
+/// few steps to see.
+fn has_foreign_sign(name: &str) -> bool {
+    !name.is_ascii() && name.contains(['≤', '≥', '≠', '［', '］', '【', '】'])
 }
 
 /// Whether a node is of a kind that has a slip.

@@ -102,17 +102,18 @@ pub(crate) fn push_refusal(
     }
 }
 
-/// Appends the lines of a refused document: which one, where and why, and its line round the place with a caret. `lines_before`
-/// says how many lines of the input stand before its bytes.
+/// Appends the lines of a refused document: which one, where and why, and its line round the place with a caret, within so many
+/// columns. `lines_before` says how many lines of the input stand before its bytes.
 pub(crate) fn push_document_refusal(
     to: &mut String,
     name: &str,
     lines_before: usize,
     bytes: &[u8],
     e: &DocumentError,
+    columns: usize,
 ) -> Result<(), AllocError> {
     let line = e.line.saturating_add(lines_before);
     let told = DocumentError { line, ..*e };
     write!(to, "jpq: {name}: {told}\n")?;
-    push_line_with_caret(to, bytes, e.position)
+    push_line_with_caret(to, bytes, e.position, columns)
 }

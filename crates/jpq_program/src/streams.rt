@@ -101,6 +101,9 @@ fn stop_of(e: io::Error) -> Stop
     }
 }
 
+/// How many columns a terminal has that does not say so.
+const COLUMNS: usize = 80;
+
 /// How many bytes are held, at least, before they are written.
 const FULL: usize = 65_536;
 
@@ -116,6 +119,8 @@ pub struct Streams<W, E> {
     pub out: W,
     /// Where faults are told.
     pub err: E,
+    /// How many columns the line of a document may take that is shown with a fault: 80, unless it is said otherwise.
+    pub columns: usize,
     /// What is to be written.
     pub(crate) pending: String,
     pub(crate) outcome: Outcome,
@@ -145,6 +150,7 @@ impl<W: Write, E: Write> Streams<W, E> {
         Streams {
             out,
             err,
+            columns: COLUMNS,
             pending: String::new(alloc),
             outcome: Outcome {
                 selected: false,

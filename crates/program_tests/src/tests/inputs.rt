@@ -24,6 +24,8 @@ const FILES: &[(&str, &str)] = &[
     ("paths", "# paths of a file\n$.a\n\n$.b\r\n"),
     ("more", "$.*"),
     ("wrong", "$.a\n$.\n"),
+    ("marked", "\u{feff}\t$.a # all\n"),
+    ("pattern", "\n$[?match(@, '\\\\w{1000}{10}')]\n"),
 ];
 
 /// Files that are not UTF-8.
@@ -118,12 +120,23 @@ pub(crate) fn run_line(alloc: Global, line: &str, standard: &str) -> Result<Ran,
 }
 
 /// Runs a command line on inputs.
-pub(crate) fn run_on(alloc: Global, line: &str, mut inputs: MemoryInputs<'_>) -> Result<Ran, Fail> {
+pub(crate) fn run_on(alloc: Global, line: &str, inputs: MemoryInputs<'_>) -> Result<Ran, Fail> {
+    run_within(alloc, line, inputs, 80)
+}
+
+/// The same with a terminal of so many columns.
+pub(crate) fn run_within(
+    alloc: Global,
+    line: &str,
+    mut inputs: MemoryInputs<'_>,
+    columns: usize,
+) -> Result<Ran, Fail> {
     let words = words(alloc, line)?;
     // With room for all that is written, so that each request of the run is one of the program.
     let out: Vec<u8> = Vec::with_capacity(alloc, 16_384)?;
     let err: Vec<u8> = Vec::with_capacity(alloc, 16_384)?;
     let mut streams = Streams::new(alloc, out, err);
+    streams.columns = columns;
     let status = run(alloc, &words, NO_COLOURS, &mut inputs, &mut streams);
     Ok(Ran {
         status,

@@ -1,9 +1,9 @@
 //! What `jpq` writes of documents, in each form, and the exit status.
 
-use crate::tests::inputs::run_line;
+use crate::tests::inputs::{MemoryInputs, run_line, run_within};
 use std::alloc::Global;
 use std::test::Fail;
-use test_rows::{Came, hold_rows};
+use test_rows::{Came, hold_row, hold_rows};
 
 /// The words, with two blanks between them, and standard input, if there is one; and the status and what is written, with
 /// `~` for a line feed.
@@ -39,6 +39,7 @@ const RUNS: &[&str] = &[
     r#"-j  -u  $[0,0] ~ [1] -> 0: [{"path":"$[0]","value":1}]~"#,
     r#"-j  --pretty  $.* ~ [1,{"b":[]}] -> 0: [~  {~    "path": "$[0]",~    "value": 1~  },~  {~    "path": "$[1]",~    "value": {~      "b": []~    }~  }~]~"#,
     r#"-j  --pretty  $.a ~ [1] -> 1: []~"#,
+    "-j  -m  1  -L  $.* ~ [1,2]\n[3] -> 0: [{\"line\":1,\"path\":\"$[0]\",\"value\":1}]~",
     "-j  --tab  -e  $[0]  -e  $[1] ~ [[2]] -> 0: [~\t{~\t\t\"number\": 1,~\t\t\"path\": \"$[0]\",~\t\t\"value\": [~\t\t\t2~\t\t]~\t}~]~",
     // Rows.
     "--tsv  -e  $.a  -e  $.b  -e  $.c ~ {\"a\":\"x\\ty\\n\\\\\",\"b\":[1]} -> 0: x\\ty\\n\\\\\t[1]\t~",
@@ -75,6 +76,7 @@ const RUNS: &[&str] = &[
     "-e  $.a  -v  one.json  two.json -> 0: one.json\t1~two.json\t2~",
     "-f  paths  -v  one.json -> 0: 1\t1~",
     "-f  paths  -f  more  --no-path-number  -v  one.json -> 0: 1~1~",
+    "-f  marked  -v  one.json -> 0: 1~",
     "--no-filename  -v  $.a  one.json  two.json -> 0: 1~2~",
     "--with-filename  -v  $.a  one.json -> 0: one.json\t1~",
     "-L  --line-number  -v  $.a ~ {\"a\":1}\n\n{\"a\":2} -> 0: 1\t1~3\t2~",
@@ -86,6 +88,8 @@ const RUNS: &[&str] = &[
     "--let  a=b.*  --let  c=  -v  $[?match(@, '$a') || @ == '$c'] ~ [\"bc\",\"\"] -> 0: \"bc\"~\"\"~",
     "--let  a=b  -v  $['$a'][?@['$a'] == '$a', '$a'] ~ {\"$a\":[{\"$a\":\"b\"}]} -> 0: {\"$a\":\"b\"}~",
     "--let  a=1  --check  $[?@.b=='$a'] -> 0: $[?@.b == '1']~",
+    "--let  a=1  --let  a=2  --check  $[?@.b=='$a'] -> 0: $[?@.b == '2']~",
+    "--let  a'b\\=1  --check  $[?@.b=='$a\\'b\\\\'] -> 0: $[?@.b == '1']~",
     // Lines of which each is a document.
     "-L  -v  $.a ~ {\"a\":1}\n\n{\"a\":2}\n{\"b\":3} -> 0: 1~2~",
     // A byte order mark before a document or a line is passed over.
@@ -112,9 +116,15 @@ const TOLD: &[&str] = &[
     r#"-v  $ ~ ["中é\x"] -> 2: , told jpq: standard input: line 1, column 5: a backslash that begins no escape of JSON~  ["中é\x"]~       ^~"#,
     "-v  $ ~ [1,\n -> 2: , told jpq: standard input: line 2, column 1: the document ends too soon~",
     "-L  -v  $.a ~ {\n  \"a\": 1\n} -> 2: , told jpq: standard input: line 1 is only the beginning of a document (is it one document? leave out -L)~",
+    "-L  -v  $ ~ {\"a\": [\n  1\n]} -> 2: , told jpq: standard input: line 1 is only the beginning of a document (is it one document? leave out -L)~",
+    "-L  -v  $  book.json.gz -> 2: , told jpq: book.json.gz: compressed by gzip (unpack it with gzip -dc)~",
+    "-L  -v  $  little.json  one.json -> 2: one.json\t{\"a\":1}~, told jpq: little.json: UTF-16, where JSON is UTF-8 (convert it with iconv -f UTF-16 -t UTF-8)~",
     "-L  -v  $.a ~ \n{\n -> 2: , told jpq: standard input: line 2, column 2: the document ends too soon~  {~   ^~",
     "-C  $.a -> 64: , told error: unexpected argument '-C' found~~  tip: lines have colours by --color=always~~Usage: jpq [OPTIONS] PATH [FILE]...~~For more information, try '--help'.~",
     "--stream  $.a -> 64: , told error: unexpected argument '--stream' found~~  tip: lines go out as they are found in any case~~Usage: jpq [OPTIONS] PATH [FILE]...~~For more information, try '--help'.~",
+    "-M  $.a -> 64: , told error: unexpected argument '-M' found~~  tip: lines have no colours by --color=never~~Usage: jpq [OPTIONS] PATH [FILE]...~~For more information, try '--help'.~",
+    "-S  $.a -> 64: , told error: unexpected argument '-S' found~~  tip: members are sorted by name in any case~~Usage: jpq [OPTIONS] PATH [FILE]...~~For more information, try '--help'.~",
+    "--arg  a  b  $.a -> 64: , told error: unexpected argument '--arg' found~~  tip: a text is put for '$NAME' in a path by --let NAME=VALUE~~Usage: jpq [OPTIONS] PATH [FILE]...~~For more information, try '--help'.~",
     "-x  $.a -> 64: , told error: unexpected argument '-x' found~~Usage: jpq [OPTIONS] PATH [FILE]...~~For more information, try '--help'.~",
     "--let  a=b  -v  $.a  one.json -> 64: , told jpq: --let a: no path has the text '$a' in a filter~",
     "--let  a  -v  $.a  one.json -> 64: , told jpq: --let a: a name, '=' and a value are wanted~",
@@ -123,6 +133,7 @@ const TOLD: &[&str] = &[
     "-s  -c  $[?match(@, 'a[')] ~ [\"a[\"] -> 1: 0~",
     "-v  $.a ~ {\"a\":0.12345678901234567890123} -> 0: 0.12345678901234568~, told jpq: standard input: 0.12345678901234567890123 is held as the double next to it~",
     "-v  $ ~ {\"a\":1.00000000000000000001,\"b\":1} -> 0: {\"a\":1.0,\"b\":1}~, told jpq: standard input: 1.00000000000000000001 is held as the double next to it~",
+    "-v  $ ~ [18446744073709551616,1] -> 0: [1.8446744073709552e+19,1]~, told jpq: standard input: 18446744073709551616 is held as the double next to it~",
     "-v  $.b ~ {\"a\":123456789012345678901234567890,\"b\":1} -> 0: 1~",
     "--csv  $.a ~ {\"a\":1.00000000000000000001} -> 0: 1.0~, told jpq: standard input: 1.00000000000000000001 is held as the double next to it~",
     "-v  $[0] ~ [18446744073709551615,-9223372036854775808,1.50000000000000000000,\"123456789012345678901234567890\"] -> 0: 18446744073709551615~",
@@ -130,6 +141,12 @@ const TOLD: &[&str] = &[
     "-c  $[0] ~ [123456789012345678901234567890] -> 0: 1~",
     "-s  -l  $[0] ~ [123456789012345678901234567890] -> 0: $[0]~",
     "-q  $.a  none.json  one.json -> 0: , told jpq: none.json: cannot be read: entity not found~",
+    "-q  $.b  none.json  one.json -> 2: , told jpq: none.json: cannot be read: entity not found~",
+    "-L  -q  $ ~ x\n1 -> 0: , told jpq: standard input: line 1, column 1: not JSON~  x~  ^~",
+    // A query that is refused after lines went out; an array is ended all the same.
+    "-v  $[?@ == 'a' || match(@, '\\\\w{1000}{10}')] ~ [\"a\",\"b\"] -> 2: \"a\"~, told jpq: standard input: the query is refused: pattern refused~",
+    "-j  $[?@ == 'a' || match(@, '\\\\w{1000}{10}')] ~ [\"a\",\"b\"] -> 2: [{\"path\":\"$[0]\",\"value\":\"a\"}]~, told jpq: standard input: the query is refused: pattern refused~",
+    "-f  pattern  -v ~ [\"a\"] -> 2: , told jpq: standard input: pattern:2: the query is refused: pattern refused~",
     "-f  wrong  one.json -> 2: , told jpq: wrong:2 is refused at byte 3: expected a name or '*' after the dot, found the end~  $.~    ^~  no dot at the end of a path~",
     "--tsv  $.*  - ~ [1,2] -> 0: 1~, told jpq: standard input: $.* selects several nodes, of which a row has the first~",
     "--tsv  -s  $.*  - ~ [1,2] -> 0: 1~",
@@ -145,6 +162,8 @@ const TOLD: &[&str] = &[
     "-v  $['a.b'] ~ {\"a\":{\"b\":1}} -> 1: , told jpq: nothing was selected: a name in quotes is one member's, with its dots; $.a.b goes down by two~",
     "-v  $[::0] ~ [1] -> 1: , told jpq: nothing was selected: a slice with step 0 selects nothing~",
     "-v  $[?$.price < 10] ~ [{\"price\":8}] -> 1: , told jpq: nothing was selected: '$' in a filter is the whole document, the same for each child; '@' is the child~",
+    "-v  $[?10 > $.price] ~ [{\"price\":8}] -> 1: , told jpq: nothing was selected: '$' in a filter is the whole document, the same for each child; '@' is the child~",
+    "-v  $[?@.a≠1] ~ [{\"a\":2}] -> 1: , told jpq: nothing was selected: '≤', '≥', '≠' and wide brackets are part of a name; write <=, >=, != and plain [ and ]~",
     "-v  $[?search('b', @.a)] ~ [{\"a\":\"xb\"}] -> 1: , told jpq: nothing was selected: the text comes first, then the pattern: match(@.a, 'b.*')~",
     "-v  $[?match(@.a, 'b')] ~ [{\"a\":\"abc\"}] -> 1: , told jpq: nothing was selected: match(@.a, 'b') wants the whole text to fit the pattern; search(@.a, 'b') a part of it~",
     "-v  $['a.b'] ~ {\"b\":{\"a.c\":1}} -> 1: ",
@@ -174,4 +193,32 @@ fn of_run(alloc: Global, given: &str) -> Came {
 fn writes_what_is_selected_and_tells_what_is_refused(rt: HostRuntime) -> Result<(), Fail> {
     hold_rows(&rt, RUNS, of_run)?;
     hold_rows(&rt, TOLD, of_run)
+}
+
+#[test]
+fn shows_the_line_of_a_large_document(rt: HostRuntime) -> Result<(), Fail> {
+    let alloc = rt.alloc();
+    let standard = format!(in alloc; "[{}True]", "10, ".repeat(alloc, 300_000)?)?;
+    // Of the line 42 bytes are shown before the place, and three dots.
+    let wanted = format!(in alloc;
+        "2: , told jpq: standard input: line 1, column 1200002: a word that JSON writes as true, false or null~  ..., {}True]~  {}^~",
+        "10, ".repeat(alloc, 10)?,
+        " ".repeat(alloc, 45)?
+    )?;
+    let given = format!(in alloc; "-v  $ ~ {standard}")?;
+    let came = of_run(alloc, given.as_str());
+    hold_row(&rt, ("jpq", "a large document", wanted.as_str()), came)
+}
+
+#[test]
+fn cuts_the_line_of_a_document_to_the_terminal(rt: HostRuntime) -> Result<(), Fail> {
+    let inputs = MemoryInputs {
+        standard: "[1, 2, 3, 4, 5, 6, 7, 8, 9, 10, 11 12, 13, 14, 15, 16]",
+        fails_at: usize::MAX,
+    };
+    // Of 40 columns ten are no bytes of the document: 18 bytes before the place, and 12 from there on.
+    let wanted =
+        "jpq: standard input: line 1, column 36: a comma is missing before this\n  ..., 7, 8, 9, 10, 11 12, 13, 14, ...\n                       ^\n";
+    let ran = run_within(rt.alloc(), "-v  $", inputs, 40)?;
+    hold_row(&rt, ("jpq", "40 columns", wanted), Ok(ran.err))
 }

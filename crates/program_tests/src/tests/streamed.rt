@@ -72,6 +72,8 @@ const RUNS: &[&str] = &[
     "9  -v  -n  700  $.* -> 0: [65611, 6489] \"\"",
     "1  -v  $.* -> 3: [65611] \"\"",
     "0  -v  $.* -> 3: [] \"\"",
+    // An object has a comma before it, but for the first, and its position has up to four digits.
+    "9  -j  $.* -> 0: [65551, 65549, 65650, 62142] \"\"",
     "9  -c  $.* -> 0: [5] \"\"",
     "9  -q  $.* -> 0: [] \"\"",
 ];
