@@ -10,10 +10,11 @@
  * integer.
  *
  * A call with two texts reads both each time. A program that asks many paths, or many documents, compiles a path once and reads
- * a document once, and keeps each in a handle: `jsonpath_path *`, `jsonpath_document *`, and `jsonpath_nodes *` for a list of
- * nodes. A document that is asked once is handed over as its bytes (`jsonpath_lines_in` and on). A handle begins as NULL, which is
- * empty; a call that fills or empties it is handed its address, and a call that asks is handed the pointer itself, as
- * `const jsonpath_path *`. A text is bytes and a length in bytes, and needs no NUL at its end.
+ * a document once, and keeps each in a handle: `jsonpath_path *`, `jsonpath_document *`, `jsonpath_nodes *` for a list of nodes,
+ * and `jsonpath_walk *` for nodes that come some at a time. A document that is asked once is handed over as its bytes
+ * (`jsonpath_lines_in` and on). A handle begins as NULL, which is empty; a call that fills or empties it is handed its address, and
+ * a call that asks is handed the pointer itself, as `const jsonpath_path *`. A text is bytes and a length in bytes, and needs no
+ * NUL at its end.
  *
  * Any number of threads may ask one path, one document and one list of nodes at once: a call that asks writes nothing that
  * another reads. Where threads do not agree who frees last, `jsonpath_path_share` and `jsonpath_document_share` give each an owner
@@ -28,6 +29,8 @@
  *     and afterwards no call has what was freed. Another owner of the same path or document may be asked meanwhile. What one
  *     thread has made, another asks or frees after what orders their memory: a lock, a thread's start or join, or a sequentially
  *     consistent atomic.
+ *   - The handles of a walk's path and document are neither freed nor filled anew before it is freed. It stays in the thread that
+ *     made it.
  *   - The stack has 1 MB left. A call uses what the depth of the path and of the document takes, 128 levels of each at most.
  *   - No call is made from a signal handler, nor in the child of a fork of a process with threads. malloc, realloc and free
  *     are those of one allocator, and align blocks as the C standard asks.
@@ -37,13 +40,15 @@
  *     it is built.
  *   - What a handle held is given back where it is filled anew or freed, and no call loses memory.
  *   - A query stops once its answer is known: for `jsonpath_exists` at the first node, for lines and lists at the node that would
- *     go beyond the limits. With `unique` it stops soon after more nodes differ than there may be, and for bytes it does not.
+ *     go beyond the limits, for the next nodes of a walk at the last one that is asked for. With `unique` it stops soon after more
+ *     nodes differ than there may be, and for bytes it does not.
  *   - Of a document's bytes, what the path cannot reach is read and not kept; of JSONPATH_LOCATIONS no values are.
  *   - Where bytes are refused, `*position` is where the fault shows.
  *   - By which digits a double is printed: 8.95 as 8.95, 4.0 as 4.0, 1e2 as 100.0.
  *   - No message and no hint is longer than 100 bytes.
- * Believed, not proved: a call needs what it asks no longer than until it returns. The proof takes a path, a document or a list as
- * lent for good, since its clauses cannot name a call's time; nothing that a call writes or keeps can hold a reference.
+ * Believed, not proved: a call needs what it asks no longer than until it returns, and a walk until it is freed. The proof takes a
+ * path, a document or a list as lent for good, since its clauses cannot name a call's time; nothing that a call writes or keeps can
+ * hold a reference, but for a walk.
  *
  * No test holds this: with `unique` at most 64 nodes are held meanwhile, or four times as many as differ in their locations. The
  * stack's megabyte is measured.
@@ -179,6 +184,11 @@ uint8_t jsonpath_path_equals(const jsonpath_path *path, const jsonpath_path *oth
  * bytes that are UTF-8, none does. */
 uint8_t jsonpath_document_new(const uint8_t *bytes, size_t bytes_length, jsonpath_document **document, size_t *position);
 
+/* Why bytes are no document, as `a comma with nothing after it`, without an end: DONE, NO_ROOM or NO_MEMORY. Of a document it is
+ * empty. `out` and `*length` are written as by jsonpath_report. */
+uint8_t jsonpath_document_message(const uint8_t *bytes, size_t bytes_length, uint8_t *out, size_t out_length,
+                                  size_t *length);
+
 /* Another owner of a document, as jsonpath_path_share of a path. */
 uint8_t jsonpath_document_share(const jsonpath_document *document, jsonpath_document **other);
 
@@ -277,6 +287,23 @@ uint8_t jsonpath_node_text(const jsonpath_nodes *nodes, const jsonpath_document 
  * NO_SUCH_NODE, also where nothing is there. */
 uint8_t jsonpath_node_json(const jsonpath_nodes *nodes, const jsonpath_document *document, size_t index, uint8_t *out,
                            size_t out_length, size_t *length);
+
+/* ---- Walks: the nodes that a path selects, some at a time. */
+
+typedef struct jsonpath_walk jsonpath_walk;
+
+/* Begins a walk over the nodes that a path selects from a document, in order: DONE, NO_MEMORY or EMPTY_HANDLE. With DONE the walk is
+ * in `*walk`, in the place of what was there. It needs the path and the document until it is freed, so neither is freed before. It
+ * stays in the thread that made it. */
+uint8_t jsonpath_walk_new(const jsonpath_path *path, const jsonpath_document *document, jsonpath_walk **walk);
+
+/* Lists the next nodes of a walk, at most so many: DONE, QUERY_REFUSED, NO_MEMORY or EMPTY_HANDLE. With DONE the list is in `*nodes`,
+ * in the place of what was there, and fewer than `most` are the last ones. With any other answer the walk is freed, and `*walk` is
+ * NULL. */
+uint8_t jsonpath_walk_next(jsonpath_walk **walk, size_t most, jsonpath_nodes **nodes);
+
+/* Frees a walk and makes the variable NULL. Of NULL it does nothing. */
+void jsonpath_walk_free(jsonpath_walk **walk);
 
 /* The library's version: major * 10000 + minor * 100 + patch. */
 uint32_t jsonpath_version(void);

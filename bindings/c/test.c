@@ -194,6 +194,7 @@ struct asked_with {
     uint8_t form; /* Of lines, as `limits`. */
     struct jsonpath_limits limits;
     const char *bytes; /* A document that is handed over as such. */
+    jsonpath_walk *walk;
 };
 
 static const struct jsonpath_limits NO_LIMITS = {SIZE_MAX, SIZE_MAX};
@@ -213,6 +214,9 @@ static uint8_t lines_in(struct asked_with *with, uint8_t *out, size_t out_length
                                        &with->limits, out, out_length, length, &position);
     holds(position == 7, "position is written by lines", with->bytes);
     return status;
+}
+static uint8_t document_message(struct asked_with *with, uint8_t *out, size_t out_length, size_t *length) {
+    return jsonpath_document_message((const uint8_t *)with->bytes, strlen(with->bytes), out, out_length, length);
 }
 static uint8_t location(struct asked_with *with, uint8_t *out, size_t out_length, size_t *length) {
     return jsonpath_node_location(with->nodes, with->index, out, out_length, length);
@@ -248,7 +252,7 @@ static void read_to(jsonpath_document **document, const char *text) {
 
 /* A path, a document, and the list of the nodes that it selects. */
 static struct asked_with asked_of(const char *path, uint8_t numbers, const char *document) {
-    struct asked_with with = {NULL, NULL, NULL, 0, JSONPATH_VALUES, NO_LIMITS, document};
+    struct asked_with with = {NULL, NULL, NULL, 0, JSONPATH_VALUES, NO_LIMITS, document, NULL};
     compile(&with.path, path, numbers);
     read_to(&with.document, document);
     uint8_t status = jsonpath_select(with.path, with.document, 0, &NO_LIMITS, &with.nodes);
@@ -259,10 +263,11 @@ static struct asked_with asked_of(const char *path, uint8_t numbers, const char 
 /* Frees each handle, and once more, which does nothing. */
 static void emptied(struct asked_with *with) {
     for (int times = 0; times < 2; times++) {
+        jsonpath_walk_free(&with->walk); /* It needs the next two. */
         jsonpath_path_free(&with->path);
         jsonpath_document_free(&with->document);
         jsonpath_nodes_free(&with->nodes);
-        holds(!with->path && !with->document && !with->nodes, "a handle that is freed", "NULL");
+        holds(!with->walk && !with->path && !with->document && !with->nodes, "a handle that is freed", "NULL");
     }
 }
 
@@ -526,6 +531,45 @@ static void documents(void) {
     free(most);
 }
 
+/* Holds what is told of bytes, in words, to what is wanted, also where memory is refused. */
+static void tells(const char *bytes, const char *words) {
+    struct asked_with with = {NULL, NULL, NULL, 0, JSONPATH_VALUES, NO_LIMITS, bytes, NULL};
+    writes(document_message, &with, JSONPATH_DONE, words, bytes);
+    uint8_t *copy = copied(bytes, strlen(bytes)), status = JSONPATH_NO_MEMORY;
+    for (size_t requests = 0; status == JSONPATH_NO_MEMORY && requests < 1000; requests++) {
+        struct answer answer = lent(ROOM);
+        granted = requests;
+        status = jsonpath_document_message(copy, strlen(bytes), answer.out, ROOM, &answer.length);
+        granted = SIZE_MAX;
+        int is_told = status == JSONPATH_DONE;
+        holds(is_told || status == JSONPATH_NO_MEMORY, "status of a document's message", bytes);
+        holds(!is_told || (answer.length == strlen(words) && !memcmp(answer.out, words, answer.length)), "words", bytes);
+        holds(is_told || (is_untouched(answer.out, ROOM) && is_untouched(&answer.length, sizeof answer.length)),
+              "a document's message is written without memory", bytes);
+        free(answer.out);
+    }
+    holds(status == JSONPATH_DONE, "status of a document's message with memory", bytes);
+    free(copy);
+}
+
+/* Why bytes are no document, and that nothing is told of a document. */
+static void messages(void) {
+    char *deeper = nested(128);
+    tells("[1,]", "a comma with nothing after it");
+    tells("{\"a\": [\"b\", {}], 'c': 1}", "a single quote, where JSON has double quotes");
+    tells("[[\"a\"] \"b\"]", "a comma is missing before this");
+    tells("{\"a\" 1}", "a colon is missing after a name");
+    tells("[1e400]", "a number that is too large");
+    tells("[\"a\", \"\xff\"]", "a byte that is not UTF-8");
+    tells("{\"a\": 1", "the document ends too soon");
+    tells("", "no document, the input is empty");
+    tells("nil", "not JSON");
+    tells(deeper, "more than 127 levels of arrays and objects");
+    tells("[1, {\"a\": null}, \"b\"]", "");
+    tells(" 5\n", "");
+    free(deeper);
+}
+
 /* Lines of three nodes, of 3, 4 and 2 bytes, within limits. */
 static void limits(void) {
     struct {
@@ -633,6 +677,10 @@ static void stops(void) {
         holds(status == JSONPATH_CUT_SHORT, "status of the first nodes", path);
         holds(jsonpath_nodes_length(with.nodes, &length) == JSONPATH_DONE && length == 3, "first nodes", path);
     }
+    size_t length = 0;
+    uint8_t status = jsonpath_walk_new(with.path, with.document, &with.walk);
+    for (int at = 0; at < 2; at++) status |= jsonpath_walk_next(&with.walk, 2, &with.nodes);
+    holds(status == JSONPATH_DONE && !jsonpath_nodes_length(with.nodes, &length) && length == 2, "first nodes of a walk", path);
     emptied(&with);
 }
 
@@ -723,6 +771,105 @@ static void lists_alone(void) {
     emptied(&with);
 }
 
+/* Holds the next nodes of a walk, at most so many, to their locations, each ended by a blank. */
+static void walks_on(struct asked_with *with, size_t most, const char *locations, const char *what) {
+    char found[ROOM] = "";
+    size_t length = SIZE_MAX;
+    holds(jsonpath_walk_next(&with->walk, most, &with->nodes) == JSONPATH_DONE && with->walk, "status of a walk", what);
+    holds(jsonpath_nodes_length(with->nodes, &length) == JSONPATH_DONE && length <= most, "nodes of a walk", what);
+    for (with->index = 0; with->index < length; with->index++) {
+        size_t place = 0, at = strlen(found);
+        holds(!location(with, (uint8_t *)found + at, ROOM - at - 2, &place), "location of a walk's node", what);
+        strcpy(found + at + place, " ");
+    }
+    holds(!strcmp(found, locations), found, what);
+}
+
+/* Holds the lists that a walk gives, of at most so many nodes, to their locations: each list is ended by `|`. */
+static void walks(const char *path, const char *document, size_t most, const char *lists) {
+    struct asked_with with = asked_of(path, JSONPATH_WHOLE_NUMBERS, document);
+    holds(jsonpath_walk_new(with.path, with.document, &with.walk) == JSONPATH_DONE && with.walk, "begun", path);
+    for (const char *end; (end = strchr(lists, '|')); lists = end + 1) {
+        char wanted[ROOM] = "";
+        memcpy(wanted, lists, (size_t)(end - lists));
+        walks_on(&with, most, wanted, path);
+    }
+    emptied(&with);
+}
+
+/* Walks that end early: before the first list, between two, and where another one takes the place. A list outlives all. */
+static void walks_end(void) {
+    struct asked_with with = asked_of("$..*", JSONPATH_WHOLE_NUMBERS, "{\"a\":[1,\"b\"],\"c\":2}");
+    const char *what = "a walk that ends early";
+    for (int lists = 0; lists < 3; lists++) {
+        holds(jsonpath_walk_new(with.path, with.document, &with.walk) == JSONPATH_DONE, "begun again", what);
+        if (lists > 0) walks_on(&with, 1, "$['a'] ", what);
+        if (lists > 1) walks_on(&with, 2, "$['c'] $['a'][0] ", what);
+        if (lists != 1) jsonpath_walk_free(&with.walk);
+    }
+    holds(!with.walk && jsonpath_walk_next(&with.walk, 1, &with.nodes) == JSONPATH_EMPTY_HANDLE, "after its end", what);
+    with.index = 1;
+    writes(json, &with, JSONPATH_DONE, "1", "JSON of a walk's node");
+    jsonpath_path_free(&with.path), jsonpath_document_free(&with.document);
+    writes(location, &with, JSONPATH_DONE, "$['a'][0]", "list after its walk");
+    emptied(&with);
+}
+
+/* A walk goes on in whose place none can be put for lack of memory. One that is refused memory itself is freed, and the list before
+ * stays. */
+static void walks_without_memory(void) {
+    struct asked_with with = asked_of("$['a','b']", JSONPATH_WHOLE_NUMBERS, "{\"a\":1,\"b\":2}");
+    const char *what = "a walk without memory";
+    holds(jsonpath_walk_new(with.path, with.document, &with.walk) == JSONPATH_DONE, "begun", what);
+    walks_on(&with, 1, "$['a'] ", what);
+    granted = 0;
+    uint8_t status = jsonpath_walk_new(with.path, with.document, &with.walk);
+    granted = SIZE_MAX;
+    holds(status == JSONPATH_NO_MEMORY && with.walk, "another one", what);
+    walks_on(&with, 1, "$['b'] ", what);
+    holds(jsonpath_walk_new(with.path, with.document, &with.walk) == JSONPATH_DONE, "begun again", what);
+    granted = 0;
+    status = jsonpath_walk_next(&with.walk, 1, &with.nodes);
+    granted = SIZE_MAX;
+    holds(status == JSONPATH_NO_MEMORY && !with.walk, "next nodes", what);
+    with.index = 0;
+    writes(location, &with, JSONPATH_DONE, "$['b']", "list of a walk without memory");
+    emptied(&with);
+}
+
+/* Walks over one path and one document, of which each goes on by itself. */
+static void walks_side_by_side(void) {
+    struct asked_with with = asked_of("$[?search(@, 'b')]", JSONPATH_ALL_NUMBERS, "[\"ab\",\"a\",\"b\"]"), other = with;
+    const char *what = "walks side by side";
+    other.nodes = NULL;
+    holds(jsonpath_walk_new(with.path, with.document, &with.walk) == JSONPATH_DONE, "the first one", what);
+    holds(jsonpath_walk_new(with.path, with.document, &other.walk) == JSONPATH_DONE, "the second one", what);
+    walks_on(&with, 1, "$[0] ", what);
+    walks_on(&other, 0, "", what);
+    walks_on(&other, SIZE_MAX, "$[0] $[2] ", what);
+    walks_on(&other, 1, "", what);
+    walks_on(&with, 1, "$[2] ", what);
+    jsonpath_walk_free(&other.walk), jsonpath_nodes_free(&other.nodes);
+    walks_on(&with, 1, "", what);
+    emptied(&with);
+}
+
+/* Nodes a list at a time. After the last list there are empty ones. */
+static void walked(void) {
+    walks("$[*]", "[1,2,3]", 2, "$[0] $[1] |$[2] |||");
+    walks("$[*]", "[1,2,3]", 3, "$[0] $[1] $[2] |||");
+    walks("$[*]", "[1,2,3]", SIZE_MAX, "$[0] $[1] $[2] ||");
+    walks("$[*]", "[1,2]", 0, "||");
+    walks("$.x", "[1]", 5, "||");
+    walks("$", "null", 1, "$ ||");
+    walks("$..*", "{\"a\":1,\"b\":[2]}", 1, "$['a'] |$['b'] |$['b'][0] |||");
+    walks("$['b','a','b']", "{\"a\":1,\"b\":[2]}", 2, "$['b'] $['a'] |$['b'] ||");
+    walks("$[?match(@, 'a+')]", "[\"a\",\"b\",\"aa\"]", 1, "$[0] |$[2] ||");
+    walks_end();
+    walks_without_memory();
+    walks_side_by_side();
+}
+
 /* Holds each call that needs one of the handles that are empty. */
 static void finds_empty(struct asked_with *with, const char *what) {
     int cannot_query = !with->path || !with->document, cannot_read = !with->nodes || !with->document;
@@ -750,8 +897,10 @@ static void finds_empty(struct asked_with *with, const char *what) {
         holds(jsonpath_count(with->path, with->document, &count) == empty && count == 7, "count", what);
         holds(jsonpath_exists(with->path, with->document, &exists) == empty && exists == 7, "exists", what);
         holds(jsonpath_select(with->path, with->document, 0, &NO_LIMITS, &with->nodes) == empty, "select", what);
+        holds(jsonpath_walk_new(with->path, with->document, &with->walk) == empty && !with->walk, "walk", what);
         holds(with->nodes == kept, "a list is written", what);
     }
+    holds(jsonpath_walk_next(&with->walk, 1, &with->nodes) == empty && with->nodes == kept, "next nodes", what);
     if (!with->nodes) {
         writes_nothing(location, with, empty, what);
         writes_nothing(pointer, with, empty, what);
@@ -797,6 +946,8 @@ static void refused_queries(void) {
     for (uint8_t unique = 0; unique < 2; unique++) {
         holds(jsonpath_select(with.path, with.document, unique, &with.limits, &with.nodes) == refused, "select", path);
     }
+    holds(jsonpath_walk_new(with.path, with.document, &with.walk) == JSONPATH_DONE, "a walk that is refused later", path);
+    holds(jsonpath_walk_next(&with.walk, 1, &with.nodes) == refused && !with.walk, "walk", path);
     writes(location, &with, JSONPATH_DONE, "$[0]", "list after a refusal");
     emptied(&with);
 }
@@ -859,6 +1010,24 @@ static uint8_t finds_in_bytes(struct asked_with *with) {
 static uint8_t writes_lines_of_bytes(struct asked_with *with) {
     return lines_in(with, room_for_text, ROOM, &text_length);
 }
+static uint8_t writes_message(struct asked_with *with) {
+    return document_message(with, room_for_text, ROOM, &text_length);
+}
+static uint8_t begins_walk(struct asked_with *with) {
+    jsonpath_walk *walk = NULL;
+    uint8_t status = jsonpath_walk_new(with->path, with->document, &walk);
+    holds(!walk == (status == JSONPATH_NO_MEMORY), "walk without memory", "jsonpath_walk_new");
+    jsonpath_walk_free(&walk);
+    return status;
+}
+static uint8_t begins_and_walks(struct asked_with *with) {
+    jsonpath_walk *walk = NULL;
+    uint8_t status = jsonpath_walk_new(with->path, with->document, &walk);
+    if (status == JSONPATH_DONE) status = jsonpath_walk_next(&walk, 2, &with->nodes);
+    holds(!walk == (status == JSONPATH_NO_MEMORY), "walk without memory", "jsonpath_walk_next");
+    jsonpath_walk_free(&walk);
+    return status;
+}
 static uint8_t writes_path(struct asked_with *with) {
     return path_text(with, room_for_text, ROOM, &text_length);
 }
@@ -920,6 +1089,9 @@ static void refused_memory(void) {
     runs_out_on_handles(counts_bytes, "jsonpath_count_in");
     runs_out_on_handles(finds_in_bytes, "jsonpath_exists_in");
     runs_out_on_handles(writes_lines_of_bytes, "jsonpath_lines_in");
+    runs_out_on_handles(writes_message, "jsonpath_document_message");
+    runs_out_on_handles(begins_walk, "jsonpath_walk_new");
+    runs_out_on_handles(begins_and_walks, "jsonpath_walk_next");
     runs_out_on_handles(writes_path, "jsonpath_path_text");
     runs_out_on_handles(writes_location, "jsonpath_node_location");
     runs_out_on_handles(writes_pointer, "jsonpath_node_pointer");
@@ -947,12 +1119,14 @@ static void handles(void) {
     compares("$[?@ < 9]", "[8,8.95,1e1]", 1, 2);
     compares("$[?@ >= 8.95]", "[8,8.95,9]", 1, 2);
     documents();
+    messages();
     limits();
     selected();
     stops();
     kinds();
     node_texts();
     lists_alone();
+    walked();
     empty_handles();
     refused_queries();
     refused_memory();
@@ -977,7 +1151,7 @@ static char *field(struct asked_with *with, size_t index, size_t *length) {
  * two texts take whole numbers. */
 static void is_refused(const char *path, uint8_t numbers, const char *document, size_t length, uint8_t wanted,
                        const char *line) {
-    struct asked_with with = {NULL, NULL, NULL, 0, JSONPATH_LINES, NO_LIMITS, NULL};
+    struct asked_with with = {NULL, NULL, NULL, 0, JSONPATH_LINES, NO_LIMITS, NULL, NULL};
     struct jsonpath_refusal refusal;
     size_t position;
     uint8_t status = jsonpath_path_new((const uint8_t *)path, strlen(path), numbers, &with.path, &refusal);

@@ -9,6 +9,7 @@
 #include "jsonpath.h"
 
 #define ITEMS 1000
+#define SOME 100 /* How many nodes a walk lists at a time. */
 #define MOST_THREADS 64
 
 /* What all threads ask. */
@@ -43,6 +44,20 @@ static int prepare(void) {
     return status == JSONPATH_DONE;
 }
 
+/* How many nodes a walk of this thread lists of what all share. Where a call fails there are too many. */
+static size_t walked(void) {
+    jsonpath_walk *walk = NULL;
+    jsonpath_nodes *some = NULL;
+    size_t all = 0, length = SOME;
+    uint8_t status = jsonpath_walk_new(path, document, &walk);
+    while (status == JSONPATH_DONE && length == SOME) {
+        status = jsonpath_walk_next(&walk, SOME, &some) | jsonpath_nodes_length(some, &length);
+        all += length;
+    }
+    jsonpath_walk_free(&walk), jsonpath_nodes_free(&some);
+    return status == JSONPATH_DONE ? all : SIZE_MAX;
+}
+
 /* Asks in all rounds, and frees this thread's owners. */
 static void *ask(void *given) {
     struct worker *worker = given;
@@ -51,7 +66,7 @@ static void *ask(void *given) {
         uint8_t exists = 0;
         uint8_t status = jsonpath_count(path, document, &count) | jsonpath_exists(worker->path, worker->document, &exists)
                          | jsonpath_nodes_length(nodes, &length);
-        worker->failed |= status != JSONPATH_DONE || !exists || length != count;
+        worker->failed |= status != JSONPATH_DONE || !exists || length != count || walked() != count;
         worker->count += count;
     }
     jsonpath_path_free(&worker->path);

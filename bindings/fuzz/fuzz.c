@@ -184,6 +184,10 @@ static uint8_t write_lines_in(const struct question *asked, uint8_t *out, size_t
     return status;
 }
 
+static uint8_t write_fault(const struct question *asked, uint8_t *out, size_t out_length, size_t *length) {
+    return jsonpath_document_message(asked->document_text.bytes, asked->document_text.length, out, out_length, length);
+}
+
 static uint8_t write_location(const struct question *asked, uint8_t *out, size_t out_length, size_t *length) {
     return jsonpath_node_location(asked->nodes, asked->index, out, out_length, length);
 }
@@ -431,6 +435,52 @@ static void check_no_node(struct question asked, size_t count) {
     hold_refused(write_json, &asked, JSONPATH_NO_SUCH_NODE);
 }
 
+/* Two nodes are the same one, whose location is a line without its end. */
+static void check_same(const struct question *one, const struct question *other, struct text location) {
+    struct jsonpath_node node = node_of(one), its_node = node_of(other);
+    struct text its_location;
+    HOLD(node.kind == its_node.kind && node.length == its_node.length);
+    HOLD(node.integer == its_node.integer && node.unsigned_value == its_node.unsigned_value);
+    HOLD(memcmp(&node.number, &its_node.number, sizeof node.number) == 0);
+    HOLD(ask(write_location, one, location.length, &its_location) == JSONPATH_DONE && same(its_location, location));
+    free(its_location.bytes);
+}
+
+/* The next nodes of a walk, and how many they are. */
+static size_t walk_on(jsonpath_walk **walk, size_t most, jsonpath_nodes **nodes) {
+    size_t length;
+    HOLD(jsonpath_walk_next(walk, most, nodes) == JSONPATH_DONE && *walk != NULL);
+    HOLD(jsonpath_nodes_length(*nodes, &length) == JSONPATH_DONE && length <= most);
+    return length;
+}
+
+/* A walk gives the nodes of the list, none to seven at a time. Fewer are the last ones, and after them there are none. */
+static void check_walk(struct question asked, struct text locations, size_t count) {
+    struct question walked = asked;
+    size_t most = count % 8, length;
+    jsonpath_walk *walk = NULL;
+    jsonpath_nodes *nodes = NULL;
+    HOLD(jsonpath_walk_new(asked.path, asked.document, &walk) == JSONPATH_DONE);
+    asked.index = 0;
+    do {
+        most = (most + 3) % 8;
+        length = walk_on(&walk, most, &nodes);
+        HOLD(length <= count - asked.index);
+        walked.nodes = nodes;
+        for (walked.index = 0; walked.index < length; walked.index++, asked.index++) {
+            struct text line = {locations.bytes, line_length(locations) - 1};
+            check_same(&walked, &asked, line);
+            take_with(&locations, line, '\n');
+        }
+    } while (length == most);
+    HOLD(asked.index == count && locations.length == 0 && walk_on(&walk, 3, &nodes) == 0);
+    HOLD(jsonpath_walk_new(asked.path, asked.document, &walk) == JSONPATH_DONE);
+    HOLD(walk_on(&walk, 2, &nodes) == (count < 2 ? count : 2));
+    jsonpath_walk_free(&walk);
+    HOLD(walk == NULL && jsonpath_walk_next(&walk, 1, &nodes) == JSONPATH_EMPTY_HANDLE);
+    jsonpath_nodes_free(&nodes);
+}
+
 /* Checks each node of the list, and that their lines are the lines of the query. */
 static void check_nodes(struct question asked, const struct text lines[3], size_t count) {
     struct text left[3] = {lines[0], lines[1], lines[2]};
@@ -440,6 +490,7 @@ static void check_nodes(struct question asked, const struct text lines[3], size_
     asked.nodes = nodes;
     for (asked.index = 0; asked.index < count; asked.index++) check_node(&asked, left);
     HOLD(left[0].length == 0 && left[1].length == 0 && left[2].length == 0);
+    check_walk(asked, lines[JSONPATH_LOCATIONS], count);
     check_no_node(asked, count);
     jsonpath_nodes_free(&nodes);
 }
@@ -638,6 +689,7 @@ static void check_no_document(struct question asked) {
     size_t count = UNTOUCHED;
     uint8_t exists = MARK;
     jsonpath_nodes *nodes = NULL;
+    jsonpath_walk *walk = NULL;
     struct question longer = asked;
     longer.document_text = with_blanks(asked.document_text);
     check_refused_bytes(asked);
@@ -647,7 +699,15 @@ static void check_no_document(struct question asked) {
     HOLD(jsonpath_count(asked.path, asked.document, &count) == JSONPATH_EMPTY_HANDLE);
     HOLD(jsonpath_exists(asked.path, asked.document, &exists) == JSONPATH_EMPTY_HANDLE);
     HOLD(jsonpath_select(asked.path, asked.document, 0, &NO_LIMITS, &nodes) == JSONPATH_EMPTY_HANDLE);
-    HOLD(nodes == NULL);
+    HOLD(jsonpath_walk_new(asked.path, asked.document, &walk) == JSONPATH_EMPTY_HANDLE);
+    HOLD(nodes == NULL && walk == NULL);
+}
+
+/* Something is told of bytes that are no document, and nothing of a document. */
+static void check_fault(const struct question *asked) {
+    struct text fault = answer_of(write_fault, asked);
+    HOLD((fault.length == 0) == (asked->document != NULL) && fault.length <= 100);
+    free(fault.bytes);
 }
 
 /* Checks a path, and what it selects of a document that may be empty. */
@@ -688,6 +748,7 @@ static void *check_input(void *given) {
     struct text path = copy(input->path.bytes, input->path.length);
     struct text text = copy(input->document.bytes, input->document.length);
     struct question asked = {.path_text = path, .document_text = text, .document = input->read, .position = UNTOUCHED};
+    check_fault(&asked);
     check_path(asked, input->numbers);
     jsonpath_document_free(&input->read);
     HOLD(input->read == NULL);

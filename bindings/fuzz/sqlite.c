@@ -14,7 +14,7 @@
 /* What the first byte asks for. Its other bits are free. */
 #define AS_BLOB 1 /* The document is a BLOB, else TEXT. */
 
-#define MOST_NODES 1000
+#define MOST_NODES 3500   /* The extension lists a thousand at a time. */
 #define MOST_BYTES 65536
 #define MOST_SECONDS 0.05 /* A query that takes longer is not asked in SQL. */
 

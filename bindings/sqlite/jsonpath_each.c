@@ -22,30 +22,37 @@ enum { ARGUMENTS = COLUMNS - DOC };
 
 static const struct outcome DONE = {SQLITE_OK, NULL}, NO_MEMORY = {SQLITE_NOMEM, NULL};
 
+struct table {
+    sqlite3_vtab base; /* First, as SQLite asks. */
+    sqlite3 *database; /* The connection that it is of. */
+};
+
 struct cursor {
     sqlite3_vtab_cursor base;            /* First, as SQLite asks. */
     sqlite3_value *arguments[ARGUMENTS]; /* Copies, or NULL of one that is not given. */
     jsonpath_path *path;                 /* Of its argument, as the document; or empty. */
     jsonpath_document *document;
-    jsonpath_nodes *nodes;
-    size_t length, at; /* How many nodes there are, and which one is the row's. */
-    uint8_t *room;     /* For a text of a row. */
+    struct jsonpath_sqlite_walk walk; /* Over both, so it ends before they are freed. */
+    size_t at;                        /* Which node of its list is the row's. */
+    uint8_t *room;                    /* For a text of a row. */
     size_t room_length;
 };
 
-static int connect_table(sqlite3 *database, void *unused, int count, const char *const *words, sqlite3_vtab **table, char **error) {
+static int connect_table(sqlite3 *database, void *unused, int count, const char *const *words, sqlite3_vtab **made, char **error) {
     (void)unused, (void)count, (void)words, (void)error;
     int code = sqlite3_declare_vtab(database, DECLARATION);
     if (code == SQLITE_OK) code = sqlite3_vtab_config(database, SQLITE_VTAB_INNOCUOUS);
     if (code != SQLITE_OK) return code;
-    *table = sqlite3_malloc(sizeof **table);
-    if (!*table) return SQLITE_NOMEM;
-    memset(*table, 0, sizeof **table);
+    struct table *table = sqlite3_malloc(sizeof *table);
+    if (!table) return SQLITE_NOMEM;
+    memset(table, 0, sizeof *table);
+    table->database = database;
+    *made = &table->base;
     return SQLITE_OK;
 }
 
-static int free_table(sqlite3_vtab *table) {
-    sqlite3_free(table);
+static int free_table(sqlite3_vtab *base) {
+    sqlite3_free((struct table *)base);
     return SQLITE_OK;
 }
 
@@ -97,10 +104,10 @@ static int open_cursor(sqlite3_vtab *table, sqlite3_vtab_cursor **opened) {
 
 static int close_cursor(sqlite3_vtab_cursor *base) {
     struct cursor *cursor = (struct cursor *)base;
+    jsonpath_sqlite_walk_end(&cursor->walk);
     for (int at = 0; at < ARGUMENTS; at++) sqlite3_value_free(cursor->arguments[at]);
     jsonpath_path_free(&cursor->path);
     jsonpath_document_free(&cursor->document);
-    jsonpath_nodes_free(&cursor->nodes);
     sqlite3_free(cursor->room);
     sqlite3_free(cursor);
     return SQLITE_OK;
@@ -146,20 +153,38 @@ static struct outcome read_document(struct cursor *cursor) {
     return jsonpath_sqlite_outcome(status, document, position);
 }
 
-/* Lists the nodes that the path selects. */
-static struct outcome select_nodes(struct cursor *cursor) {
+/* Lists all nodes that the path selects, within limits. */
+static struct outcome select_nodes(struct cursor *cursor, const struct jsonpath_limits *limits) {
+    uint8_t status = jsonpath_select(cursor->path, cursor->document, 0, limits, &cursor->walk.nodes);
+    struct outcome outcome = jsonpath_sqlite_outcome_of(status);
+    if (outcome.code) return outcome;
+    size_t length = 0;
+    jsonpath_nodes_length(cursor->walk.nodes, &length);
+    if (status == JSONPATH_CUT_SHORT) return jsonpath_sqlite_beyond(limits, length, "the names in the locations");
+    cursor->walk.length = length;
+    return DONE;
+}
+
+/* Goes on to the next list of nodes, where the last one has come to its end. With more nodes than there may be there is none. */
+static struct outcome next_list(struct cursor *cursor) {
+    struct jsonpath_sqlite_walk *walk = &cursor->walk;
+    const struct jsonpath_limits limits = {walk->most, SIZE_MAX};
+    cursor->at = 0;
+    struct outcome outcome = jsonpath_sqlite_walk_next(((struct table *)cursor->base.pVtab)->database, walk);
+    if (!outcome.code && walk->length > walk->most - walk->before) outcome = jsonpath_sqlite_beyond(&limits, walk->most, "");
+    if (outcome.code) jsonpath_sqlite_walk_end(walk);
+    return outcome;
+}
+
+/* Begins the rows of the path and the document that are there. With a limit of bytes all nodes are listed before the first row. */
+static struct outcome begin_rows(struct cursor *cursor) {
     struct jsonpath_limits limits;
     struct outcome outcome =
         jsonpath_sqlite_limits(cursor->arguments[MAX_NODES - DOC], cursor->arguments[MAX_BYTES - DOC], &limits);
     if (outcome.code) return outcome;
-    uint8_t status = jsonpath_select(cursor->path, cursor->document, 0, &limits, &cursor->nodes);
-    outcome = jsonpath_sqlite_outcome_of(status);
-    if (outcome.code) return outcome;
-    size_t length = 0;
-    jsonpath_nodes_length(cursor->nodes, &length);
-    if (status == JSONPATH_CUT_SHORT) return jsonpath_sqlite_beyond(&limits, length, "the names in the locations");
-    cursor->length = length;
-    return DONE;
+    if (limits.bytes < SIZE_MAX) return select_nodes(cursor, &limits);
+    outcome = jsonpath_sqlite_walk_begin(cursor->path, cursor->document, limits.nodes, &cursor->walk);
+    return outcome.code ? outcome : next_list(cursor);
 }
 
 /* Begins the rows of some arguments. */
@@ -171,7 +196,17 @@ static struct outcome begin(struct cursor *cursor, sqlite3_value **given) {
     struct outcome outcome = take_arguments(cursor, given);
     if (!outcome.code && !cursor->path) outcome = jsonpath_sqlite_path(cursor->arguments[PATH - DOC], &cursor->path);
     if (!outcome.code) outcome = read_document(cursor);
-    return outcome.code ? outcome : select_nodes(cursor);
+    return outcome.code ? outcome : begin_rows(cursor);
+}
+
+/* Tells SQLite what came of a step. */
+static int told(struct cursor *cursor, struct outcome outcome) {
+    sqlite3_vtab *table = cursor->base.pVtab;
+    if (outcome.text) {
+        sqlite3_free(table->zErrMsg);
+        table->zErrMsg = outcome.text;
+    }
+    return outcome.code;
 }
 
 static int filter(sqlite3_vtab_cursor *base, int plan, const char *unused, int count, sqlite3_value **values) {
@@ -181,27 +216,29 @@ static int filter(sqlite3_vtab_cursor *base, int plan, const char *unused, int c
     for (int at = 0; at < ARGUMENTS; at++) {
         if (plan >> at & 1) given[at] = *values++;
     }
-    cursor->length = cursor->at = 0;
-    struct outcome outcome = begin(cursor, given);
-    if (outcome.text) {
-        sqlite3_free(base->pVtab->zErrMsg);
-        base->pVtab->zErrMsg = outcome.text;
-    }
-    return outcome.code;
+    cursor->at = 0;
+    jsonpath_sqlite_walk_end(&cursor->walk);
+    return told(cursor, begin(cursor, given));
 }
 
 static int next(sqlite3_vtab_cursor *base) {
-    ((struct cursor *)base)->at++;
-    return SQLITE_OK;
+    struct cursor *cursor = (struct cursor *)base;
+    cursor->at++;
+    return cursor->at < cursor->walk.length ? SQLITE_OK : told(cursor, next_list(cursor));
 }
 
 static int eof(sqlite3_vtab_cursor *base) {
     const struct cursor *cursor = (const struct cursor *)base;
-    return cursor->at >= cursor->length;
+    return cursor->at >= cursor->walk.length;
+}
+
+/* The number of the row, from 1. */
+static sqlite3_int64 ordinal_of(const struct cursor *cursor) {
+    return (sqlite3_int64)(cursor->walk.before + cursor->at + 1);
 }
 
 static int rowid(sqlite3_vtab_cursor *base, sqlite3_int64 *row) {
-    *row = (sqlite3_int64)((struct cursor *)base)->at + 1;
+    *row = ordinal_of((struct cursor *)base);
     return SQLITE_OK;
 }
 
@@ -209,16 +246,16 @@ static int rowid(sqlite3_vtab_cursor *base, sqlite3_int64 *row) {
 typedef uint8_t write_call(struct cursor *cursor, size_t *length);
 
 static uint8_t write_location(struct cursor *cursor, size_t *length) {
-    return jsonpath_node_location(cursor->nodes, cursor->at, cursor->room, cursor->room_length, length);
+    return jsonpath_node_location(cursor->walk.nodes, cursor->at, cursor->room, cursor->room_length, length);
 }
 static uint8_t write_pointer(struct cursor *cursor, size_t *length) {
-    return jsonpath_node_pointer(cursor->nodes, cursor->at, cursor->room, cursor->room_length, length);
+    return jsonpath_node_pointer(cursor->walk.nodes, cursor->at, cursor->room, cursor->room_length, length);
 }
 static uint8_t write_text(struct cursor *cursor, size_t *length) {
-    return jsonpath_node_text(cursor->nodes, cursor->document, cursor->at, cursor->room, cursor->room_length, length);
+    return jsonpath_node_text(cursor->walk.nodes, cursor->document, cursor->at, cursor->room, cursor->room_length, length);
 }
 static uint8_t write_json(struct cursor *cursor, size_t *length) {
-    return jsonpath_node_json(cursor->nodes, cursor->document, cursor->at, cursor->room, cursor->room_length, length);
+    return jsonpath_node_json(cursor->walk.nodes, cursor->document, cursor->at, cursor->room, cursor->room_length, length);
 }
 
 /* Makes a text of the row the column's value. */
@@ -262,9 +299,9 @@ static void column_value(struct cursor *cursor, sqlite3_context *context, const 
 static int column(sqlite3_vtab_cursor *base, sqlite3_context *context, int index) {
     struct cursor *cursor = (struct cursor *)base;
     struct jsonpath_node node = {0};
-    if (index == TYPE || index == VALUE) jsonpath_node(cursor->nodes, cursor->at, &node);
+    if (index == TYPE || index == VALUE) jsonpath_node(cursor->walk.nodes, cursor->at, &node);
     switch (index) {
-        case ORDINAL: sqlite3_result_int64(context, (sqlite3_int64)cursor->at + 1); break;
+        case ORDINAL: sqlite3_result_int64(context, ordinal_of(cursor)); break;
         case LOCATION: column_text(cursor, context, write_location); break;
         case POINTER: column_text(cursor, context, write_pointer); break;
         case TYPE: sqlite3_result_text(context, TYPES[node.kind], -1, SQLITE_STATIC); break;

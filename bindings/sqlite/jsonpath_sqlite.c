@@ -14,8 +14,6 @@ SQLITE_EXTENSION_INIT1
 #ifndef SQLITE_RESULT_SUBTYPE
 #define SQLITE_RESULT_SUBTYPE 0x1000000 /* Later versions ask for it, earlier ones pass over it. */
 #endif
-/* How much room an answer finds at first beyond the document's length: enough for most. */
-#define MORE_ROOM 256
 
 static const struct outcome DONE = {SQLITE_OK, NULL}, NO_MEMORY = {SQLITE_NOMEM, NULL};
 
@@ -28,15 +26,6 @@ struct last {
     jsonpath_document *document;
     size_t length;
     uint8_t bytes[SHORT];
-};
-
-/* What a function is asked: a path, of a document, within limits. */
-struct asked {
-    sqlite3_context *context;
-    const jsonpath_path *path;
-    struct text document;
-    const jsonpath_document *read; /* The same, or NULL of one that is not short. */
-    struct jsonpath_limits limits;
 };
 
 /* A function of a document and a path. */
@@ -52,12 +41,6 @@ struct registered {
     struct last *last;
 };
 
-/* Lines that a call has written after one byte, with another one after them. */
-struct lines {
-    uint8_t *memory;
-    size_t length;
-};
-
 /* Reads a document that is short, unless it was asked last. */
 static struct outcome read_short(struct asked *asked, struct last *last) {
     struct text text = asked->document;
@@ -70,27 +53,6 @@ static struct outcome read_short(struct asked *asked, struct last *last) {
     }
     if (status == JSONPATH_DONE) asked->read = last->document;
     return jsonpath_sqlite_outcome(status, text, position);
-}
-
-/* Writes lines by a call for what is asked. */
-static uint8_t call_lines(const struct asked *asked, uint8_t form, const struct jsonpath_limits *limits, uint8_t *out, size_t room,
-                          size_t *length, size_t *position) {
-    if (asked->read) return jsonpath_lines(asked->path, asked->read, form, limits, out, room, length);
-    return jsonpath_lines_in(asked->path, asked->document.bytes, asked->document.length, form, limits, out, room, length, position);
-}
-
-/* Writes the lines of a form; the memory is the caller's to free, whatever comes of it. `*status` is that of the call. */
-static struct outcome write_lines(const struct asked *asked, uint8_t form, const struct jsonpath_limits *limits,
-                                  struct lines *lines, uint8_t *status) {
-    size_t room = asked->document.length + MORE_ROOM, position = 1;
-    do {
-        sqlite3_free(lines->memory);
-        lines->memory = sqlite3_malloc64(room + 2);
-        if (!lines->memory) return NO_MEMORY;
-        *status = call_lines(asked, form, limits, lines->memory + 1, room, &lines->length, &position);
-        room = lines->length;
-    } while (*status == JSONPATH_NO_ROOM);
-    return jsonpath_sqlite_outcome(*status, asked->document, position);
 }
 
 /* Makes a text the answer; with `is_json` it is one for the functions of SQLite too. */
@@ -110,12 +72,10 @@ static struct outcome answer_exists(const struct asked *asked) {
 }
 
 static struct outcome answer_count(const struct asked *asked) {
-    size_t count = 0, position = 1;
-    uint8_t status = asked->read ? jsonpath_count(asked->path, asked->read, &count)
-                                 : jsonpath_count_in(asked->path, asked->document.bytes, asked->document.length, &count,
-                                                     &position);
-    sqlite3_result_int64(asked->context, (sqlite3_int64)count);
-    return jsonpath_sqlite_outcome(status, asked->document, position);
+    size_t count = 0;
+    struct outcome outcome = jsonpath_sqlite_count(asked, &count);
+    if (!outcome.code) sqlite3_result_int64(asked->context, (sqlite3_int64)count);
+    return outcome;
 }
 
 /* The double that a number of JSON is, whatever the decimal point is where the program runs. */
@@ -179,10 +139,8 @@ static struct outcome answer_node(sqlite3_context *context, char *json, size_t l
 }
 
 static struct outcome answer_value(const struct asked *asked) {
-    const struct jsonpath_limits first = {1, SIZE_MAX};
-    struct lines lines = {NULL, 0};
-    uint8_t status;
-    struct outcome outcome = write_lines(asked, JSONPATH_VALUES, &first, &lines, &status);
+    struct lines lines = {0};
+    struct outcome outcome = jsonpath_sqlite_first_line(asked, &lines);
     if (!outcome.code && lines.length) {
         lines.memory[lines.length] = 0; /* In the place of the line feed. */
         outcome = answer_node(asked->context, (char *)lines.memory + 1, lines.length - 1);
@@ -191,29 +149,9 @@ static struct outcome answer_value(const struct asked *asked) {
     return outcome;
 }
 
-/* How many lines there are. */
-static size_t lines_in(const struct lines *lines) {
-    size_t count = 0;
-    for (size_t at = 1; at <= lines->length; at++) count += lines->memory[at] == '\n';
-    return count;
-}
-
-/* The lines of a form within limits. No text of SQLite is longer than its own limit, so the lines need not be either. */
-static struct outcome lines_within(const struct asked *asked, uint8_t form, struct lines *lines) {
-    size_t longest = (size_t)sqlite3_limit(sqlite3_context_db_handle(asked->context), SQLITE_LIMIT_LENGTH, -1);
-    struct jsonpath_limits limits = asked->limits;
-    if (limits.bytes > longest) limits.bytes = longest;
-    uint8_t status = JSONPATH_DONE;
-    struct outcome outcome = write_lines(asked, form, &limits, lines, &status);
-    if (outcome.code || status != JSONPATH_CUT_SHORT) return outcome;
-    size_t nodes = lines_in(lines);
-    if (nodes < limits.nodes && limits.bytes < asked->limits.bytes) return (struct outcome){SQLITE_TOOBIG, NULL};
-    return jsonpath_sqlite_beyond(&limits, nodes, form == JSONPATH_VALUES ? "the values" : "the locations");
-}
-
 static struct outcome answer_values(const struct asked *asked) {
-    struct lines lines = {NULL, 0};
-    struct outcome outcome = lines_within(asked, JSONPATH_VALUES, &lines);
+    struct lines lines = {0};
+    struct outcome outcome = jsonpath_sqlite_lines(asked, JSONPATH_VALUES, &lines);
     if (!outcome.code) {
         uint8_t *array = lines.memory;
         size_t length = lines.length ? lines.length + 1 : 2;
@@ -252,8 +190,8 @@ static size_t write_array(const struct lines *lines, char *to) {
 }
 
 static struct outcome answer_locations(const struct asked *asked) {
-    struct lines lines = {NULL, 0};
-    struct outcome outcome = lines_within(asked, JSONPATH_LOCATIONS, &lines);
+    struct lines lines = {0};
+    struct outcome outcome = jsonpath_sqlite_lines(asked, JSONPATH_LOCATIONS, &lines);
     char *array = outcome.code ? NULL : sqlite3_malloc64(array_length(&lines));
     if (array) answer_text(asked->context, array, write_array(&lines, array), 1);
     else if (!outcome.code) outcome = NO_MEMORY;

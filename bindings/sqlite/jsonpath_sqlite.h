@@ -18,6 +18,32 @@ struct text {
     size_t length;
 };
 
+/* What a function is asked: a path, of a document, within limits. */
+struct asked {
+    sqlite3_context *context;
+    const jsonpath_path *path;
+    struct text document;
+    const jsonpath_document *read; /* The same, or NULL of one that is not short. */
+    struct jsonpath_limits limits;
+};
+
+/* Lines, after one byte, and with another one after them. They are all 0 at first. */
+struct lines {
+    uint8_t *memory;     /* Of sqlite3_malloc. */
+    size_t length, room; /* How many bytes they have, and how many they may have there. */
+};
+
+/* The nodes that a path selects, a list at a time. It is all 0 at first, and once it has ended. */
+struct jsonpath_sqlite_walk {
+    jsonpath_walk *rest;   /* What comes after the list; NULL where nothing does. */
+    jsonpath_nodes *nodes; /* The list. */
+    size_t before, length; /* How many nodes came before it, and how many it has. */
+    size_t most;           /* How many nodes there may be; the walk tells of one more. */
+};
+
+/* How many nodes a list has at most. Between two lists a query can be interrupted. */
+#define LIST 1000
+
 /* The subtype of a text that is JSON, by which the functions of SQLite take it as such. */
 #define JSON_SUBTYPE 'J'
 
@@ -50,6 +76,30 @@ struct outcome jsonpath_sqlite_refused(struct text path, const struct jsonpath_r
 
 /* Which limit there is more than, by how many nodes are within both. */
 struct outcome jsonpath_sqlite_beyond(const struct jsonpath_limits *limits, size_t nodes, const char *bytes_of);
+
+/* The JSON of the first node that is asked for, in a line, or no line where there is none. The memory of lines, here and below, is
+ * the caller's to free, whatever comes of it. */
+struct outcome jsonpath_sqlite_first_line(const struct asked *asked, struct lines *lines);
+
+/* The lines of a form of all nodes that are asked for. It is an error if they are more, or longer, than the limits allow. */
+struct outcome jsonpath_sqlite_lines(const struct asked *asked, uint8_t form, struct lines *lines);
+
+/* How many nodes are asked for. */
+struct outcome jsonpath_sqlite_count(const struct asked *asked, size_t *count);
+
+/* Whether what runs on a connection is interrupted. */
+int jsonpath_sqlite_is_interrupted(sqlite3 *database);
+
+/* Begins a walk over the nodes that a path selects from a document, which both stay until it has ended. No list is there yet. */
+struct outcome jsonpath_sqlite_walk_begin(const jsonpath_path *path, const jsonpath_document *document, size_t most,
+                                          struct jsonpath_sqlite_walk *walk);
+
+/* Goes on to the next list of a walk, which is empty after the last one. It is an error if what runs on the connection is
+ * interrupted, unless that list is the first. */
+struct outcome jsonpath_sqlite_walk_next(sqlite3 *database, struct jsonpath_sqlite_walk *walk);
+
+/* Ends a walk, wherever it is. */
+void jsonpath_sqlite_walk_end(struct jsonpath_sqlite_walk *walk);
 
 /* Makes an outcome the answer of a function or of a column, and frees its text. */
 void jsonpath_sqlite_report(sqlite3_context *context, struct outcome outcome);

@@ -77,6 +77,34 @@ static const struct {
     {"WITH p(path) AS (VALUES ('$[0]'), ('$[1]')) SELECT value FROM p, jsonpath_each('[5,6]', p.path)", "5 6 "},
 };
 
+/* A path of 601 selectors, each of which selects all items, so it selects more nodes than one list has. */
+#define MANY "'$[' || replace(hex(zeroblob(300)), '0', '*,') || '*]'"
+#define LONG "'[1,2]' || printf('%1024s', '')"
+
+/* The same of queries of 1,202 nodes, and how many requests for memory lie between two that are refused, since most make many. */
+static const struct {
+    size_t step;
+    const char *statement, *wanted;
+} OF_MANY[] = {
+    {3, "SELECT jsonpath_count('[1,2]', " MANY ")", "1202 "},
+    {3, "SELECT jsonpath_count(" LONG ", " MANY ")", "1202 "},
+    {41, "SELECT length(jsonpath_values(" LONG ", " MANY ", 1202, 2404))", "2405 "},
+    {41, "SELECT length(jsonpath_locations('[1,2]', " MANY "))", "8415 "},
+    {41, "SELECT count(*), sum(value), sum(ordinal), max(location) FROM jsonpath_each('[1,2]', " MANY ")", "1202|1803|723003|$[1] "},
+    {11, "SELECT value FROM jsonpath_each('[1,2]', " MANY ") LIMIT 3", "1 2 1 "},
+    {17, "WITH p(path) AS (VALUES (" MANY "), ('$[1]'), (" MANY ")) "
+     "SELECT (SELECT value FROM jsonpath_each('[1,2]', p.path) WHERE ordinal > 1001 LIMIT 1) FROM p", "2 NULL 2 "},
+};
+
+/* Statements that end where an interrupt is seen: `stop` gives its argument, and interrupts. */
+static const char *const INTERRUPTED[] = {
+    "SELECT jsonpath_count('[1,2]', stop(" MANY "))",
+    "SELECT jsonpath_count(" LONG ", stop(" MANY "))",
+    "SELECT jsonpath_values('[1,2]', stop(" MANY "))",
+    "SELECT jsonpath_locations(" LONG ", stop(" MANY "))",
+    "SELECT count(*) FROM jsonpath_each('[1,2]', stop(" MANY "))",
+};
+
 /* Runs a statement and appends its rows. Returns the code with which it ends. */
 static int run(sqlite3 *database, const char *statement, char *rows) {
     sqlite3_stmt *prepared = NULL;
@@ -110,13 +138,13 @@ static void gives(const char *statement, const char *wanted) {
     sqlite3_close(database);
 }
 
-/* Refuses memory to a statement from the first request on, from the second, and so on, until it has enough. Each time its answer
- * is that, or it is right, as SQLite does without some requests. */
-static void runs_out(const char *statement, const char *wanted) {
+/* Refuses memory to a statement from the first request on, from a later one, and so on by a step, until it has enough. Each time its
+ * answer is that, or it is right, as SQLite does without some requests. */
+static void runs_out(const char *statement, const char *wanted, size_t step) {
     char rows[ROOM];
     int refused = 0, code = SQLITE_NOMEM;
     size_t left = 0;
-    for (size_t grants = 0; left == 0 && grants < 5000; grants++) {
+    for (size_t grants = 0; left == 0 && grants < 5000; grants += step) {
         sqlite3 *database = connected();
         granted = grants;
         code = run(database, statement, rows);
@@ -128,6 +156,55 @@ static void runs_out(const char *statement, const char *wanted) {
         sqlite3_close(database);
     }
     holds(code == SQLITE_OK && refused > 1, "memory was not refused", statement);
+}
+
+/* Statements over documents that are refused, and what is told. */
+static const struct {
+    const char *statement, *told;
+} REFUSED[] = {
+    {"SELECT jsonpath_exists('{\"a\": 1,}', '$.a')",
+     "the document is refused at byte 8, line 1, column 8: a comma with nothing after it\n  {\"a\": 1,}\n         ^"},
+    {"SELECT jsonpath_count('[[1] 2' || printf('%1024s', ']'), '$.a')",
+     "the document is refused at byte 6, line 1, column 6: a comma is missing before this\n"
+     "  [[1] 2                           ...\n       ^"},
+    {"SELECT value FROM jsonpath_each('', '$')",
+     "the document is refused at byte 1, line 1, column 1: no document, the input is empty"},
+};
+
+/* Refuses memory to a statement that ends with an error in any case, as `runs_out` does: it tells of the one or of the other. Where
+ * SQLite itself has no memory to keep what is told, it says that there is some error. */
+static void is_told_without_memory(const char *statement, const char *told) {
+    char rows[ROOM];
+    int is_told = 0, code;
+    for (size_t grants = 0; !is_told && grants < 5000; grants++) {
+        sqlite3 *database = connected();
+        granted = grants;
+        code = run(database, statement, rows);
+        granted = SIZE_MAX;
+        is_told = code == SQLITE_ERROR && !strcmp(sqlite3_errmsg(database), told);
+        int is_unsaid = code == SQLITE_ERROR && !strcmp(sqlite3_errmsg(database), sqlite3_errstr(SQLITE_ERROR));
+        holds(is_told || is_unsaid || code == SQLITE_NOMEM, sqlite3_errmsg(database), statement);
+        sqlite3_close(database);
+    }
+    holds(is_told, "not refused", statement);
+}
+
+/* Interrupts the statement that calls it, and gives its argument. */
+static void stop(sqlite3_context *context, int count, sqlite3_value **values) {
+    (void)count;
+    sqlite3_interrupt(sqlite3_context_db_handle(context));
+    sqlite3_result_value(context, values[0]);
+}
+
+/* Holds a statement to its end by an interrupt, after which another one can be run. */
+static void is_interrupted(const char *statement) {
+    char rows[ROOM];
+    sqlite3 *database = connected();
+    sqlite3_create_function(database, "stop", 1, SQLITE_UTF8, NULL, stop, NULL, NULL);
+    holds(run(database, statement, rows) == SQLITE_INTERRUPT && !rows[0], "not interrupted", statement);
+    holds(!strcmp(sqlite3_errmsg(database), "interrupted"), sqlite3_errmsg(database), statement);
+    holds(run(database, OF_MANY[0].statement, rows) == SQLITE_OK && !strcmp(rows, OF_MANY[0].wanted), rows, statement);
+    sqlite3_close(database);
 }
 
 /* Statements over three documents, and how many paths they compile and documents they read: of those that stay the same one. */
@@ -142,6 +219,8 @@ static const struct {
     {DOCUMENTS "SELECT sum(jsonpath_count('[5]', path)) FROM d, p", "3 ", 6, 1},
     {DOCUMENTS "SELECT DISTINCT jsonpath_values(doc || printf('%1020s', ''), '$[1]') FROM d", "[] ", 1, 3},
     {DOCUMENTS "SELECT DISTINCT jsonpath_values(doc || printf('%1021s', ''), '$[1]') FROM d", "[] ", 1, 0},
+    {"SELECT jsonpath_count(" LONG ", '$[*]')", "2 ", 1, 0},
+    {"SELECT jsonpath_count(" LONG ", " MANY ")", "1202 ", 1, 1},
     {DOCUMENTS "SELECT value FROM d, jsonpath_each(d.doc, '$[0]')", "1 2 3 ", 1, 3},
     {DOCUMENTS "SELECT value FROM p CROSS JOIN d CROSS JOIN jsonpath_each(d.doc, p.path)", "1 2 3 ", 2, 6},
     {DOCUMENTS "SELECT value FROM d CROSS JOIN p CROSS JOIN jsonpath_each(d.doc, p.path)", "1 2 3 ", 6, 3},
@@ -209,8 +288,14 @@ int main(void) {
     sqlite3_auto_extension((void (*)(void))sqlite3_jsonpath_init);
     for (size_t at = 0; at < sizeof ROWS / sizeof *ROWS; at++) {
         gives(ROWS[at].statement, ROWS[at].wanted);
-        runs_out(ROWS[at].statement, ROWS[at].wanted);
+        runs_out(ROWS[at].statement, ROWS[at].wanted, 1);
     }
+    for (size_t at = 0; at < sizeof OF_MANY / sizeof *OF_MANY; at++) {
+        gives(OF_MANY[at].statement, OF_MANY[at].wanted);
+        runs_out(OF_MANY[at].statement, OF_MANY[at].wanted, OF_MANY[at].step);
+    }
+    for (size_t at = 0; at < sizeof REFUSED / sizeof *REFUSED; at++) is_told_without_memory(REFUSED[at].statement, REFUSED[at].told);
+    for (size_t at = 0; at < sizeof INTERRUPTED / sizeof *INTERRUPTED; at++) is_interrupted(INTERRUPTED[at]);
     for (size_t at = 0; at < sizeof KEPT / sizeof *KEPT; at++) {
         keeps(KEPT[at].statement, KEPT[at].wanted, KEPT[at].compiled, KEPT[at].read);
     }

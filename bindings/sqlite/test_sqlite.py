@@ -1,9 +1,13 @@
 """What the functions and the table answer in SQL: python3 -m unittest, in this folder."""
+import itertools
+import json
 import locale
 import os
 import sqlite3
 import subprocess
 import tempfile
+import threading
+import time
 import unittest
 import unittest.mock
 from pathlib import Path
@@ -106,14 +110,9 @@ ERRORS = [
     ("SELECT jsonpath_value('{}', 5)", "the path is no TEXT: it is an INTEGER"),
     ("SELECT * FROM jsonpath_each('{}', x'24')", "the path is no TEXT: it is a BLOB"),
     ("SELECT jsonpath_value('{}', CAST(x'24ff' AS TEXT))", "the path is refused: it is not UTF-8"),
-    ("SELECT jsonpath_exists('[1, x]', '$')", "the document is refused at byte 5, line 1, column 5: not JSON"),
-    ("SELECT jsonpath_values('[\"é\", x]', '$')", "the document is refused at byte 8, line 1, column 7: not JSON"),
-    ("SELECT jsonpath_count('[1,' || char(10) || ' 2,]', '$')", "the document is refused at byte 7, line 2, column 3: not JSON"),
-    ("SELECT jsonpath_count('', '$')", "the document is refused at byte 1, line 1, column 1: not JSON"),
-    ("SELECT * FROM jsonpath_each(x'', '$')", "the document is refused at byte 1, line 1, column 1: not JSON"),
-    ("SELECT jsonpath_value(9e999, '$')", "the document is refused at byte 1, line 1, column 1: not JSON"),
-    ("SELECT jsonpath_value(replace(hex(zeroblob(64)), '0', '['), '$')",
-     "the document is refused at byte 128, line 1, column 128: nested deeper than 127 levels"),
+    ("SELECT * FROM jsonpath_each(x'', '$')",
+     "the document is refused at byte 1, line 1, column 1: no document, the input is empty"),
+    ("SELECT jsonpath_value(9e999, '$')", "the document is refused at byte 1, line 1, column 1: not JSON\n  Inf\n  ^"),
     ("SELECT jsonpath_count('[\"a\"]', '$[?match(@, \"\\\\w{1000}{10}\")]')",
      "the query is refused: a pattern of match or search is too large"),
     ("SELECT * FROM jsonpath_each('[\"a\"]', '$[?match(@, \"\\\\w{1000}{10}\")]')",
@@ -137,6 +136,46 @@ ERRORS = [
     ("WITH t(doc) AS (VALUES ('[5]')) SELECT value FROM jsonpath_each(t.doc, '$') CROSS JOIN t",
      "jsonpath_each needs a document and a path: jsonpath_each(doc, path)"),
     ("CREATE VIRTUAL TABLE own USING jsonpath_each", "no such module: jsonpath_each"),
+]
+
+# A document that is refused: at which byte, line and column, why, and the lines that show where.
+DOCUMENTS = [
+    ('{"a": 1,}', 8, 1, 8, "a comma with nothing after it", '\n  {"a": 1,}\n         ^'),
+    ("[1, x]", 5, 1, 5, "not JSON", "\n  [1, x]\n      ^"),
+    ('["é", x]', 8, 1, 7, "not JSON", '\n  ["é", x]\n        ^'),
+    ('["日本", x]', 12, 1, 8, "not JSON", '\n  ["日本", x]\n           ^'),
+    ("[1 2]", 4, 1, 4, "a comma is missing before this", "\n  [1 2]\n     ^"),
+    ('{"a" 1}', 6, 1, 6, "a colon is missing after a name", '\n  {"a" 1}\n       ^'),
+    ("{'a': 1}", 2, 1, 2, "a single quote, where JSON has double quotes", "\n  {'a': 1}\n   ^"),
+    ("{a: 1}", 2, 1, 2, "a name without double quotes", "\n  {a: 1}\n   ^"),
+    ("[1, None]", 5, 1, 5, "a word that JSON writes as true, false or null", "\n  [1, None]\n      ^"),
+    ("[1, -1e400]", 5, 1, 5, "a number that is too large", "\n  [1, -1e400]\n      ^"),
+    # In a second line, whose blanks at both ends are not shown.
+    ("[1,\n 2,]", 7, 2, 3, "a comma with nothing after it", "\n  2,]\n   ^"),
+    ('{\n\t"a": 01 \r\n}', 9, 2, 7, "a number that begins with 0 and a digit", '\n  "a": 01\n       ^'),
+    ('["a",\n  "b\\x",\n  "c"]', 11, 2, 5, "a backslash that begins no escape of JSON", '\n  "b\\x",\n    ^'),
+    ("[\u3000\n\u2003x\u2003\n]", 2, 1, 2, "not JSON", "\n  [\n   ^"),
+    # A tab before the place, and control characters.
+    ('{"a":\t+1}', 7, 1, 7, "a number with a plus sign before it", '\n  {"a":\t+1}\n       \t^'),
+    ('["a\x01b\x9f"]', 4, 1, 4, "a control character in a string, where JSON has an escape as \\t",
+     '\n  ["a\\u0001b\\u009f"]\n     ^'),
+    # At the end, and where there is nothing to show.
+    ('{"a": [1, 2', 12, 1, 12, "the document ends too soon", '\n  {"a": [1, 2\n             ^'),
+    ("[1,\n", 5, 2, 1, "the document ends too soon", ""),
+    ("", 1, 1, 1, "no document, the input is empty", ""),
+    (" \t", 3, 1, 3, "no document, the input is empty", ""),
+    # Bytes that are not UTF-8. What is shown ends before them.
+    (b'["\xff", 1]', 3, 1, 3, "a byte that is not UTF-8", '\n  ["...\n    ^'),
+    (b'[1, "\xc3\xa9" 2, "\xe2\x82"]', 10, 1, 9, "a comma is missing before this", '\n  [1, "é" 2, "...\n          ^'),
+    (b'["\xc3', 4, 1, 4, "the document ends too soon", ""),
+    # Lines that are cut, by bytes, and not within a character.
+    ("[" * 128, 128, 1, 128, "more than 127 levels of arrays and objects", "\n  ..." + "[" * 43 + "\n     " + " " * 42 + "^"),
+    ('["' + "a" * 3000 + '" 2, "' + "b" * 3000 + '"]', 3005, 1, 3005, "a comma is missing before this",
+     "\n  ..." + "a" * 40 + '" 2, "' + "b" * 24 + "...\n     " + " " * 42 + "^"),
+    ('["' + "é" * 3000 + '"  2 , "' + "日" * 3000 + '"]', 6006, 1, 3006, "a comma is missing before this",
+     "\n  ..." + "é" * 19 + '"  2 , "' + "日" * 7 + "...\n     " + " " * 22 + "^"),
+    ("[\n" + " " * 40 + "1 2" + " " * 40 + "\n]", 45, 2, 43, "a comma is missing before this",
+     "\n  ..." + " " * 40 + "1 2" + " " * 27 + "...\n     " + " " * 42 + "^"),
 ]
 
 # A path that is refused, and the lines that show where.
@@ -254,6 +293,18 @@ class Refusals(unittest.TestCase):
             with self.subTest(statement=statement):
                 self.assertEqual(self.error(connection, statement), wanted)
 
+    def test_documents(self):
+        """Each document as it is, and after so many lines that it is not read whole."""
+        connection = connect()
+        calls = [f"jsonpath_{name}(?1, ?2)" for name in ("exists", "count", "value", "values", "locations")]
+        for document, byte, line, column, why, lines in DOCUMENTS:
+            for before in (0, 1024):
+                wanted = f"the document is refused at byte {byte + before}, line {line + before}, column {column}: {why}{lines}"
+                given = ("\n" * before + document) if isinstance(document, str) else b"\n" * before + document
+                for call, path in itertools.product([*calls, "* FROM jsonpath_each(?1, ?2)"], ("$", "$..a")):
+                    with self.subTest(document=document, before=before, call=call):
+                        self.assertEqual(self.error(connection, f"SELECT {call}", (given, path)), wanted)
+
     def test_shown(self):
         connection = connect()
         for path, lines in SHOWN:
@@ -273,10 +324,107 @@ class Refusals(unittest.TestCase):
         statement = "SELECT jsonpath_values(?, '$[*]', 999)"
         self.assertEqual(self.error(connection, statement, (document,)), "the path selects more than 999 nodes")
 
-    def test_interrupts(self):
+
+# The path selects each of a hundred numbers four million times.
+DOUBLING, NESTED = "$" + "[0,0]" * 22 + "[*]", "[" * 22 + json.dumps(list(range(100))) + "]" * 22
+# What asks for all of them.
+ALL = ["SELECT jsonpath_count(?1, ?2)", "SELECT jsonpath_values(?1, ?2)", "SELECT jsonpath_locations(?1, ?2)",
+       "SELECT sum(value) FROM jsonpath_each(?1, ?2)"]
+SHORT, LONG = "", " " * 1024  # What stands after a document that is read whole in any case, and after one that is not.
+
+
+class Interrupts(unittest.TestCase):
+    def interrupted(self, connection, statement, document):
+        """Interrupts a statement from another thread. It ends soon, and another one can be asked then."""
+        begun, timer = time.monotonic(), threading.Timer(0.2, connection.interrupt)
+        timer.start()
+        with self.assertRaises(sqlite3.OperationalError) as caught:
+            connection.execute(statement, (document, DOUBLING)).fetchall()
+        timer.join()
+        self.assertEqual(str(caught.exception), "interrupted")
+        self.assertLess(time.monotonic() - begun, 5)
+        self.assertEqual(connection.execute("SELECT jsonpath_count(?, '$[*][*]')", (document,)).fetchall(), [(1,)])
+
+    def test_within_a_query(self):
+        for statement, blanks in itertools.product(ALL, (SHORT, LONG)):
+            with self.subTest(statement=statement, blanks=len(blanks)):
+                self.interrupted(connect(), statement, NESTED + blanks)
+
+    def test_between_rows(self):
         connection = connect()
         connection.create_function("stop", 0, connection.interrupt)
-        self.assertEqual(self.error(connection, "SELECT stop() FROM jsonpath_each('[1,2]', '$[*]')"), "interrupted")
+        with self.assertRaisesRegex(sqlite3.OperationalError, "^interrupted$"):
+            connection.execute("SELECT stop() FROM jsonpath_each('[1,2]', '$[*]')").fetchall()
+
+    def test_first_rows(self):
+        """The first rows come before the last ones are looked for, also where the table is asked anew for each row."""
+        connection = connect()
+        rows = connection.execute("SELECT ordinal, value FROM jsonpath_each(?, ?) LIMIT 2", (NESTED, DOUBLING)).fetchall()
+        self.assertEqual(rows, [(1, 0), (2, 1)])
+        statement = ("WITH t(n) AS (VALUES (1), (1500), (1)) "
+                     "SELECT (SELECT value FROM jsonpath_each(?1, ?2) WHERE ordinal > t.n LIMIT 1) FROM t")
+        self.assertEqual(connection.execute(statement, (NESTED, DOUBLING)).fetchall(), [(1,), (0,), (1,)])
+
+
+class ManyNodes(unittest.TestCase):
+    """Queries of more nodes than one list has."""
+
+    def holds(self, connection, items, times, blanks):
+        """Holds each answer to items that are selected so many times."""
+        asked = json.dumps(items, ensure_ascii=False) + blanks, "$[" + ",".join("*" * times) + "]"
+        nodes = [(at, item) for _ in range(times) for at, item in enumerate(items)]
+        values, locations = [item for _, item in nodes], [f"$[{at}]" for at, _ in nodes]
+        count, *arrays = connection.execute(
+            "SELECT jsonpath_count(?1, ?2), jsonpath_values(?1, ?2), jsonpath_locations(?1, ?2)", asked).fetchone()
+        wanted = [json.dumps(answer, ensure_ascii=False, separators=(",", ":")) for answer in (values, locations)]
+        self.assertEqual((count, arrays), (len(nodes), wanted))
+        rows = connection.execute("SELECT ordinal, rowid, location, value FROM jsonpath_each(?1, ?2)", asked).fetchall()
+        self.assertEqual(rows, [(at + 1, at + 1, f"$[{node[0]}]", node[1]) for at, node in enumerate(nodes)])
+
+    def test_answers(self):
+        connection = connect()
+        texts = [f'{at} "é\n\\' for at in range(500)]
+        for items, times in ((texts, 7), *((list(range(count)), 1) for count in (999, 1000, 1001, 1999, 2000, 2001))):
+            for blanks in (SHORT, LONG):
+                with self.subTest(items=len(items), times=times, blanks=len(blanks)):
+                    self.holds(connection, items, times, blanks)
+
+    def test_short_document(self):
+        self.holds(connect(), [1, "a"], 1750, SHORT)
+
+    def test_limits(self):
+        """Of 3,500 lines of two bytes, or of five."""
+        connection, asked = connect(), ("[" + ",".join("5" * 10) + "]", "$[" + ",".join("*" * 350) + "]")
+        for name, bytes_ in (("values", 7_000), ("locations", 17_500)):
+            for limits in ((3_500, None), (None, bytes_), (3_500, bytes_)):
+                answer = connection.execute(f"SELECT json_array_length(jsonpath_{name}(?, ?, ?, ?))", (*asked, *limits)).fetchall()
+                self.assertEqual(answer, [(3_500,)])
+            for limits, wanted in (((3_499, None), "the path selects more than 3499 nodes"),
+                                   ((3_499, bytes_ - 1), "the path selects more than 3499 nodes"),
+                                   ((1_000, None), "the path selects more than 1000 nodes"),
+                                   ((1_001, 99), f"the {name} have more than 99 bytes"),
+                                   ((None, bytes_ - 1), f"the {name} have more than {bytes_ - 1} bytes")):
+                with self.subTest(name=name, limits=limits), self.assertRaises(sqlite3.Error) as caught:
+                    connection.execute(f"SELECT jsonpath_{name}(?, ?, ?, ?)", (*asked, *limits)).fetchall()
+                self.assertEqual(str(caught.exception), wanted)
+
+    def test_limits_of_rows(self):
+        """An error comes at the list in which there are more rows than there may be."""
+        connection, asked = connect(), ("[" + ",".join("5" * 10) + "]", "$[" + ",".join("*" * 350) + "]")
+        seen = []
+        connection.create_function("see", 1, seen.append)
+        for most, rows in ((0, 0), (999, 0), (1_000, 1_000), (1_001, 1_000), (3_499, 3_000), (3_500, 3_500), (4_000, 3_500)):
+            told = None
+            seen.clear()
+            try:
+                connection.execute("SELECT see(ordinal) FROM jsonpath_each(?, ?, ?)", (*asked, most)).fetchall()
+            except sqlite3.Error as error:
+                told = str(error)
+            with self.subTest(most=most):
+                self.assertEqual(seen, list(range(1, rows + 1)))
+                self.assertEqual(told, f"the path selects more than {most} nodes" if most < 3_500 else None)
+        rows = connection.execute("SELECT count(*), sum(ordinal) FROM jsonpath_each(?, ?, 3500, 0)", asked).fetchall()
+        self.assertEqual(rows, [(3_500, 3_500 * 3_501 // 2)])
 
 
 if __name__ == "__main__":

@@ -9,6 +9,8 @@ use Rattle.jsonpath_c.specs.contracts.handle.document.Document as document
 use Rattle.jsonpath_c.specs.contracts.handle.nodes.NodesHandle as nodes_handle
 use Rattle.jsonpath_c.specs.contracts.handle.nodes.NodesRef as nodes_ref
 use Rattle.jsonpath_c.specs.contracts.handle.nodes.Nodes as nodes
+use Rattle.jsonpath_c.specs.contracts.handle.walk.WalkHandle as walk_handle
+use Rattle.jsonpath_c.specs.contracts.handle.walk.HeldWalk as walk
 
 abbrev pub path_owner : Owner (held path.the_row)
 path_owner = record {
@@ -79,6 +81,19 @@ abbrev pub nodes_lender : Owner (lent nodes.the_row)
 nodes_lender = record {
   name = nodes_ref.the_type.name;
   row = nodes_ref.the_row;
+  at = λ h. h.at;
+  value = λ h. h.value;
+  make = λ p v. record { at = p; value = v };
+  owned = λ h vs. refl;
+  made = λ p v vs. refl;
+  valued = λ p v. refl;
+  silent = λ h f. refl;
+}
+
+abbrev pub walk_owner : Owner (held walk.the_row)
+walk_owner = record {
+  name = walk_handle.the_type.name;
+  row = walk_handle.the_row;
   at = λ h. h.at;
   value = λ h. h.value;
   make = λ p v. record { at = p; value = v };

@@ -1,8 +1,8 @@
 -- The words of definitions and lemmas that proofs cite, from one place.
-pub use Rattle.jsonpath_c.specs.Exports.{IsRefusedWith, IsTold, hint_text, rule_of}
+pub use Rattle.jsonpath_c.specs.Exports.{IsFaultTold, IsRefusedWith, IsTold, hint_text, rule_of}
 pub use Rattle.jsonpath_c.specs.Handles.{AnswersLinesOf, AreFirstLines, AreFirstNodes, HoldOf, IsBeyond, IsNodeBeyond, SelectsFrom, TellsFault, TellsSome, form_of, functions_of, name_bytes}
 pub use Rattle.jsonpath_c.specs.Inside.{AreLinesFrom, ArePut, AreWithin, FilledLines, FilledList, HasNoRoomFor, IsReached, TookLines, TookList}
-pub use Rattle.jsonpath_c.specs.Words.{CallsByPatternOn, Data, Form, IsLine, IsLineOfEach, IsNoPath, IsReportIn, IsUtf8, KeptNode, Located, Location, ReadsAs, Step, builtin_functions, compact_lines, first_places, located, message_of, normal, path_tree, rest, view, whole_numbers}
+pub use Rattle.jsonpath_c.specs.Words.{CallsByPatternOn, Data, Form, IsLine, IsLineOfEach, IsNoPath, IsReportIn, IsUtf8, KeptNode, Located, Location, MemoryFault, ReadsAs, Step, builtin_functions, compact_lines, document_of, fault_message, first_places, kept, located, message_of, normal, path_tree, query_of, rest, set_of, view, whole_numbers}
 pub use Rattle.jsonpath_c.specs.declared.bounded.BoundedLines.{BoundedLines}
 pub use Rattle.jsonpath_c.specs.declared.bounded.FirstLines.{FirstLines}
 pub use Rattle.jsonpath_c.specs.declared.bounded_list.BoundedList.{BoundedList}

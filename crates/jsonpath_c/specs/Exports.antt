@@ -1,6 +1,6 @@
 -- What the exports answer, and what they write.
 use Rattle.std.specs.Prelude.{◌≡◌, ◌≢◌, ◌<◌, ◌≤◌, ◌⊎◌, ◌↔◌, ℕ, ◌==◌, if◌then◌else◌, List, [], ◌++◌, drop, length, Err}
-use Rattle.jsonpath_c.specs.Words.{Numbers, all_numbers, whole_numbers, unwrap_or, IsUtf8, chars, Data, builtin_functions, IsAccepted, kind_of, position_of, IsRead, ParseError, ParseErrorKind, ExpectedRoot, BadMemberName, ExpectedClosingBracket, ExpectedEndingQuote, BadEscape, ControlCharacter, ExpectedSelector, IntegerOutOfRange, ExponentOrEmptyFraction, NumberOutOfRange, ExpectedExpression, ExpectedClosingParenthesis, ExpectedComparisonOperator, NonSingularQuery, UndefinedFunction, WrongNumberOfArguments, WrongArgumentType, WrongReturnType, NestedTooDeep, TextAfterPath, FractionTooLong, NoMemory, Query, hint_of, ReadsAs, Form, IsNoPath, CallsByPatternOn, IsReportIn}
+use Rattle.jsonpath_c.specs.Words.{DocumentError, IsDocument, IsFaultIn, MemoryFault, fault_message, Numbers, all_numbers, whole_numbers, unwrap_or, IsUtf8, chars, Data, builtin_functions, IsAccepted, kind_of, position_of, IsRead, ParseError, ParseErrorKind, ExpectedRoot, BadMemberName, ExpectedClosingBracket, ExpectedEndingQuote, BadEscape, ControlCharacter, ExpectedSelector, IntegerOutOfRange, ExponentOrEmptyFraction, NumberOutOfRange, ExpectedExpression, ExpectedClosingParenthesis, ExpectedComparisonOperator, NonSingularQuery, UndefinedFunction, WrongNumberOfArguments, WrongArgumentType, WrongReturnType, NestedTooDeep, TextAfterPath, FractionTooLong, NoMemory, Query, hint_of, ReadsAs, Form, IsNoPath, CallsByPatternOn, IsReportIn}
 use Rattle.jsonpath_c.specs.declared.refusal.Refusal.{Refusal}
 
 -- ---- texts
@@ -80,6 +80,13 @@ pub record AnswersPath (Done : Type 0) (rule : Numbers) (path : List ℕ) (old_r
 abbrev pub IsTold : (ParseError → List ℕ) → Numbers → List ℕ → List ℕ → Type 0
 IsTold told_of rule path text =
     (IsPath rule path × (text ≡ [])) ⊎ ((e : ParseError) × IsRefusedWith rule path e × (text ≡ told_of e))
+
+-- ---- documents
+
+-- what is told of bytes: of a document nothing, and of any others a fault that stands in them, in words
+abbrev pub IsFaultTold : List ℕ → List ℕ → Type 0
+IsFaultTold bytes text = (IsDocument bytes × (text ≡ []))
+    ⊎ ((e : DocumentError) × (IsDocument bytes → ⊥) × IsFaultIn bytes e × (e.fault ≢ MemoryFault) × (text ≡ fault_message e.fault))
 
 -- ---- lines
 

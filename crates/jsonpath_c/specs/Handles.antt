@@ -1,10 +1,11 @@
 -- What handles hold, and what calls answer of it.
 use Rattle.std.specs.Prelude.{◌≡◌, ◌≢◌, ◌==◌, ◌≤◌, ◌<◌, ◌+◌, ◌++◌, ◌⊎◌, ◌↔◌, if◌then◌else◌, ℕ, pos, Bool, true, false, List, [], ◌∷◌, Option, None, length, map, slice_get}
-use Rattle.jsonpath_c.specs.Words.{float_zero, sum_by, MatchOption, chars, Data, IsUtf8, ReadsAs, is_too_deep_at, view, path_rule, path_tree, with_rule_of, CallsByPattern, Selects, FunctionSet, builtin_functions, first_places, Located, Step, by_name, by_position, at, normal, pointer, KeptNode, kept, location_of, NodeInfo, Null, False, True, Integer, Unsigned, Double, String, Array, Object, IsAccepted, IsLine, IsLineOfEach, compact_lines, Form, LocationAndValue, Location, Value}
+use Rattle.jsonpath_c.specs.Words.{document_of, query_of, rest, set_of, float_zero, sum_by, MatchOption, chars, Data, IsUtf8, ReadsAs, is_too_deep_at, view, path_rule, path_tree, with_rule_of, CallsByPattern, Selects, FunctionSet, builtin_functions, first_places, Located, Step, by_name, by_position, at, normal, pointer, KeptNode, kept, location_of, NodeInfo, Null, False, True, Integer, Unsigned, Double, String, Array, Object, IsAccepted, IsLine, IsLineOfEach, compact_lines, Form, LocationAndValue, Location, Value}
 use Rattle.jsonpath_c.specs.Exports.{IsPut, FindsNoRoom, rule_of}
 use Rattle.jsonpath_c.specs.declared.compiled.Compiled.{Compiled}
 use Rattle.jsonpath_c.specs.declared.handle.document.Document.{Document}
 use Rattle.jsonpath_c.specs.declared.handle.nodes.Nodes.{Nodes}
+use Rattle.jsonpath_c.specs.declared.handle.walk.HeldWalk.{HeldWalk}
 use Rattle.jsonpath_c.specs.declared.limits.Limits.{Limits}
 use Rattle.jsonpath_c.specs.declared.node.Node.{Node}
 use Rattle.jsonpath_c.specs.declared.node_texts.LocationForm.{LocationForm}
@@ -120,6 +121,29 @@ pub record AreFirstNodes (limits : Limits) (nodes : List Located) (list : List K
   pub short : all_name_bytes shown ≤ limits.bytes
   pub complete : all ≡ true → more ≡ []
   pub cut : all ≡ false → (next : Located) × (later : List Located) × (more ≡ next ∷ later) × IsNodeBeyond limits shown next
+
+-- ---- walks
+
+-- a handle holds a walk over the nodes that a path selects from a document, all of which remain
+abbrev pub GoesOver : Option HeldWalk → Compiled → Document → Type 0
+GoesOver walk c d = MatchOption walk ⊥ (λ w. SelectsFrom c (view d.json.value) (rest w.walk)
+    × (set_of w.walk ≡ functions_of c) × (query_of w.walk ≡ path_tree c.path.value) × (document_of w.walk ≡ view d.json.value))
+
+-- two walks ask the same query of the same document
+abbrev pub AskTheSame : HeldWalk → HeldWalk → Type 0
+AskTheSame w x = (set_of x.walk ≡ set_of w.walk) × (query_of x.walk ≡ query_of w.walk) × (document_of x.walk ≡ document_of w.walk)
+
+-- a walk gives its next nodes, at most so many, whose list a handle holds, and the rest remains; where it gives fewer, none does
+abbrev pub GivesNext : ℕ → Option Nodes → HeldWalk → HeldWalk → Type 0
+GivesNext most list w after = (found : List Located) × (rest w.walk ≡ found ++ rest after.walk)
+    × (length found ≤ most) × (length found < most → rest after.walk ≡ [])
+    × MatchOption list ⊥ (λ nodes. nodes.nodes ≡ map kept found) × AskTheSame w after
+
+-- some call of a walk's query goes by a pattern that `regex` reads, on its document
+abbrev pub MayRefusePattern : HeldWalk → Type 0
+MayRefusePattern w = CallsByPattern (set_of w.walk) (document_of w.walk) (query_of w.walk)
+
+-- ---- single nodes
 
 -- What C is told of a node: its kind, and the number or the length that its kind has. What it does not have is 0.
 abbrev pub told_of_kind : ℕ → Node

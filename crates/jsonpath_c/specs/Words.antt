@@ -1,5 +1,7 @@
 -- What clauses and definitions take from the crates below, from one place.
-pub use Rattle.jsonpath_document.specs.Document.{ReadsAs}
+pub use Rattle.jsonpath_document.specs.Document.{IsDocument, IsFaultIn, ReadsAs, message_of as fault_message}
+pub use Rattle.jsonpath_document.specs.declared.document.DocumentError.{DocumentError}
+pub use Rattle.jsonpath_document.specs.declared.document.DocumentFault.TheVariants.{Memory as MemoryFault}
 pub use Rattle.jsonpath_document.specs.Place.{is_too_deep_at}
 pub use Rattle.jsonpath_lines.specs.Words.{IsJsonOf, IsLine, IsLineOfEach, compact_lines}
 pub use Rattle.jsonpath_lines.specs.declared.forms.Form.TheVariants.{Location, LocationAndValue, Value}

@@ -54,6 +54,9 @@ pub(crate) fn lines_of(
     ensures refused { result ≡ Err QueryError.Pattern
         → CallsByPatternFrom path.now (view document.now) }
 {
+    if !path.may_call {
+        return first_lines(alloc, form, limits, plain_walk(alloc, path, document)?);
+    }
     let store = PatternStore::new();
     let nodes = walk(alloc, path, document, &store)?;
     first_lines(alloc, form, limits, nodes)

@@ -1,9 +1,10 @@
 //! Documents that are read once.
 
 ghost use Rattle.std.specs.Prelude.{◌≡◌, ◌≢◌, ◌⊎◌, ◌↔◌, None, IfErr, IfOk};
-ghost use Rattle.jsonpath_c.specs.Clauses.{BothHold, MatchOption, view, ReadsAs, TellsEmpty, TellsFault, status_of};
+ghost use Rattle.jsonpath_c.specs.Clauses.{AnswersText, BothHold, IsFaultTold, MatchOption, view, ReadsAs, TellsEmpty, TellsFault, status_of};
 
 use crate::handle::document::{Document, DocumentHandle, DocumentRef};
+use crate::output::put;
 use crate::status::{DOCUMENT_REFUSED, DOCUMENT_TOO_DEEP, DONE, EMPTY_HANDLE, NO_MEMORY};
 use jsonpath_document::{DocumentFault, read_document};
 use nullable_box::{Handle, Lent};
@@ -65,6 +66,24 @@ pub extern "C" fn jsonpath_document_new(
     match document.hold(alloc, read) {
         Ok(()) => DONE,
         Err(_) => NO_MEMORY,
+    }
+}
+
+/// Why bytes are no document, in words, or an empty text of a document: 0, 4 without memory, 5 where it finds no room.
+#[unsafe(no_mangle)]
+pub extern "C" fn jsonpath_document_message(
+    alloc: Global,
+    bytes: &[u8],
+    out: &mut [u8],
+    size: &mut usize,
+) -> u8
+    ensures text { AnswersText (IsFaultTold bytes.now) out.old out.new size.old size.new result }
+    ensures statuses { (result ≡ 0) ⊎ (result ≡ 4) ⊎ (result ≡ 5) }
+{
+    match read_document(alloc, bytes) {
+        Ok(_) => put("", out, size),
+        Err(e) if e.fault == DocumentFault::Memory => NO_MEMORY,
+        Err(e) => put(e.fault.message(), out, size),
     }
 }
 

@@ -30,6 +30,7 @@ mod paths;
 mod refusal;
 mod selected;
 mod status;
+mod walking;
 mod walks;
 
 ghost use Rattle.std.specs.Prelude.{◌≡◌};
@@ -38,10 +39,14 @@ pub use answers::{jsonpath_count, jsonpath_exists, jsonpath_lines};
 pub use bytes::{jsonpath_count_in, jsonpath_exists_in, jsonpath_lines_in};
 pub use check::{jsonpath_check, jsonpath_hint, jsonpath_message};
 pub use compiled::Compiled;
-pub use documents::{jsonpath_document_free, jsonpath_document_new, jsonpath_document_share};
+pub use documents::{
+    jsonpath_document_free, jsonpath_document_message, jsonpath_document_new,
+    jsonpath_document_share,
+};
 pub use handle::document::{Document, DocumentHandle, DocumentRef};
 pub use handle::nodes::{Nodes, NodesHandle, NodesRef};
 pub use handle::path::{PathHandle, PathRef};
+pub use handle::walk::{HeldWalk, WalkHandle};
 pub use limits::Limits;
 pub use lines::{jsonpath_locations, jsonpath_report, jsonpath_values};
 pub use node::Node;
@@ -54,6 +59,7 @@ pub use paths::{
     jsonpath_path_text,
 };
 pub use refusal::Refusal;
+pub use walking::{jsonpath_walk_free, jsonpath_walk_new, jsonpath_walk_next};
 
 /// The version, of 0.7.2.
 const VERSION: u32 = 702;

@@ -83,8 +83,8 @@ pub struct DocumentError {
 }
 
 impl DocumentFault {
-    /// The fault in words.
-    fn message(&self) -> &'static str
+    /// The fault in words, as `a comma with nothing after it`.
+    pub fn message(&self) -> &'static str
         ensures { result.now ≡ message_of self.now }
     {
         match self {

@@ -32,13 +32,20 @@ pub trait Handle: Sized {
         replace(self, empty).into_nullable().into_box(alloc)
     }
 
+    /// Holds what a box has, in place of what was held, which is freed. Takes no memory.
+    final fn put(&mut self, alloc: Global, value: Box<Self::Held>)
+        ensures { holds self.new ≡ Some value.value }
+    {
+        let full = Self::of(NullableBox::of(value));
+        drop(replace(self, full).into_nullable().into_box(alloc));
+    }
+
     /// Holds a value, in place of what was held, which is freed.
     final fn hold(&mut self, alloc: Global, value: Self::Held) -> Result<(), AllocError>
         ensures held { IfOk result (λ _. holds self.new ≡ Some value) }
         ensures kept { IfErr result (λ _. holds self.new ≡ holds self.old) }
     {
-        let full = Self::of(NullableBox::of(Box::new(alloc, value)?));
-        drop(replace(self, full).into_nullable().into_box(alloc));
+        self.put(alloc, Box::new(alloc, value)?);
         Ok(())
     }
 }

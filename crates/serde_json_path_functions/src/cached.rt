@@ -59,7 +59,8 @@ impl PatternStore {
 /// The patterns that a set keeps.
 #[derive(Drop)]
 struct KeptPatterns<'p> {
-    store: &'p PatternStore,
+    /// Where patterns are put whose matchers are kept, if they are.
+    store: Option<&'p PatternStore>,
     /// Those that were asked first, until the store is full.
     matchers: Vec<PatternMatcher<'p>>,
     /// The others, the one last asked at the end.
@@ -108,13 +109,17 @@ impl<'p> KeptPatterns<'p> {
         let _ = self.recent.push(pattern);
     }
 
-    /// Keeps a pattern with a matcher, or as the last used if the store is full. If memory for the matcher is refused, the
-    /// pattern stays in the store unused, and a later call reads it again.
+    /// Keeps a pattern with a matcher, or as the last used if the store is full or there is none. If memory for the matcher is
+    /// refused, the pattern stays in the store unused, and a later call reads it again.
     ///
     /// Not inlined: a matcher is large, and would widen the caller's stack frame.
     #[inline(never)]
     fn keep(&mut self, alloc: Global, pattern: ReadPattern) {
-        match self.store.put(pattern) {
+        let put = match self.store {
+            Some(store) => store.put(pattern),
+            None => Err(pattern),
+        };
+        match put {
             Ok(None) => {}
             Ok(Some(pattern)) => {
                 if let Ok(matcher) = PatternMatcher::new(alloc, pattern) {
@@ -174,7 +179,19 @@ impl<'p> CachedPatterns<'p> {
     pub fn new(alloc: Global, store: &'p PatternStore) -> CachedPatterns<'p> {
         CachedPatterns {
             kept: RefCell::new(KeptPatterns {
-                store,
+                store: Some(store),
+                matchers: Vec::new(alloc),
+                recent: Vec::new(alloc),
+            }),
+        }
+    }
+
+    /// The functions without a store, which borrow nothing: the last eight patterns are kept, without their matchers. Takes no
+    /// memory.
+    pub fn without_store(alloc: Global) -> CachedPatterns<'static> {
+        CachedPatterns {
+            kept: RefCell::new(KeptPatterns {
+                store: None,
                 matchers: Vec::new(alloc),
                 recent: Vec::new(alloc),
             }),

@@ -61,10 +61,13 @@ fn answer_to(alloc: Global, name: &str, given: &str) -> Came
     let (text, pattern) = fields(given)?;
     let store = PatternStore::new();
     let kept = CachedPatterns::new(alloc, &store);
+    let storeless = CachedPatterns::without_store(alloc);
     let mut answer = told(alloc, &Builtin, name, arguments(alloc, text, pattern)?)?;
     for _ in 0..2 {
         let args = arguments(alloc, text, pattern)?;
         answer = alike(answer, told(alloc, &kept, name, args)?)?;
+        let args = arguments(alloc, text, pattern)?;
+        answer = alike(answer, told(alloc, &storeless, name, args)?)?;
     }
     Ok(answer)
 }
