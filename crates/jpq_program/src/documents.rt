@@ -16,7 +16,7 @@ use crate::inputs::Inputs;
 use crate::refusal::push_document_refusal;
 use crate::source::{Source, shown_name};
 use crate::streams::{Next, Stop, Streams};
-use jsonpath_document::{DocumentError, read_document};
+use jsonpath_document::{DocumentError, DocumentFault, read_document};
 use serde_json::Value;
 use serde_json_path::DocumentReader;
 use std::alloc::Global;
@@ -69,10 +69,20 @@ fn document_of(line: &[u8]) -> &[u8]
 const ONLY_BEGUN: &str =
     "line 1 is only the beginning of a document (is it one document? leave out -L)";
 
+/// Whether bytes are the beginning of a document, and end there.
+fn is_only_begun(alloc: Global, bytes: &[u8]) -> bool {
+    match read_document(alloc, bytes) {
+        Ok(_) => false,
+        Err(e) => e.fault == DocumentFault::CutShort,
+    }
+}
+
 /// Whether an input has no lines that are documents, as its first one shows: it is compressed or UTF-16, or only the beginning of
-/// a document, since it ends by what no document ends by.
-fn is_no_line(line: &[u8]) -> bool {
-    encoding_of(line).is_some() || matches!(line.trim_ascii().last(), Some(b'[' | b'{' | b','))
+/// a document. Only a line that ends by what no document ends by is read for that.
+fn is_no_line(alloc: Global, line: &[u8]) -> bool {
+    encoding_of(line).is_some()
+        || (matches!(line.trim_ascii().last(), Some(b'[' | b'{' | b','))
+            && is_only_begun(alloc, without_mark(line)))
 }
 
 impl Documents<'_> {
@@ -280,7 +290,7 @@ impl Documents<'_> {
                     self.tell_more_lines(name, streams)?;
                     return Ok(Next::More);
                 }
-                Ok(_) if number == 1 && is_no_line(&line) => {
+                Ok(_) if number == 1 && is_no_line(self.alloc, &line) => {
                     return self.refuse_lines(name, &line, streams);
                 }
                 Ok(_) => {

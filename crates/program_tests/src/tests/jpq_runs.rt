@@ -117,6 +117,7 @@ const TOLD: &[&str] = &[
     "-v  $ ~ [1,\n -> 2: , told jpq: standard input: line 2, column 1: the document ends too soon~",
     "-L  -v  $.a ~ {\n  \"a\": 1\n} -> 2: , told jpq: standard input: line 1 is only the beginning of a document (is it one document? leave out -L)~",
     "-L  -v  $ ~ {\"a\": [\n  1\n]} -> 2: , told jpq: standard input: line 1 is only the beginning of a document (is it one document? leave out -L)~",
+    "-L  -v  $.a ~ {\"a\":1},\n{\"a\":2}\n -> 2: 2~, told jpq: standard input: line 1, column 8: not JSON~  {\"a\":1},~         ^~",
     "-L  -v  $  book.json.gz -> 2: , told jpq: book.json.gz: compressed by gzip (unpack it with gzip -dc)~",
     "-L  -v  $  little.json  one.json -> 2: one.json\t{\"a\":1}~, told jpq: little.json: UTF-16, where JSON is UTF-8 (convert it with iconv -f UTF-16 -t UTF-8)~",
     "-L  -v  $.a ~ \n{\n -> 2: , told jpq: standard input: line 2, column 2: the document ends too soon~  {~   ^~",
