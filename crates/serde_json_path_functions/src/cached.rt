@@ -1,8 +1,10 @@
 //! The built-in functions, which keep the patterns that they read.
 
-ghost use Rattle.std.specs.Prelude.{◌≡◌, IfOk, IfSome, Err};
+ghost use Rattle.std.specs.Prelude.{◌≡◌, ◌≤◌, IfOk, IfSome, Err, vec_len};
 ghost use Rattle.serde_json_path_functions.specs.Words.{IsReadable, builtin_functions, matching_view, IsOf};
+ghost use Rattle.serde_json_path_functions.specs.Kept.{IsKeptLast, IsTakenOf};
 ghost use Rattle.serde_json_path_functions.specs.Patterns as spec;
+ghost use Rattle.serde_json_path_functions.specs.declared.cached.TheConstants.{MOST_MATCHERS, MOST_RECENT};
 ghost use Rattle.serde_json_path_functions.specs.declared.error.QueryError.TheVariants.{Pattern};
 
 use crate::builtin::{Builtin, answer_by};
@@ -65,6 +67,8 @@ struct KeptPatterns<'p> {
     matchers: Vec<PatternMatcher<'p>>,
     /// The others, the one last asked at the end.
     recent: Vec<ReadPattern>,
+    ghost few_matchers: { vec_len matchers ≤ MOST_MATCHERS },
+    ghost few_recent: { vec_len recent ≤ MOST_RECENT },
 }
 
 impl<'p> KeptPatterns<'p> {
@@ -89,6 +93,8 @@ impl<'p> KeptPatterns<'p> {
         pattern: &str,
     ) -> Result<ReadPattern, QueryError>
         ensures of { IfOk result (IsOf (matching_view matching) pattern.now) }
+        ensures taken { IfOk result (λ read.
+            IsTakenOf read self.old.recent.items self.new.recent.items) }
         ensures refused { result ≡ Err Pattern
             → IsReadable (spec.built_text (matching_view matching) pattern.now) }
     {
@@ -102,7 +108,9 @@ impl<'p> KeptPatterns<'p> {
 
     /// Keeps a pattern as the last used. If there are too many, the least recently used one is dropped. If memory is refused,
     /// the pattern is not kept.
-    fn keep_recent(&mut self, pattern: ReadPattern) {
+    fn keep_recent(&mut self, pattern: ReadPattern)
+        ensures { IsKeptLast pattern self.old.recent.items self.new.recent.items }
+    {
         if self.recent.len() >= MOST_RECENT {
             drop(self.recent.remove(0));
         }
@@ -116,8 +124,8 @@ impl<'p> KeptPatterns<'p> {
     #[inline(never)]
     fn keep(&mut self, alloc: Global, pattern: ReadPattern) {
         let put = match self.store {
-            Some(store) => store.put(pattern),
-            None => Err(pattern),
+            Some(store) if self.matchers.len() < MOST_MATCHERS => store.put(pattern),
+            _ => Err(pattern),
         };
         match put {
             Ok(None) => {}
