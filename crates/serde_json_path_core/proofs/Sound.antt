@@ -1,5 +1,5 @@
 -- The parts of a sound query are sound.
-use Rattle.serde_json_path_core.proofs.Words.{nat_tests, common_steps, ◌≡◌, ℕ, zero, suc, ◌<◌, ◌≤◌, ◌&&◌, List, [], ◌∷◌, ◌++◌, Bool, true, length, get_or, slice_get, Option, Some, sym, subst, arith, ap, ◌∙◌, none-some, same_Some, Query, query, Segments, segments_of, Segment, dot_name, dot_wildcard, long_hand, Selectors, no_selectors, selector, Selector, name, wildcard, Operator, LogicalOr, no_or, or, no_and, and, Basic, relation, Operand, Call, call, FunctionSet, Signature, Kind, Fits, IsTyped, AreTypedSegments, IsTypedSegment, AreTypedSelectors, IsTypedSelector, IsTypedOr, IsTypedAnd, IsTypedBasic, IsTypedComparable, IsTypedCall, AreTypedArguments, arguments_of, calls_of, calls_in_segments, calls_in_segment, calls_in_selectors, calls_in_selector, calls_in_or, calls_in_and, calls_in_basic, calls_in_operand, calls_from, calls_in_arguments, calls_in_argument, name_of, IsIn, parts_bound, EndsIn, Branch, argument_in, arguments_in, branch_in, branches_named, segment_in, segments_in, and_in, ors_in, basic_in, ands_in, selectors_list, selectors_of, params_of, each_is, is_segment, is_and, is_basic, is_argument, one_of, and_parts, ∥∥₁_elim, AreCallsOf, IsSound, Part, ∥∥₁_map₂, fits_each, found_in, in_from, signature_in, typed_recovered, typed_by_names}
+use Rattle.serde_json_path_core.proofs.Words.{nat_tests, common_steps, ◌≡◌, ℕ, zero, suc, ◌<◌, ◌≤◌, ◌&&◌, List, [], ◌∷◌, ◌++◌, Bool, true, length, get_or, slice_get, Option, Some, sym, subst, arith, ap, ◌∙◌, none-some, same_Some, Query, query, Segments, segments_of, Segment, dot_name, dot_wildcard, long_hand, Selectors, no_selectors, selector, Selector, name, wildcard, Operator, LogicalAnd, LogicalOr, no_or, or, and, Basic, relation, Operand, Call, call, FunctionSet, Signature, Kind, Fits, IsTyped, AreTypedSegments, IsTypedSegment, AreTypedSelectors, IsTypedSelector, IsTypedOr, IsTypedAnd, IsTypedBasic, IsTypedComparable, IsTypedCall, AreTypedArguments, arguments_of, calls_of, calls_in_segments, calls_in_segment, calls_in_selectors, calls_in_selector, calls_in_or, calls_in_and, calls_in_basic, calls_in_operand, calls_from, calls_in_arguments, calls_in_argument, name_of, IsIn, parts_bound, EndsIn, Branch, argument_in, arguments_in, branch_in, branches_named, segment_in, segments_in, and_in, ors_in, basic_in, ands_in, selectors_list, selectors_of, params_of, each_is, is_segment, is_and, is_basic, is_argument, one_of, and_parts, ∥∥₁_elim, AreCallsOf, IsSound, Part, ∥∥₁_map₂, fits_each, found_in, in_from, signature_in, typed_recovered, typed_by_names}
 use Rattle.serde_json_path_syntax.proofs.Names.Once.{of_both}
 use mathlib.Core.List.{is_set}
 use mathlib.Core.Sum.{⊎_set}
@@ -91,10 +91,10 @@ module _ (F : FunctionSet) (q : Query) where
       → IsSound F q IsTypedBasic calls_in_basic b → IsSound F q IsTypedComparable calls_in_operand x × IsSound F q IsTypedComparable calls_in_operand y
   sound-relation x op y b is sound = grind (arith, nat_tests, common_steps, both-calls)
 
-  -- the same of an expression that consists of it
-  pub sound-sides : (e : LogicalOr) (x : Operand) (op : Operator) (y : Operand) → e ≡ or (and (relation x op y) no_and) no_or
-      → IsSound F q IsTypedOr calls_in_or e → IsSound F q IsTypedComparable calls_in_operand x × IsSound F q IsTypedComparable calls_in_operand y
-  sound-sides e x op y is sound = grind (arith, nat_tests, common_steps, both-calls, sound-relation)
+  -- the same of an expression that begins with it, and what comes after it
+  pub sound-sides : (e : LogicalOr) (x : Operand) (op : Operator) (y : Operand) (more : LogicalAnd) → e ≡ or (and (relation x op y) more) no_or
+      → IsSound F q IsTypedOr calls_in_or e → IsSound F q IsTypedComparable calls_in_operand x × IsSound F q IsTypedComparable calls_in_operand y × IsSound F q IsTypedAnd calls_in_and more
+  sound-sides e x op y more is sound = grind (arith, nat_tests, common_steps, both-calls, sound-relation)
 
   sound-bracketed : (sels : Selectors) (n : ℕ) (sel : Selector) → slice_get (selectors_list sels) n ≡ Some sel
       → IsSound F q AreTypedSelectors calls_in_selectors sels → IsSound F q IsTypedSelector calls_in_selector sel

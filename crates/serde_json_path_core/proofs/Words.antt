@@ -6,7 +6,7 @@ pub use Rattle.serde_json.specs.Events.{items_len}
 pub use Rattle.serde_json.specs.declared.value.Value.TheVariants.{Null}
 pub use Rattle.serde_json_path_core.specs.Derivation.{Before, BelongsTo, SelectedBefore, SelectedBeforeBy, SelectedBeforeIn, Triple, TripleBefore, beneath, location_of, start_of}
 pub use Rattle.serde_json_path_core.specs.Inside.Rest.{IsAtAdmitted, IsAtArrival, IsAtNode, IsKept, Passes, Skips}
-pub use Rattle.serde_json_path_core.specs.Inside.Words.{Admits, AdmitsBy, AdmitsIn, AllStandIn, Answers, AnswersYes, AreArguments, AreEqual, AreEqualAmounts, AreEqualExact, AreOfKind, AreRisingAmounts, AreRisingExact, AreSingular, AreTypedArguments, AreTypedSegments, AreTypedSelectors, Argument, Arguments, Basic, Call, CallsByPattern, ComesTo, Compared, Compares, Data, Derives, DescentBefore, EndsIn, EqualData, EqualItems, EqualMembers, EqualNumbers, EqualSides, Exists, Fits, Frame, FunctionSet, Holds, HoldsAll, HoldsBasic, HoldsTest, IsArgument, IsAtChild, IsAtStart, IsChain, IsComparedAs, IsDone, IsHeight, IsInside, IsLess, IsOfKind, IsOfValue, IsPositionOf, IsResult, IsSameFrame, IsSingular, IsSingularSegment, IsSound, IsStack, IsStackIn, IsTakenAs, IsTruthOf, IsTyped, IsTypedAnd, IsTypedArgument, IsTypedBasic, IsTypedCall, IsTypedComparable, IsTypedOperand, IsTypedOr, IsTypedSegment, IsTypedSelector, Items, KeepsTypes, Kind, Located, LogicalAnd, LogicalOr, MayDescend, Members, Node, NotIf, Num, Numbers, Operand, Operator, Pattern, Query, QueryKind, RisingSides, Segment, SegmentKind, Segments, SelectOnly, Selector, Selectors, SelectsIndex, SelectsPosition, Signature, Slice, SlicePositions, Sound, SoundComparable, SoundTest, Stage, StandsIn, Step, StepBefore, Term, admitted, all_numbers, all_true, amount_of, and, and_at, and_in, ands_in, answer, answer_compared, answer_holds, any_holds, are_singular, are_taken, argument, argument_as, argument_in, arguments, arguments_in, array, arrival_view, arrivals, as_integer, at, at_positions, basic_at, basic_in, basic_true, begun, below_member, billionths, boolean, bound_of, branch_at, branch_in, branches, branches_named, by_name, by_position, call, call_at, called, candidate_values, candidates, child, child_at, child_by, child_view, children, chosen, chosen_by, comes_before, compare, compare_sides, compared, compared_at, compared_by, count_within, current, cursor_left, descendant, descents, document_of, dot_name, dot_wildcard, each_is, entered, entering, equal, exact_of, falling, filter, first_value, float, form_bound, frame_arrivals, frame_view, frames_view, from_end, get, get_item, get_member, greater, greater_or_equal, here, in_order, index, int_eq, is_and, is_answered, is_argument, is_basic, is_comparable, is_given, is_leaf, is_lt, is_nonempty, is_same, is_segment, is_single, is_taken, is_tested, is_true, item, item_at, items_descents, items_from, items_view, itself, kind_of, kind_of_term, kind_view, last_passed, less, less_or_equal, literal, literal_compared, located, logical, logical_argument, long_hand, lower, match_ordering, member, members_all, members_descents, members_view, name, next_position, no_and, no_arguments, no_items, no_members, no_or, no_segments, no_selectors, node_value, nodes, nodes_in, nodes_of, not_equal, not_if, nothing, null, number, number_view, numbers_view, object, of_both, of_logical, of_nodes, of_value, opened, operand, operand_as, operand_at, operator_view, or, or_at, ordering_reverse, ors_in, params_of, paren, part_query, parts_bound, passed, placed, position_in, positions_by, positions_left, put, queried, query, query_kind_view, query_of, reached, relation, rest, rest_of, result_kind, results, results_from, rising, rising_sides, root, rule_of, same_data, same_items, same_members, same_number, same_sides, segment, segment_in, segment_kind_in, segment_kind_view, segments_at, segments_in, segments_of, selected, selector, selector_bound, selector_view, selectors_list, selectors_of, set_of, signatures_of, single_view, slice, slice_cmp, slice_view, sliced, stack_path, stage_at, stage_of, stages, stages_at, step_of, step_view, steps_of, strided, string, term_view, test, test_true, top_of, tree_of, unfiltered, value, value_compared, values_from, view, view_step, visit, visit_place, visit_rest, visit_stack, whole_numbers, whole_of, wildcard, with_rule, without_node, work}
+pub use Rattle.serde_json_path_core.specs.Inside.Words.{Admits, AdmitsBy, AdmitsIn, AllStandIn, Answers, AnswersYes, AreArguments, AreEqual, AreEqualAmounts, AreEqualExact, AreOfKind, AreRisingAmounts, AreRisingExact, AreSingular, AreTypedArguments, AreTypedSegments, AreTypedSelectors, Argument, Arguments, Basic, Call, CallsByPattern, ComesTo, Compared, Compares, Data, Derives, DescentBefore, EndsIn, EqualData, EqualItems, EqualMembers, EqualNumbers, EqualSides, Exists, Fits, Frame, FunctionSet, Holds, HoldsAll, HoldsBasic, HoldsTest, IsArgument, IsAtChild, IsAtStart, IsChain, IsComparedAs, IsDone, IsHeight, IsInside, IsLess, IsOfKind, IsOfValue, IsPositionOf, IsResult, IsSameFrame, IsSingular, IsSingularSegment, IsSound, IsStack, IsStackIn, IsTakenAs, IsTruthOf, IsTyped, IsTypedAnd, IsTypedArgument, IsTypedBasic, IsTypedCall, IsTypedComparable, IsTypedOperand, IsTypedOr, IsTypedSegment, IsTypedSelector, Items, KeepsTypes, Kind, Located, LogicalAnd, LogicalOr, MayDescend, Members, Node, NotIf, Num, Numbers, Operand, Operator, Pattern, Query, QueryKind, RisingSides, Segment, SegmentKind, Segments, SelectOnly, Selector, Selectors, SelectsIndex, SelectsPosition, Signature, Slice, SlicePositions, Sound, SoundComparable, SoundTest, Stage, StandsIn, Step, StepBefore, Term, admitted, all_hold, all_numbers, all_true, amount_of, and, and_at, and_in, ands_in, answer, answer_compared, answer_holds, any_holds, are_singular, are_taken, argument, argument_as, argument_in, arguments, arguments_in, array, arrival_view, arrivals, as_integer, at, at_positions, basic_at, basic_in, basic_true, begun, below_member, billionths, boolean, bound_of, branch_at, branch_in, branches, branches_named, by_name, by_position, call, call_at, called, candidate_values, candidates, child, child_at, child_by, child_view, children, chosen, chosen_by, comes_before, compare, compare_sides, compared, compared_at, compared_by, count_within, current, cursor_left, descendant, descents, document_of, dot_name, dot_wildcard, each_is, entered, entering, equal, exact_of, falling, filter, first_value, float, form_bound, frame_arrivals, frame_view, frames_view, from_end, get, get_item, get_member, greater, greater_or_equal, here, in_order, index, int_eq, is_and, is_answered, is_argument, is_basic, is_comparable, is_given, is_leaf, is_lt, is_nonempty, is_same, is_segment, is_single, is_taken, is_tested, is_true, item, item_at, items_descents, items_from, items_view, itself, kind_of, kind_of_term, kind_view, last_passed, less, less_or_equal, literal, literal_compared, located, logical, logical_argument, long_hand, lower, match_ordering, member, members_all, members_descents, members_view, name, next_position, no_and, no_arguments, no_items, no_members, no_or, no_segments, no_selectors, node_value, nodes, nodes_in, nodes_of, not_equal, not_if, nothing, null, number, number_view, numbers_view, object, of_both, of_logical, of_nodes, of_value, opened, operand, operand_as, operand_at, operator_view, or, or_at, ordering_reverse, ors_in, params_of, paren, part_query, parts_bound, passed, placed, position_in, positions_by, positions_left, put, queried, query, query_kind_view, query_of, reached, relation, rest, rest_of, result_kind, results, results_from, rising, rising_sides, root, rule_of, same_data, same_items, same_members, same_number, same_sides, segment, segment_in, segment_kind_in, segment_kind_view, segments_at, segments_in, segments_of, selected, selector, selector_bound, selector_view, selectors_list, selectors_of, set_of, signatures_of, single_view, slice, slice_cmp, slice_view, sliced, stack_path, stage_at, stage_of, stages, stages_at, step_of, step_view, steps_of, strided, string, term_view, test, test_true, top_of, tree_of, unfiltered, value, value_compared, values_from, view, view_step, visit, visit_place, visit_rest, visit_stack, whole_numbers, whole_of, wildcard, with_rule, without_node, work}
 pub use Rattle.serde_json_path_core.specs.Laws.{AreChildren, AreResultsAt, AreSubtreeResults, with_segment}
 pub use Rattle.serde_json_path_core.specs.declared.child.Child.{Child}
 pub use Rattle.serde_json_path_core.specs.declared.evaluation.frame.Arrival.{Arrival}

@@ -1,4 +1,4 @@
-use Rattle.serde_json_path_core.proofs.Words.{nat_tests, ◌≡◌, ◌+◌, length, map, take, [], drop, option_map, get_or, true, false, MatchOption, None, refl, sym, subst, ap, ◌∙◌, arith, ◌∷◌, ◌++◌, ◌⊎◌, inl, inr, rules, append_assoc, Option, Some, List, slice_get, slice_get_within, get_or_default, map-append, common_steps, length-set, ∥∥₁_map, iter_rest, Data, view, Located, node_value, Passes, child, descendant, cursor_left, segment_kind_view, segment_in, segments_at, branch_at, basic_at, operand_at, call_at, branches, operator_view, term_view, StandsIn, Sound, IsTypedAnd, AreTypedArguments, calls_in_and, name_of, arguments_of, nodes_of, top_of, frame_view, frames_view, admitted, rest_of, IsStack, IsStackIn, IsInside, selector_view, stage_at, stages_at, child_view, IsIn, within_get, within_bound, below_length, past_length, signatures_of, params_of, Step, EndsIn, AllStandIn, FunctionSet, LogicalOr, filter, or_at, kind_view, query_of, set_of, Child}
+use Rattle.serde_json_path_core.proofs.Words.{nat_tests, ◌≡◌, ◌+◌, length, map, take, [], drop, option_map, get_or, true, false, MatchOption, None, refl, sym, subst, ap, ◌∙◌, arith, ◌∷◌, ◌++◌, ◌⊎◌, inl, inr, rules, append_assoc, Option, Some, List, slice_get, slice_get_within, get_or_default, map-append, common_steps, length-set, ∥∥₁_map, iter_rest, Data, view, Located, node_value, Passes, child, descendant, cursor_left, segment_kind_view, segment_in, segments_at, branch_at, basic_at, operand_at, call_at, branches, operator_view, term_view, StandsIn, AreTypedArguments, name_of, arguments_of, nodes_of, top_of, frame_view, frames_view, admitted, rest_of, IsStack, IsStackIn, IsInside, selector_view, stage_at, stages_at, child_view, IsIn, within_get, within_bound, below_length, past_length, signatures_of, params_of, Step, EndsIn, AllStandIn, FunctionSet, LogicalOr, filter, or_at, kind_view, query_of, set_of, Child}
 use Rattle.serde_json_path_core.specs.Inside.Evaluates.{IsKept}
 use Rattle.serde_json_path_core.specs.Inside.Computed as computed
 use Rattle.serde_json_path_core.specs.Inside.Rest as advances
@@ -272,15 +272,13 @@ filter::logic::any_holds-and_holds-requires g t c =
     let sound = sound-and (set_of scope) (query_of scope) (branches (nodes_of scope)) parts i (record { number = 0 }) c.loop-operand-test.true c.requires.sound in
     search rules
 
-pub filter::logic::and_holds-basic_holds-requires : goal.filter::logic::and_holds-basic_holds-requires
-filter::logic::and_holds-basic_holds-requires g t c =
+pub filter::logic::all_hold-basic_holds-requires : goal.filter::logic::all_hold-basic_holds-requires
+filter::logic::all_hold-basic_holds-requires g t c =
     let scope = c.args.scope.now in
-    let parts = c.and_parts-part-items.result.now in
+    let parts = c.args.operands.now in
     let i = c.loop-part.part-index in
     let below = within_get parts i (record { number = 0 }) c.loop-part-test.true in
-    let sound =
-    sound-basic (set_of scope) (query_of scope) (branches (nodes_of scope)) parts i (record { number = 0 }) c.loop-part-test.true
-    (c.and_parts-part-items.ensures.are, subst (Sound scope IsTypedAnd calls_in_and) c.and_parts-part-items.ensures.tree c.requires.sound.1) in
+    let sound = sound-basic (set_of scope) (query_of scope) (branches (nodes_of scope)) parts i (record { number = 0 }) c.loop-part-test.true c.requires.sound in
     search rules
 
 pub filter::logic::basic_holds-relation_holds-requires : goal.filter::logic::basic_holds-relation_holds-requires

@@ -1,4 +1,4 @@
-use Rattle.serde_json_path_core.proofs.Words.{◌≡◌, ◌+◌, ◌-◌, ◌*◌, ◌≤◌, ◌++◌, drop, length, map, max, AreOfKind, is_argument, iter_rest, view, Located, node_value, kind_of_term, term_view, arguments_of, calls_in_arguments, name_of, AreTypedArguments, params_of, and_at, ands_in, arguments_in, call_at, branches, branches_named, segments_at, parts_bound, selector_bound, cursor_left, rest_of, work, IsStackIn, Passes, values_from, stage_at, stages_at, Sound, nodes_of, top_of, frame_view, frames_view, kind_view, form_bound, any_holds, IsKept, set_of, Filter}
+use Rattle.serde_json_path_core.proofs.Words.{◌≡◌, ◌+◌, ◌-◌, ◌*◌, ◌≤◌, ◌++◌, drop, length, map, max, AreOfKind, is_argument, iter_rest, view, Located, node_value, kind_of_term, term_view, arguments_of, calls_in_arguments, name_of, AreTypedArguments, params_of, arguments_in, call_at, branches, branches_named, segments_at, parts_bound, selector_bound, cursor_left, rest_of, work, IsStackIn, Passes, values_from, stage_at, stages_at, Sound, nodes_of, top_of, frame_view, frames_view, kind_view, form_bound, any_holds, all_hold, IsKept, set_of, Filter}
 use Rattle.serde_json_path_core.specs.Inside.Computed as computed
 use Rattle.serde_json_path_core.specs.Inside.Evaluates.{Skips}
 use Rattle.serde_json_path_core.proofs.+evaluation.Given as goal
@@ -12,6 +12,12 @@ decreases-filter::logic::any_holds g l = 8 * parts_bound l.operands.now + 4
 abbrev pub decreases-filter::logic::and_holds : goal.decreases-filter::logic::and_holds
 decreases-filter::logic::and_holds g l = 8 * l.expression.number + 5
 
+abbrev pub decreases-filter::logic::all_hold : goal.decreases-filter::logic::all_hold
+decreases-filter::logic::all_hold g l = 8 * parts_bound l.operands.now + 4
+
+abbrev pub decreases-filter::logic::others_hold : goal.decreases-filter::logic::others_hold
+decreases-filter::logic::others_hold g l = 8 * parts_bound l.operands.now + 5
+
 abbrev pub decreases-filter::logic::basic_holds : goal.decreases-filter::logic::basic_holds
 decreases-filter::logic::basic_holds g l = 8 * l.expression.number + 5
 
@@ -19,7 +25,10 @@ abbrev pub decreases-filter::logic::relation_holds : goal.decreases-filter::logi
 decreases-filter::logic::relation_holds g l = 8 * max l.left.number l.right.number + 3
 
 abbrev pub decreases-filter::logic::compares : goal.decreases-filter::logic::compares
-decreases-filter::logic::compares g l = 8 * max (form_bound l.comparison.now.left) (form_bound l.comparison.now.right) + 2
+decreases-filter::logic::compares g l = 8 * max (max (form_bound l.comparison.now.left) (form_bound l.comparison.now.right)) (parts_bound l.comparison.now.others.now) + 6
+
+abbrev pub decreases-filter::logic::first_compares : goal.decreases-filter::logic::first_compares
+decreases-filter::logic::first_compares g l = 8 * max (form_bound l.comparison.now.left) (form_bound l.comparison.now.right) + 2
 
 abbrev pub decreases-filter::logic::answer_compares : goal.decreases-filter::logic::answer_compares
 decreases-filter::logic::answer_compares g l = 8 * max (l.call.number + 1) (form_bound l.right) + 1
@@ -79,10 +88,9 @@ abbrev pub invariant-filter::logic::any_holds-loop-operand : goal.invariant-filt
 invariant-filter::logic::any_holds-loop-operand g l =
     any_holds l.fn.scope l.fn.operands (view l.fn.current) ≡ any_holds l.scope (drop l.operand-index l.operands) (view l.current)
 
-abbrev pub invariant-filter::logic::and_holds-loop-part : goal.invariant-filter::logic::and_holds-loop-part
-invariant-filter::logic::and_holds-loop-part g l =
-    computed.all_true (set_of l.fn.scope) (top_of l.fn.scope) (and_at (nodes_of l.fn.scope) l.fn.expression) (view l.fn.current)
-    ≡ computed.all_true (set_of l.scope) (top_of l.scope) (ands_in (branches_named (branches (nodes_of l.scope)) (drop l.part-index l.part-items))) (view l.current)
+abbrev pub invariant-filter::logic::all_hold-loop-part : goal.invariant-filter::logic::all_hold-loop-part
+invariant-filter::logic::all_hold-loop-part g l =
+    all_hold l.fn.scope l.fn.operands (view l.fn.current) ≡ all_hold l.scope (drop l.part-index l.operands) (view l.current)
 
 abbrev pub invariant-evaluation::frame::Frame::next_arrival-loop-selector_ref : goal.invariant-evaluation::frame::Frame::next_arrival-loop-selector_ref
 invariant-evaluation::frame::Frame::next_arrival-loop-selector_ref g l =

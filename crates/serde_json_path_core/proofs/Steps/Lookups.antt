@@ -1,5 +1,5 @@
 -- What the code looks up: names of a map in order, operands, and known cases.
-use Rattle.serde_json_path_core.proofs.Words.{nat_tests, common_steps, ◌≡◌, Option, Some, None, MatchOption, Result, Ok, Err, IfErr, subst, List, ◌∷◌, Bool, true, false, ap, [], String, Global, Less, string_cmp, string_bytes, ◌<◌, ◌≤◌, length, slice_index_or, ◌&&◌, ◌||◌, refl, ◌∙◌, arith, ℕ, get_or, ℤ, option_and_then, option_map, Equal, nat_cmp, is_eq, sym, AllByRecursion, keys_of, members_view, Entry, in_order, Data, FunctionSet, LogicalOr, no_or, or, no_and, and, relation, Operand, Operator, and_in, ands_in, basic_in, ors_in, branch_in, branches_named, Branch, Part, compare_sides, compared, is_true, slice_cmp, is_at, lookup, is_eq-slice_cmp, bytes_eq-Decides, object, array, view, items_view, Value, view-lookup, get_item_within, get_item_past, items_len-items_view, Step, by_name, by_position, child_by, item_at, position_in, IsStrictlySortedBy, view-Array}
+use Rattle.serde_json_path_core.proofs.Words.{nat_tests, common_steps, ◌≡◌, Option, Some, None, MatchOption, Result, Ok, Err, IfErr, subst, List, ◌∷◌, Bool, true, false, ap, [], String, Global, Less, string_cmp, string_bytes, ◌<◌, ◌≤◌, length, slice_index_or, ◌&&◌, ◌||◌, refl, ◌∙◌, arith, ℕ, get_or, ℤ, option_and_then, option_map, Equal, nat_cmp, is_eq, sym, AllByRecursion, keys_of, members_view, Entry, in_order, Data, FunctionSet, LogicalAnd, LogicalOr, all_true, drop, take, take_all, ◌-◌, and_parts, each_is, is_basic, parts_bound, no_or, or, no_and, and, relation, Operand, Operator, and_in, ands_in, basic_in, ors_in, branch_in, branches_named, Branch, Part, compare_sides, compared, is_true, slice_cmp, is_at, lookup, is_eq-slice_cmp, bytes_eq-Decides, object, array, view, items_view, Value, view-lookup, get_item_within, get_item_past, items_len-items_view, Step, by_name, by_position, child_by, item_at, position_in, IsStrictlySortedBy, view-Array}
 use Rattle.serde_json_path_core.proofs.Meaning.ChildSteps.{IsBelow, AreRising, in_order-rising}
 
 -- ---- what is so of an option whose case is known
@@ -28,22 +28,35 @@ rising_keys (e ∷ entries) sorted = (below_keys e.0 entries sorted.0, rising_ke
 pub in_order-members_view : (entries : List Entry) → IsStrictlySortedBy string_cmp (keys_of entries) → in_order (members_view entries) ≡ members_view entries
 in_order-members_view entries sorted = in_order-rising (members_view entries) (rising_keys entries sorted)
 
--- ---- logical expressions of one operand, which is a comparison
+-- ---- logical expressions that begin with a comparison, and have no `||`
 
--- an expression of one operand of `||` with one operand of `&&`, which is a comparison
-pub one-comparison : (ps : List Branch) (e : LogicalOr) (ors ands : List Part) (d : Part) (x : Operand) (op : Operator) (y : Operand)
-    → 1 ≤ length ors → length ors < 2 → 1 ≤ length ands → length ands < 2
+-- the parts after the first, as a slice has them
+abbrev pub rest_of_parts : List Part → List Part
+rest_of_parts parts = take (length parts - 1) (drop 1 parts)
+
+all_but_first : (parts : List Part) → rest_of_parts parts ≡ drop 1 parts
+all_but_first [] = refl
+all_but_first (part ∷ more) = take_all (length (part ∷ more) - 1) more (omega arith)
+
+pub leading-comparison : (ps : List Branch) (e : LogicalOr) (ors ands : List Part) (d : Part) (x : Operand) (op : Operator) (y : Operand)
+    → 1 ≤ length ors → length ors < 2 → 1 ≤ length ands
     → e ≡ ors_in (branches_named ps ors) → and_in (branch_in ps (slice_index_or ors 0 d).number) ≡ ands_in (branches_named ps ands)
-    → basic_in (branch_in ps (slice_index_or ands 0 d).number) ≡ relation x op y → e ≡ or (and (relation x op y) no_and) no_or
-one-comparison ps e ors ands d x op y some_or one_or some_and one_and is_or is_and is_basic = grind (arith, nat_tests, common_steps)
+    → basic_in (branch_in ps (slice_index_or ands 0 d).number) ≡ relation x op y → e ≡ or (and (relation x op y) (ands_in (branches_named ps (rest_of_parts ands)))) no_or
+leading-comparison ps e ors ands d x op y some_or one_or some_and is_or is_and is_basic = grind (arith, nat_tests, common_steps, all_but_first)
 
-alone : (b : Bool) → ((b && true) || false) ≡ b
+-- the operands of `&&` after it are some of its operands
+pub after-first : (ps : List Branch) (parts : List Part) → each_is is_basic (branches_named ps parts) ≡ true
+    → (each_is is_basic (branches_named ps (rest_of_parts parts)) ≡ true) × (parts_bound (rest_of_parts parts) ≤ parts_bound parts)
+after-first ps [] kind = (kind, omega arith)
+after-first ps (part ∷ more) kind = rw (all_but_first (part ∷ more)) ((and_parts (is_basic (branch_in ps part.number)) (each_is is_basic (branches_named ps more)) kind).1, omega arith)
+
+alone : (b : Bool) → (b || false) ≡ b
 alone b = grind (arith, nat_tests, common_steps)
 
--- it holds where the comparison does
-pub only-comparison : (F : FunctionSet) (top : Data) (e : LogicalOr) (x : Operand) (op : Operator) (y : Operand)
-    → e ≡ or (and (relation x op y) no_and) no_or → (v : Data) → is_true F top e v ≡ compare_sides F.numbers op (compared F top x v) (compared F top y v)
-only-comparison F top e x op y is v = ap (λ e. is_true F top e v) is ∙ alone (compare_sides F.numbers op (compared F top x v) (compared F top y v))
+-- it holds where the comparison and all others do
+pub led-by-comparison : (F : FunctionSet) (top : Data) (e : LogicalOr) (x : Operand) (op : Operator) (y : Operand) (more : LogicalAnd)
+    → e ≡ or (and (relation x op y) more) no_or → (v : Data) → is_true F top e v ≡ (compare_sides F.numbers op (compared F top x v) (compared F top y v) && all_true F top more v)
+led-by-comparison F top e x op y more is v = ap (λ e. is_true F top e v) is ∙ alone (compare_sides F.numbers op (compared F top x v) (compared F top y v) && all_true F top more v)
 
 -- ---- a look-up in a map or a vector finds what the same look-up in their data finds
 

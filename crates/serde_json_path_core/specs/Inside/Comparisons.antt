@@ -1,9 +1,9 @@
 -- Comparisons, by how their sides are found.
-use Rattle.std.specs.Prelude.{◌≡◌, ℕ, suc, ◌<◌, ◌≤◌, Bool, List, length, Option, Some, slice_get, true}
+use Rattle.std.specs.Prelude.{◌≡◌, ℕ, suc, ◌<◌, ◌≤◌, ◌&&◌, Bool, List, length, Option, Some, slice_get, true}
 use Rattle.serde_json_path_core.specs.Imports.{Data, of_value, Part, call_at, segments_at, are_singular, operator_view, Operator, parts_bound, result_kind}
 use Rattle.serde_json_path_core.specs.Compared.{Compared, value_compared}
 use Rattle.serde_json_path_core.specs.Inside.Computed.{answer_compared, compare_sides}
-use Rattle.serde_json_path_core.specs.Inside.Evaluates.{SoundCall, SoundSegments, answer_at, compared_at, or_holds, values_of_segments}
+use Rattle.serde_json_path_core.specs.Inside.Evaluates.{SoundBasics, SoundCall, SoundSegments, all_hold, answer_at, compared_at, or_holds, values_of_segments}
 use Rattle.serde_json_path_core.specs.Inside.Scopes.{nodes_of, set_of}
 use Rattle.serde_json_path_core.specs.Inside.Sides.{side_view}
 use Rattle.serde_json_path_core.specs.Inside.SingleChildren.{candidate_values, single_view}
@@ -36,6 +36,10 @@ compared_with scope left op right v = compare_sides (set_of scope).numbers op le
 abbrev pub holds_by : {F : Type 0} {g : _} → Scope F g → Comparison → Data → Bool
 holds_by scope comparison v = compared_with scope (compared_by scope comparison.left v) (operator_view comparison.operator) comparison.right v
 
+-- whether what has to hold besides does, too
+abbrev pub filter_holds_by : {F : Type 0} {g : _} → Scope F g → Comparison → Data → Bool
+filter_holds_by scope comparison v = holds_by scope comparison v && all_hold scope comparison.others.now v
+
 -- whether a comparison of two comparables holds
 abbrev pub relation_holds : {F : Type 0} {g : _} → Scope F g → Part → Operator → Part → Data → Bool
 relation_holds scope left op right v = compare_sides (set_of scope).numbers op (compared_at scope left v) (compared_at scope right v)
@@ -59,9 +63,10 @@ abbrev pub form_bound : SideForm → ℕ
 form_bound (Plain form) = 0
 form_bound (Called call) = suc call.number
 
--- the filter holds exactly where the comparison does
+-- the filter holds exactly where the comparison does, and what has to hold besides
 abbrev pub IsComparisonOf : {F : Type 0} {g : _} → Scope F g → Comparison → Part → Type 0
 IsComparisonOf scope comparison test =
-    ((v : Data) → or_holds scope test v ≡ holds_by scope comparison v)
+    ((v : Data) → or_holds scope test v ≡ filter_holds_by scope comparison v)
     × (form_bound comparison.left ≤ test.number) × (form_bound comparison.right ≤ test.number)
-    × SoundForm scope comparison.left × SoundForm scope comparison.right
+    × (parts_bound comparison.others.now ≤ test.number)
+    × SoundForm scope comparison.left × SoundForm scope comparison.right × SoundBasics scope comparison.others.now

@@ -1,6 +1,6 @@
 -- The words of the functions that evaluate: what is asked of a part, and what it computes to where `@` is a value.
 use Rattle.std.specs.Prelude.{◌≡◌, ℕ, ◌<◌, List, length, map, Bool, true, Option, Result, IfOk, IfErr}
-use Rattle.serde_json_path_core.specs.Imports.{Data, QueryError, Pattern, Step, Located, Kind, Signature, Term, Call, calls_of, calls_in_segments, calls_in_segment, calls_in_selector, calls_in_or, calls_in_and, calls_in_basic, calls_in_operand, calls_from, calls_in_argument, IsTyped, AreTypedSegments, IsTypedSegment, IsTypedSelector, IsTypedOr, IsTypedAnd, IsTypedBasic, IsTypedComparable, IsTypedCall, IsTypedArgument, IsTypedOperand, of_logical, AreOfKind, IsOfKind, is_query, is_segment, is_or, is_and, is_basic, is_comparable, is_call, is_argument, is_tested, selector_ref_fits, Part, SelectorRef, or_at, and_at, basic_at, operand_at, call_at, argument_at, part_query, segment_at, segments_at, ors_in, branches, branches_named, selector_view, stage_at, stages_at}
+use Rattle.serde_json_path_core.specs.Imports.{Data, QueryError, Pattern, Step, Located, Kind, Signature, Term, Call, calls_of, calls_in_segments, calls_in_segment, calls_in_selector, calls_in_or, calls_in_and, calls_in_basic, calls_in_operand, calls_from, calls_in_argument, IsTyped, AreTypedSegments, IsTypedSegment, IsTypedSelector, IsTypedOr, IsTypedAnd, IsTypedBasic, IsTypedComparable, IsTypedCall, IsTypedArgument, IsTypedOperand, of_logical, AreOfKind, IsOfKind, is_query, is_segment, is_or, is_and, is_basic, is_comparable, is_call, is_argument, is_tested, selector_ref_fits, Part, SelectorRef, or_at, and_at, basic_at, operand_at, call_at, argument_at, part_query, segment_at, segments_at, ors_in, ands_in, branches, branches_named, selector_view, stage_at, stages_at}
 use Rattle.serde_json_path_core.specs.Inside.Rest as advances
 use Rattle.serde_json_path_core.specs.Compared.{Compared}
 use Rattle.serde_json_path_core.specs.PatternCalls.{StandsIn}
@@ -38,6 +38,9 @@ SoundOperands scope parts = AreOfKind is_and (nodes_of scope) parts × Sound sco
 
 abbrev pub SoundAnd : {F : Type 0} {g : _} → Scope F g → Part → Type 0
 SoundAnd scope part = IsOfKind is_and (nodes_of scope) part × Sound scope IsTypedAnd calls_in_and (and_at (nodes_of scope) part)
+
+abbrev pub SoundBasics : {F : Type 0} {g : _} → Scope F g → List Part → Type 0
+SoundBasics scope parts = AreOfKind is_basic (nodes_of scope) parts × Sound scope IsTypedAnd calls_in_and (ands_in (branches_named (branches (nodes_of scope)) parts))
 
 abbrev pub SoundBasic : {F : Type 0} {g : _} → Scope F g → Part → Type 0
 SoundBasic scope part = IsOfKind is_basic (nodes_of scope) part × Sound scope IsTypedBasic calls_in_basic (basic_at (nodes_of scope) part)
@@ -85,6 +88,10 @@ any_holds scope parts v = computed.is_true (set_of scope) (top_of scope) (ors_in
 
 abbrev pub and_holds : {F : Type 0} {g : _} → Scope F g → Part → Data → Bool
 and_holds scope part v = computed.all_true (set_of scope) (top_of scope) (and_at (nodes_of scope) part) v
+
+-- whether each of the operands of `&&` does
+abbrev pub all_hold : {F : Type 0} {g : _} → Scope F g → List Part → Data → Bool
+all_hold scope parts v = computed.all_true (set_of scope) (top_of scope) (ands_in (branches_named (branches (nodes_of scope)) parts)) v
 
 abbrev pub basic_holds : {F : Type 0} {g : _} → Scope F g → Part → Data → Bool
 basic_holds scope part v = computed.basic_true (set_of scope) (top_of scope) (basic_at (nodes_of scope) part) v

@@ -6,7 +6,7 @@ ghost use Rattle.serde_json_path_core.specs.Inside.Words.{view, step_view, nodes
 use crate::child::{Child, item, member};
 use crate::evaluation::cursor::Cursor;
 use crate::evaluation::scope::Scope;
-use crate::filter::comparison::only_comparison;
+use crate::filter::comparison::leading_comparison;
 use crate::filter::logic::{any_holds, compares};
 use serde_json::Value;
 use serde_json_path_functions::{Functions, QueryError};
@@ -195,8 +195,8 @@ fn next_admitted<'b, F: Functions>(
     }
 }
 
-/// Comes to the next child for which a logical expression holds, if one is left. If it is one comparison, what is the same for
-/// each child is looked up before them.
+/// Comes to the next child for which a logical expression holds, if one is left. Of a comparison with which it begins, what is the
+/// same for each child is looked up before them.
 #[cycle(evaluation)]
 #[inline(never)]
 #[tactic(auto, using(crate::proofs::Walks::Turns::of_found))]
@@ -215,7 +215,7 @@ fn next_passing<'b, F: Functions>(
         (cursor_left cursor.new) (option_map child_view found)) }
     ensures refused { IfErr result (λ e. e ≡ Pattern → MayRefuse scope.now) }
 {
-    let Some(comparison) = only_comparison(scope, test) else {
+    let Some(comparison) = leading_comparison(scope, test) else {
         return next_holding(scope, test, cursor);
     };
     while let Some(child) = cursor.peek() {

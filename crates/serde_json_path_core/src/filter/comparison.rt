@@ -1,6 +1,6 @@
 //! The comparisons of filters (RFC 9535, section 2.3.5.2.2), and how their sides are found.
 //!
-//! Where a filter is one comparison, what is the same for each node is looked up before the nodes.
+//! Where a filter begins with a comparison and has no `||`, what is the same for each node is looked up before the nodes.
 
 ghost use Rattle.std.specs.Prelude.{◌≡◌, ◌<◌, ◌≤◌, Some, IfSome, length, true};
 ghost use Rattle.serde_json_path_core.specs.Inside.Words.{Data, view, part_query, segments_at, are_singular, is_singular, parts_bound, IsComparisonOf, SoundForm, SoundPlain, compared_by, first_compared, form_bound, plain_compared, SoundComparable, SoundOr, SoundQuery, SoundSegments, compared_at, values_at, values_of_segments, nodes_of, side_view};
@@ -34,12 +34,14 @@ pub(crate) enum PlainForm<'x> {
     Descent(&'x [Part]),
 }
 
-/// A comparison, by the forms of its sides.
+/// A comparison with which a filter begins, by the forms of its sides.
 #[derive(Clone, Copy)]
 pub(crate) struct Comparison<'x> {
     pub(crate) left: SideForm<'x>,
     pub(crate) operator: ComparisonOperator,
     pub(crate) right: SideForm<'x>,
+    /// The operands of `&&` after it.
+    pub(crate) others: &'x [Part],
 }
 
 /// The value that segments of a singular query select from a value, or Nothing. Inlined, it would make each comparison clear a
@@ -134,9 +136,9 @@ pub(crate) fn form_of<'x, 'q: 'x, 'b: 'x, F: Functions>(
     }
 }
 
-/// The comparison of which a filter consists; `None` for any other filter.
+/// The comparison with which a filter begins that has no `||`; `None` for any other filter.
 #[tactic(auto, using(crate::proofs::Words::common_steps, crate::proofs::Words::one_is))]
-pub(crate) fn only_comparison<'x, 'q: 'x, 'b: 'x, F: Functions>(
+pub(crate) fn leading_comparison<'x, 'q: 'x, 'b: 'x, F: Functions>(
     scope: &Scope<'q, 'b, F>,
     test: Part,
 ) -> Option<Comparison<'x>>
@@ -147,10 +149,10 @@ pub(crate) fn only_comparison<'x, 'q: 'x, 'b: 'x, F: Functions>(
     let [operands] = scope.query.or_parts(test) else {
         return None;
     };
-    let [operand] = scope.query.and_parts(*operands) else {
+    let [first, others @ ..] = scope.query.and_parts(*operands) else {
         return None;
     };
-    match scope.query.node(*operand) {
+    match scope.query.node(*first) {
         Node::Basic(
             Basic::Relation {
                 left,
@@ -164,6 +166,7 @@ pub(crate) fn only_comparison<'x, 'q: 'x, 'b: 'x, F: Functions>(
                 left,
                 operator: *operator,
                 right,
+                others,
             })
         }
         _ => None,

@@ -1,7 +1,7 @@
 //! Logical expressions of filters (RFC 9535, section 2.3.5).
 
 ghost use Rattle.std.specs.Prelude.{◌≡◌, ◌≤◌, Some, length};
-ghost use Rattle.serde_json_path_core.specs.Inside.Words.{view, MayEvaluate, Tells, SoundForm, compared_by, compared_with, holds_by, relation_holds, is_nonempty, SoundAnd, SoundBasic, SoundCall, SoundComparable, SoundOperands, SoundOr, SoundQuery, SoundTest, and_holds, answer_at, any_holds, basic_holds, or_holds, results_at, test_holds, side_view, StandsIn, nodes_of, top_of, operator_view, parts_bound};
+ghost use Rattle.serde_json_path_core.specs.Inside.Words.{view, MayEvaluate, Tells, SoundForm, compared_by, compared_with, filter_holds_by, holds_by, relation_holds, is_nonempty, SoundAnd, SoundBasic, SoundBasics, SoundCall, SoundComparable, SoundOperands, SoundOr, SoundQuery, SoundTest, all_hold, and_holds, answer_at, any_holds, basic_holds, or_holds, results_at, test_holds, side_view, StandsIn, nodes_of, top_of, operator_view, parts_bound};
 ghost use Rattle.serde_json_path_core.specs.Inside.Computed as computed;
 
 use crate::evaluation::scope::Scope;
@@ -59,12 +59,44 @@ fn and_holds<'b, F: Functions>(
     requires { MayEvaluate scope.now (SoundAnd scope.now) expression (view current.now) }
     ensures { Tells scope.now result (and_holds scope.now expression (view current.now)) }
 {
-    for part in scope.query.and_parts(expression) {
+    all_hold(scope, scope.query.and_parts(expression), current)
+}
+
+/// Whether each of some operands of `&&` holds.
+#[cycle(evaluation)]
+#[inline(always)]
+fn all_hold<'b, F: Functions>(
+    scope: &Scope<'_, 'b, F>,
+    operands: &[Part],
+    current: &'b Value,
+) -> Result<bool, QueryError>
+    requires below { parts_bound operands.now ≤ length (nodes_of scope.now) }
+    requires sound { SoundBasics scope.now operands.now }
+    requires inside { StandsIn (top_of scope.now) (view current.now) }
+    ensures { Tells scope.now result (all_hold scope.now operands.now (view current.now)) }
+{
+    for part in operands {
         if !basic_holds(scope, *part, current)? {
             return Ok(false);
         }
     }
     Ok(true)
+}
+
+/// The same, after a first comparison. Not inlined, so that a filter of one comparison takes nothing of it.
+#[cycle(evaluation)]
+#[inline(never)]
+fn others_hold<'b, F: Functions>(
+    scope: &Scope<'_, 'b, F>,
+    operands: &[Part],
+    current: &'b Value,
+) -> Result<bool, QueryError>
+    requires below { parts_bound operands.now ≤ length (nodes_of scope.now) }
+    requires sound { SoundBasics scope.now operands.now }
+    requires inside { StandsIn (top_of scope.now) (view current.now) }
+    ensures { Tells scope.now result (all_hold scope.now operands.now (view current.now)) }
+{
+    all_hold(scope, operands, current)
 }
 
 /// Whether a parenthesis, a comparison or a test holds.
@@ -182,11 +214,33 @@ fn relation_holds<'b, F: Functions>(
     }
 }
 
-/// Whether a comparison holds that is a filter by itself, so that its forms were found before the nodes. Without a call it
-/// takes no memory.
+/// Whether a filter holds that begins with a comparison, whose forms were found before the nodes. Without a call it takes no
+/// memory.
 #[cycle(evaluation)]
 #[inline(always)]
 pub(crate) fn compares<'b, F: Functions>(
+    scope: &Scope<'_, 'b, F>,
+    comparison: &Comparison<'_>,
+    current: &'b Value,
+) -> Result<bool, QueryError>
+    requires left { SoundForm scope.now comparison.now.left }
+    requires right { SoundForm scope.now comparison.now.right }
+    requires below { parts_bound comparison.now.others.now ≤ length (nodes_of scope.now) }
+    requires others { SoundBasics scope.now comparison.now.others.now }
+    requires inside { StandsIn (top_of scope.now) (view current.now) }
+    ensures { Tells scope.now result (filter_holds_by scope.now comparison.now (view current.now)) }
+{
+    let holds = first_compares(scope, comparison, current)?;
+    if !holds || comparison.others.is_empty() {
+        return Ok(holds);
+    }
+    others_hold(scope, comparison.others, current)
+}
+
+/// Whether its comparison does.
+#[cycle(evaluation)]
+#[inline(always)]
+fn first_compares<'b, F: Functions>(
     scope: &Scope<'_, 'b, F>,
     comparison: &Comparison<'_>,
     current: &'b Value,
