@@ -18,7 +18,7 @@
  *
  * Any number of threads may ask one path, one document and one list of nodes at once: a call that asks writes nothing that
  * another reads. Where threads do not agree who frees last, `jsonpath_path_share` and `jsonpath_document_share` give each an owner
- * of its own, which takes a few bytes; what they own is freed with the last.
+ * of its own; what they own is freed with the last.
  *
  * What the caller must keep to; nothing checks it:
  *   - A pointer is not null, also where its length is 0, and the memory behind it is valid for that length. What a call may
@@ -35,15 +35,17 @@
  *   - No call is made from a signal handler, nor in the child of a fork of a process with threads. malloc, realloc and free
  *     are those of one allocator, and align blocks as the C standard asks.
  *
- * What is said of a call below follows from its contract in crates/jsonpath_c, but for this. Tested, not proved:
+ * What is said of calls, here and below, follows from their contracts in crates/jsonpath_c, but for this. Tested, not proved:
  *   - JSONPATH_NO_MEMORY comes only where memory was refused, and JSONPATH_QUERY_REFUSED only of a pattern that is too large once
  *     it is built.
- *   - What a handle held is given back where it is filled anew or freed, and no call loses memory.
+ *   - What a handle held is given back where it is filled anew or freed, with its last owner, and no call loses memory. A further
+ *     owner takes a few bytes, and copies nothing. A handle that is left as it was keeps its pointer.
  *   - A query stops once its answer is known: for `jsonpath_exists` at the first node, for lines and lists at the node that would
  *     go beyond the limits, for the next nodes of a walk at the last one that is asked for. With `unique` it stops soon after more
  *     nodes differ than there may be, and for bytes it does not.
  *   - Of a document's bytes, what the path cannot reach is read and not kept; of JSONPATH_LOCATIONS no values are.
- *   - Where bytes are refused, `*position` is where the fault shows.
+ *   - Which byte `*position` is where bytes are refused. Proved is that it is one of theirs or one past the last, and whether an
+ *     array or an object begins there within 127 others.
  *   - By which digits a double is printed: 8.95 as 8.95, 4.0 as 4.0, 1e2 as 100.0.
  *   - No message and no hint is longer than 100 bytes.
  * Believed, not proved: a call needs what it asks no longer than until it returns, and a walk until it is freed. The proof takes a
@@ -152,7 +154,8 @@ uint8_t jsonpath_values(const uint8_t *path, size_t path_length, const uint8_t *
 uint8_t jsonpath_locations(const uint8_t *path, size_t path_length, const uint8_t *document, size_t document_length,
                            uint8_t *out, size_t out_length, size_t *length, struct jsonpath_refusal *refusal);
 
-/* ---- Paths, documents and nodes that a program keeps. With a status of refusal a call leaves what it is handed as it was. */
+/* ---- Paths, documents and nodes that a program keeps. A call writes what is said of the status that it answers, and leaves all
+ * else that it is handed as it was. */
 
 typedef struct jsonpath_path jsonpath_path;
 typedef struct jsonpath_document jsonpath_document;
@@ -164,7 +167,7 @@ uint8_t jsonpath_path_new(const uint8_t *text, size_t text_length, uint8_t numbe
                           struct jsonpath_refusal *refusal);
 
 /* Another owner of a path: DONE, NO_MEMORY or EMPTY_HANDLE. With DONE the same path is in `*other`, in the place of what was
- * there; it is not copied. */
+ * there. */
 uint8_t jsonpath_path_share(const jsonpath_path *path, jsonpath_path **other);
 
 /* Frees a path, unless it has another owner, and makes the variable NULL. Of NULL it does nothing. */
@@ -180,8 +183,8 @@ uint8_t jsonpath_path_equals(const jsonpath_path *path, const jsonpath_path *oth
 /* Reads a document: DONE, DOCUMENT_REFUSED, DOCUMENT_TOO_DEEP or NO_MEMORY. With DONE the document is in `*document`, in the
  * place of what was there. With one of the two refusals `*position` is the number of a byte, from 1, or one past the last: of the
  * first byte that no document goes on with, or of the first byte of what it breaks, as of a number that is too large or of the
- * comma before a bracket. With DOCUMENT_TOO_DEEP an array or an object begins there within 127 others; with DOCUMENT_REFUSED, of
- * bytes that are UTF-8, none does. */
+ * comma before a bracket. A byte that is not UTF-8 is told only if nothing before it breaks the document. With DOCUMENT_TOO_DEEP an
+ * array or an object begins there within 127 others; with DOCUMENT_REFUSED, of bytes that are UTF-8, none does. */
 uint8_t jsonpath_document_new(const uint8_t *bytes, size_t bytes_length, jsonpath_document **document, size_t *position);
 
 /* Why bytes are no document, as `a comma with nothing after it`, without an end: DONE, NO_ROOM or NO_MEMORY. Of a document it is
@@ -292,14 +295,14 @@ uint8_t jsonpath_node_json(const jsonpath_nodes *nodes, const jsonpath_document 
 
 typedef struct jsonpath_walk jsonpath_walk;
 
-/* Begins a walk over the nodes that a path selects from a document, in order: DONE, NO_MEMORY or EMPTY_HANDLE. With DONE the walk is
- * in `*walk`, in the place of what was there. It needs the path and the document until it is freed, so neither is freed before. It
- * stays in the thread that made it. */
+/* Begins a walk over the nodes that a path selects from a document, in order: DONE, NO_MEMORY or EMPTY_HANDLE. With DONE the walk
+ * is in `*walk`, in the place of what was there. It needs the path and the document until it is freed, so neither is freed before.
+ * It stays in the thread that made it. */
 uint8_t jsonpath_walk_new(const jsonpath_path *path, const jsonpath_document *document, jsonpath_walk **walk);
 
-/* Lists the next nodes of a walk, at most so many: DONE, QUERY_REFUSED, NO_MEMORY or EMPTY_HANDLE. With DONE the list is in `*nodes`,
- * in the place of what was there, and fewer than `most` are the last ones. With any other answer the walk is freed, and `*walk` is
- * NULL. */
+/* Lists the next nodes of a walk, at most so many: DONE, QUERY_REFUSED, NO_MEMORY or EMPTY_HANDLE. With DONE the list is in
+ * `*nodes`, in the place of what was there, and fewer than `most` are the last ones; after as many the next list may be empty.
+ * With any other answer the walk is freed, and `*walk` is NULL. */
 uint8_t jsonpath_walk_next(jsonpath_walk **walk, size_t most, jsonpath_nodes **nodes);
 
 /* Frees a walk and makes the variable NULL. Of NULL it does nothing. */
