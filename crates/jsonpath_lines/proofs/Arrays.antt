@@ -1,5 +1,5 @@
 -- The array of nodes, written item by item, is its JSON.
-use Rattle.jsonpath_lines.proofs.Words.{nat_tests, common_steps, ◌≡◌, ℕ, suc, ◌≤◌, max, Bool, true, false, fold, List, [], ◌∷◌, ◌++◌, codes, Option, Some, option_map, refl, sym, ap, ap₂, subst, ◌∙◌, arith, append_assoc, append-nil, option_and_then, Token, end_object, tokens, ArePrintable, ArePrintableOrBad, ends, escape_byte, print, print_from, json_tokens, items_tokens, members_tokens, HasNumbers, ItemsHaveNumbers, print_from-append, tokens-print, ArePrintable-json_tokens, value-json_tokens, Data, Items, Members, null, boolean, number, string, array, object, no_items, item, no_members, member, depth, items_depth, members_depth, read, of_json, of_items, max_depth, blank, blank_items, blank_members, comma_if, outline, items_outline, members_outline, print-outline, tokens_from_order, Located, IsJsonOf, IsJsonIn, array_of, items_of, object_of, ArePiecesIn, IsLaidOut, IsPrintedOf, path_string, Json, Layout, Compact, Pretty, Output, fold-append, ArePrintableOrBad-tokens, value-HasNumbers, normal}
+use Rattle.jsonpath_lines.proofs.Words.{nat_tests, common_steps, ◌≡◌, ℕ, suc, ◌≤◌, max, Bool, true, false, fold, List, [], ◌∷◌, ◌++◌, codes, Option, Some, option_map, refl, sym, ap, ap₂, subst, ◌∙◌, arith, append_assoc, append-nil, option_and_then, Token, end_object, tokens, ArePrintable, ArePrintableOrBad, ends, escape_byte, print, print_from, json_tokens, items_tokens, members_tokens, HasNumbers, ItemsHaveNumbers, print_from-append, tokens-print, ArePrintable-json_tokens, value-json_tokens, Data, Items, Members, array, object, no_items, item, no_members, member, depth, items_depth, members_depth, read, of_json, of_items, max_depth, blank, blank_items, blank_members, comma_if, outline, items_outline, members_outline, print-outline, tokens_from_order, Located, IsJsonOf, IsJsonIn, array_of, items_of, object_of, ArePiecesIn, IsLaidOut, IsPrintedOf, path_string, Json, Layout, Output, fold-append, ArePrintableOrBad-tokens, value-HasNumbers, normal}
 use Rattle.json.specs.Json as json
 use Rattle.json.specs.Tree as tree
 

@@ -1,5 +1,5 @@
 -- The nodes that a walk is asked for.
-use Rattle.jsonpath_lines.proofs.Words.{nat_tests, common_steps, ◌≡◌, ◌↔◌, ◌⊎◌, inl, inr, ℕ, zero, suc, ◌+◌, ◌≤◌, Bool, true, false, List, [], ◌∷◌, ◌++◌, length, take, codes, Option, Some, None, nat_lt, string_bytes, refl, sym, ap, subst, ◌∙◌, append_assoc, arith, length-take, take_all, take-append-le, tokens, ArePrintable, Located, first_places_after, AreLines, AreLinesIn, IsCount, IsCountIn, up_to, Appends, ArePieces, ArePiecesIn, IsClosedIn, IsPiece, FilledLines, Pushes, TookLines, asked, is_reached, leaves_out_in, limit_in, once, opening, Form, LocationAndValue, Value, Raw, Location, Pointer, Json, Count, Nothing, Output, LineWriter, Lines}
+use Rattle.jsonpath_lines.proofs.Words.{nat_tests, common_steps, ◌≡◌, ◌↔◌, ◌⊎◌, ℕ, zero, suc, ◌+◌, ◌≤◌, Bool, true, false, List, [], ◌∷◌, ◌++◌, length, codes, Option, Some, None, nat_lt, string_bytes, refl, sym, ap, subst, ◌∙◌, append_assoc, arith, length-take, tokens, ArePrintable, Located, AreLines, AreLinesIn, IsCount, IsCountIn, up_to, Appends, ArePieces, ArePiecesIn, IsClosedIn, IsPiece, FilledLines, Pushes, TookLines, asked, is_reached, leaves_out_in, limit_in, once, opening, Form, Json, Nothing, Output, LineWriter, Lines}
 use Rattle.jsonpath_lines.proofs.Arrays.{array_printable}
 use Rattle.jsonpath_lines.proofs.Pieces.{appended_pushed, length_further, lines_written}
 

@@ -1,5 +1,5 @@
 -- Nodes of which each location is taken once: of their beginning, of one node more, and of those that were taken so before.
-use Rattle.jsonpath_lines.proofs.Words.{common_steps, ◌≡◌, ◌⊎◌, inl, inr, ℕ, Bool, true, false, ◌||◌, if◌then◌else◌, List, [], ◌∷◌, ◌++◌, Option, Some, None, length, map, take, refl, sym, ap, subst, ◌∙◌, append_assoc, append-nil, arith, take-append-le, first_places, first_places_after, is_among, Located, Step, located, location_of, AreEnough, IsExceeded, TookDistinct, up_to, nat_tests, list_any-append, same_steps, same_steps_decides, DistinctNodes}
+use Rattle.jsonpath_lines.proofs.Words.{common_steps, ◌≡◌, ◌⊎◌, inl, inr, ℕ, Bool, true, false, ◌||◌, if◌then◌else◌, List, [], ◌∷◌, ◌++◌, Option, Some, None, length, map, take, refl, sym, ap, subst, ◌∙◌, append_assoc, append-nil, arith, take-append-le, first_places, first_places_after, is_among, Located, Step, located, location_of, AreEnough, IsExceeded, TookDistinct, length-append, length-map, most_held, up_to, ◌+◌, ◌≤◌, nat_tests, list_any-append, same_steps, same_steps_decides, DistinctNodes}
 
 -- nodes that follow others
 after_append : (earlier : List (List Step)) (nodes later : List Located)
@@ -84,6 +84,20 @@ distinct_push some others next same =
     ∙ sym (after_append [] others (next ∷ []))
 
 -- ---- a sink of nodes that differ in their locations
+
+-- another is taken, beside those that are left
+pub distinct_taken : (before now : DistinctNodes) (nodes left : List Located) (n : Located) → now.limit ≡ before.limit → first_places left ≡ first_places nodes
+    → map located now.nodes.items ≡ left ++ n ∷ [] → length left + 1 ≤ now.room → now.room ≤ most_held (length (first_places nodes)) → TookDistinct before (nodes ++ n ∷ []) now
+distinct_taken before now nodes left n limit same is few room =
+    let beginning = distinct_beginning nodes (n ∷ []) in
+    let longer : length (first_places (nodes ++ n ∷ [])) ≡ length (first_places nodes) + length beginning.0 = ap length beginning.1 ∙ length-append (first_places nodes) beginning.0 in
+    let all : length now.nodes.items ≡ length left + 1 = sym (length-map now.nodes.items located) ∙ ap length is ∙ length-append left (n ∷ []) in
+    record {
+      limit = limit;
+      met = ap first_places is ∙ distinct_push left nodes n same;
+      held = omega (arith, all, few);
+      room = omega (arith, room, longer);
+    }
 
 -- those that are left are enough
 pub enough_met : (before old : DistinctNodes) (nodes later found : List Located) → TookDistinct before nodes old

@@ -1,5 +1,5 @@
 -- What is shown of some nodes, with that of another node after it; the lines that the pieces make up.
-use Rattle.jsonpath_lines.proofs.Words.{nat_tests, common_steps, ◌≡◌, ℕ, ◌+◌, Bool, true, false, nat_lt, List, [], ◌∷◌, ◌++◌, length, length-append, codes, decimal, refl, sym, ap, subst, ◌∙◌, append_assoc, append-nil, arith, Located, AreLinesIn, IsLine, IsLineOfEach, array_of, end_text, Appends, ArePieces, ArePiecesIn, IsPiece, IsClosedIn, IsPieceIn, opening, Form, LocationAndValue, Value, Raw, Location, Pointer, Json, Count, Nothing, Output}
+use Rattle.jsonpath_lines.proofs.Words.{nat_tests, common_steps, ◌≡◌, ℕ, ◌+◌, Bool, true, false, nat_lt, List, [], ◌∷◌, ◌++◌, length, length-append, codes, decimal, refl, sym, ap, subst, ◌∙◌, append_assoc, append-nil, arith, Located, AreLinesIn, IsLine, IsLineOfEach, array_of, end_text, Appends, ArePieces, ArePiecesIn, IsPiece, IsClosedIn, IsPieceIn, opening, Form, Json, Count, Nothing, Output}
 use Rattle.jsonpath_lines.proofs.Arrays.{array_is, json_laid_out}
 
 -- ---- one node further

@@ -1,5 +1,5 @@
 -- The texts of null, truth values and integers are their JSON in each layout.
-use Rattle.jsonpath_lines.proofs.Words.{◌≡◌, ℕ, ◌^◌, ◌<◌, ℤ, pos, negsuc, List, [], ◌∷◌, Bool, true, false, Some, None, if◌then◌else◌, nat_lt, int_lt, SFits, w64, decimal, rules, refl, sym, ap, subst, ◌∙◌, arith, append-nil, option_and_then, signed_decimal, Token, tokens, print, token_text, json_tokens, HasNumbers, IsNumber-decimal, IsNumber-signed_decimal, tokens-print, ArePrintable-json_tokens, Data, unsigned, negative, null, boolean, number, as_number, as_u64, as_i64, view, blank, compact_text, outline, number_of-decimal, number_of-negative, print-outline, unless_float-number_of, IsJsonIn, IsJsonOf, IsPrettyOf, IsLaid, IsPrintedOf, Layout, Compact, Pretty, pretty, pretty_from, option_map, has_float, of_json, read, depth, max_depth, ◌≤◌, nat_tests, common_steps}
+use Rattle.jsonpath_lines.proofs.Words.{◌≡◌, ℕ, ◌^◌, ◌<◌, ℤ, pos, negsuc, List, [], ◌∷◌, Bool, true, false, Some, None, if◌then◌else◌, int_lt, SFits, w64, decimal, rules, refl, sym, ap, subst, ◌∙◌, arith, append-nil, option_and_then, signed_decimal, Token, tokens, print, token_text, json_tokens, HasNumbers, IsNumber-decimal, IsNumber-signed_decimal, tokens-print, ArePrintable-json_tokens, Data, unsigned, negative, null, boolean, number, as_number, as_u64, as_i64, view, blank, compact_text, outline, number_of-decimal, number_of-negative, print-outline, unless_float-number_of, IsJsonIn, IsJsonOf, IsPrettyOf, IsLaid, IsPrintedOf, Layout, Compact, Pretty, pretty, pretty_from, option_map, has_float, of_json, read, depth, max_depth, ◌≤◌, nat_tests, common_steps}
 use Rattle.json.specs.Json as json
 use Rattle.serde_json.specs.declared.value.Value as value
 use Rattle.jsonpath_lines.proofs.Arrays.{read_tree}

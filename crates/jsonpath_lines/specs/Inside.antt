@@ -1,5 +1,5 @@
 -- What contracts of private functions cite alone.
-use Rattle.std.specs.Prelude.{◌≡◌, ◌≤◌, ℕ, min, Bool, true, false, List, [], ◌∷◌, ◌++◌, length, map, Option, Some, None, string_bytes, unwrap_or, nat_le, if◌then◌else◌, codes}
+use Rattle.std.specs.Prelude.{◌≡◌, ◌≤◌, ◌*◌, ℕ, max, min, Bool, true, false, List, [], ◌∷◌, ◌++◌, length, map, Option, Some, None, string_bytes, unwrap_or, nat_le, if◌then◌else◌, codes}
 use Rattle.serde_json_path_nodes.specs.Words.{decimal, Located, first_places, normal, located}
 use Rattle.json.specs.Lex.{tokens}
 use Rattle.json.specs.Layout.{pretty}
@@ -9,7 +9,7 @@ use Rattle.serde_json.specs.Read.{read, max_depth}
 use Rattle.serde_json.specs.Written.{IsInOrder, comma_if, compact_text}
 use Rattle.jsonpath_lines.specs.Output.{IsJsonIn, IsLine, end_text, up_to}
 use Rattle.jsonpath_lines.specs.Distinct.{AreEnough}
-use Rattle.jsonpath_lines.specs.Plain.{plain}
+use Rattle.jsonpath_lines.specs.Coloured.{IsColoured}
 use Rattle.jsonpath_lines.specs.declared.forms.Form.{Form}
 use Rattle.jsonpath_lines.specs.declared.forms.Form.TheVariants.{Json, Count, Nothing}
 use Rattle.jsonpath_lines.specs.declared.forms.Layout.{Layout}
@@ -112,10 +112,17 @@ FilledLines before nodes now =
     let shown = up_to before.limit nodes in
     Appends (ArePieces before.writer.output before.writer.head.now shown) (string_bytes before.text) (string_bytes now.text) × (now.count ≡ length shown)
 
--- the nodes that differ in their locations are those of these nodes, where there was none before
+-- how many nodes are held at most, of which so many differ in their locations
+abbrev pub most_held : ℕ → ℕ
+most_held differing = max 64 (4 * differing)
+
+-- the nodes that differ in their locations are those of these nodes, where there was none before, and no more are held than
+-- may be
 pub record TookDistinct (before : DistinctNodes) (nodes : List Located) (now : DistinctNodes) : Type 0 where
   pub limit : now.limit ≡ before.limit
   pub met : first_places (map located now.nodes.items) ≡ first_places nodes
+  pub held : length now.nodes.items ≤ now.room
+  pub room : now.room ≤ most_held (length (first_places nodes))
 
 -- what differs is enough to have as many as are wanted
 abbrev pub FilledDistinct : DistinctNodes → List Located → DistinctNodes → Type 0
@@ -139,6 +146,6 @@ IsClosedIn Json output head count written shown = IsArrayLine output head writte
 IsClosedIn Count output head count written shown = shown ≡ head ++ (decimal count ++ end_text output.end)
 IsClosedIn form output head count written shown = shown ≡ written
 
--- an escape sequence, or none: it is not seen in the text that it stands before
-abbrev pub IsUnseen : List ℕ → Type 0
-IsUnseen sequence = (text : List ℕ) → plain (sequence ++ text) ≡ plain text
+-- sequences of colours, or none: a text that they stand before shows the same line
+pub record IsUnseen (change : List ℕ) : Type 0 where
+  pub shows : (line text : List ℕ) → IsColoured line text → IsColoured line (change ++ text)

@@ -1,7 +1,7 @@
 //! Lines in the colours of a terminal.
 
 ghost use Rattle.std.specs.Prelude.{◌≡◌, IfOk, OnOk, string_bytes};
-ghost use Rattle.jsonpath_lines.specs.Words.{plain, HasNoEscape, Appends, IsUnseen};
+ghost use Rattle.jsonpath_lines.specs.Words.{Appends, IsColoured, IsUnseen};
 
 use crate::forms::Form;
 use std::alloc::{AllocError, Global};
@@ -96,7 +96,7 @@ fn push_change(text: &mut String, last: Place, next: Place) -> Result<(), AllocE
 ///
 /// A head is no part of the line: take it off, and put it before the coloured one. The form is the one that the line was
 /// shown in. Of `Raw` all is plain, as a string's own text cannot be told from JSON there. Several lines may be given at
-/// once. What the contract says holds of a line that has no escape character of its own.
+/// once.
 ///
 /// An error comes only where memory is refused.
 ///
@@ -104,7 +104,7 @@ fn push_change(text: &mut String, last: Place, next: Place) -> Result<(), AllocE
 /// colored(alloc, "[1]", Form::Value)? == "[\u{1b}[36m1\u{1b}[0m]"
 /// ```
 pub fn colored(alloc: Global, line: &str, form: Form) -> Result<String, AllocError>
-    ensures { IfOk result (λ text. HasNoEscape line.now → plain (string_bytes text) ≡ line.now) }
+    ensures { IfOk result (λ text. IsColoured line.now (string_bytes text)) }
 {
     let mut text = String::new(alloc);
     let mut place = Place::Between;

@@ -12,8 +12,8 @@
 //!
 //! [`colored`] gives such a line in the colours of a terminal. [`write_text`] writes a text, or a beginning of it.
 //!
-//! Definitions are in `specs/`: `Output` says what is shown, `Distinct` when distinct nodes are enough, `Plain` what a line is
-//! without its colours, `Sent` what went out.
+//! Definitions are in `specs/`: `Output` says what is shown, `Distinct` when distinct nodes are enough, `Coloured` what a
+//! line is in colours, `Sent` what went out.
 #![tactic(auto)]
 
 mod colours;

@@ -1,4 +1,4 @@
-use Rattle.jsonpath_lines.proofs.Words.{◌≡◌, ◌++◌, List, string_bytes, encode_utf8, ap, sym, subst, ◌∙◌, chars_rest, nil_from_length, plain}
+use Rattle.jsonpath_lines.proofs.Words.{◌≡◌, ◌++◌, List, string_bytes, encode_utf8, ap, sym, subst, ◌∙◌, chars_rest, nil_from_length, IsColoured}
 use Rattle.jsonpath_lines.proofs.Seen.{IsSeenUpTo, seen_further, seen_whole}
 use Rattle.jsonpath_lines.proofs.colours.colored.Goals as goal
 
@@ -13,8 +13,8 @@ loop-c-preserved c =
     (seen_further line (string_bytes c.loop-c.text) change.0 (encode_utf8 c.in-Some.c) (chars_rest c.loop-c.c-iterator) left change.1 c.in-Some.ensures.steps.0 c.loop-c.invariant)
 
 pub returns : goal.returns
-returns c = λ none.
+returns c =
     let line = c.args.line.now in
     let change = c.in_ok-push_change-2.ensures in
     let before = subst (IsSeenUpTo line (string_bytes c.loop-c.text)) (nil_from_length _ c.in-None.ensures.steps.0.0) c.loop-c.invariant in
-    ap plain change.2 ∙ seen_whole line (string_bytes c.loop-c.text) change.0 change.1 before none
+    subst (IsColoured line) (sym change.2) (seen_whole line (string_bytes c.loop-c.text) change.0 change.1 before)

@@ -1,6 +1,7 @@
-use Rattle.jsonpath_lines.proofs.Words.{arith, nat_tests, common_steps, ◌≡◌, ◌∙◌, length, map, sym, subst, rules, length-map, map_push, first_places, located, IsExceeded}
-use Rattle.jsonpath_lines.proofs.EachOnce.{distinct_again, distinct_push, enough_met}
+use Rattle.jsonpath_lines.proofs.Words.{[], ◌∷◌, ◌++◌, ap, arith, ◌≡◌, ◌∙◌, length, map, sym, subst, rules, length-map, map_push, first_places, located, IsExceeded}
+use Rattle.jsonpath_lines.proofs.EachOnce.{distinct_again, distinct_taken, enough_met}
 use Rattle.jsonpath_lines.proofs.distinct.DistinctNodesSink.take.Goals as goal
+use Rattle.jsonpath_lines.proofs.distinct.DistinctNodesSink.take.Goals.{then-len-self+else-is_exceeded, else-len-self}
 
 pub returns-then-is_exceeded-clause-taken : goal.returns-then-is_exceeded-clause-taken
 returns-then-is_exceeded-clause-taken c = λ before nodes later took.
@@ -13,4 +14,23 @@ returns-then-is_exceeded-clause-taken c = λ before nodes later took.
     enough_met before c.args.self.now nodes _ (map located found) took left many
 
 pub returns-clause-taken : goal.returns-clause-taken
-returns-clause-taken c = grind (arith, nat_tests, common_steps, map_push, distinct_again, distinct_push)
+returns-clause-taken c = λ before nodes took.
+    let old = c.args.self.now in
+    let now = c.push.new.self in
+    let mid = c.if-len-self.self.nodes.items in
+    let all : map located now.items ≡ map located mid ++ located c.args.node ∷ [] = ap (map located) c.in_ok-push.ensures.items ∙ map_push located mid c.args.node in
+    elim c.if-len-self.branch [
+      | then-len-self+else-is_exceeded w ↦
+          let left = w.distinct-nodes.result in
+          let same : map located left.items ≡ first_places (map located old.nodes.items) = rw w.replace.ensures.value at w.distinct-nodes.ensures in
+          let differing = ap length (same ∙ took.met) in
+          let longer = rw w.self-is at c.in_ok-push.ensures.len in
+          distinct_taken before _ nodes (map located mid) (located c.args.node) (rw w.self-is took.limit)
+          (rw w.self-is (ap first_places same ∙ distinct_again (map located old.nodes.items) ∙ took.met)) all
+          (rw w.self-is (omega (arith, length-map left.items located, left.ok.0, longer, now.ok.1, now.small, w.len-count.ensures, w.saturating_mul.ensures, w.max-self.ensures)))
+          (rw w.self-is (omega (arith, length-map left.items located, left.ok.0, differing, w.len-count.ensures, w.saturating_mul.ensures, w.max-self.ensures)))
+      | else-len-self w ↦
+          distinct_taken before _ nodes (map located mid) (located c.args.node) (rw w.self-is took.limit) (rw w.self-is took.met) all
+          (rw w.self-is (omega (arith, length-map old.nodes.items located, old.nodes.ok.0, c.len.ensures, w.if-len-self.false)))
+          (rw w.self-is took.room)
+    ]
