@@ -40,9 +40,7 @@
  *     it is built.
  *   - What a handle held is given back where it is filled anew or freed, with its last owner, and no call loses memory. A further
  *     owner takes a few bytes, and copies nothing. A handle that is left as it was keeps its pointer.
- *   - A query stops once its answer is known: for `jsonpath_exists` at the first node, for lines and lists at the node that would
- *     go beyond the limits, for the next nodes of a walk at the last one that is asked for. With `unique` it stops soon after more
- *     nodes differ than there may be, and for bytes it does not.
+ *   - With `unique` a query stops soon after more nodes differ than there may be. The limit of bytes does not stop it.
  *   - Of a document's bytes, what the path cannot reach is read and not kept; of JSONPATH_LOCATIONS no values are.
  *   - Which byte `*position` is where bytes are refused. Proved is that it is one of theirs or one past the last, and whether an
  *     array or an object begins there within 127 others.
@@ -52,8 +50,11 @@
  * path, a document or a list as lent for good, since its clauses cannot name a call's time; nothing that a call writes or keeps can
  * hold a reference, but for a walk.
  *
- * No test holds this: with `unique` at most 64 nodes are held meanwhile, or four times as many as differ in their locations. The
- * stack's megabyte is measured.
+ * By contracts of functions behind the calls, a query stops once its answer is known: for `jsonpath_exists` at the first node, for
+ * lines and lists at the node that would go beyond the limits, for the next nodes of a walk at the last one that is asked for. With
+ * `unique` at most 64 nodes are held meanwhile, or four times as many as differ in their locations.
+ *
+ * The stack's megabyte is measured.
  *
  * Build: link libjsonpath_c.a, and then liblibc_c.a of the toolchain; or, once it is installed, the shared library, by
  * `pkg-config --cflags --libs jsonpath`. */

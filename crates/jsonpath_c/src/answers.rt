@@ -1,7 +1,7 @@
 //! What compiled paths select from documents that are read: lines, how many nodes, whether there is one.
 
 ghost use Rattle.std.specs.Prelude.{◌≡◌, ◌≢◌, ◌⊎◌, ◌↔◌, Err, IfOk, List, length};
-ghost use Rattle.jsonpath_c.specs.Clauses.{Located, AnswersLinesOf, AreLinesFrom, ArePut, BothHold, CallsByPatternFrom, IsAsked, SelectThose, SelectsFrom, TellsEitherEmpty, TellsSome, form_of, view};
+ghost use Rattle.jsonpath_c.specs.Clauses.{AnswersLinesOf, AreLinesFrom, ArePut, BothHold, CallsByPatternFrom, IsAsked, Located, OnlyMemoryOrPattern, SelectThose, SelectsFrom, TellsEitherEmpty, TellsNext, TellsSome, document_of, form_of, query_of, rest, set_of, view};
 
 use crate::bounded::{FirstLines, first_lines};
 use crate::compiled::Compiled;
@@ -15,8 +15,8 @@ use crate::walks::{plain_walk, walk};
 use jsonpath_lines::Form;
 use nullable_box::get_both;
 use serde_json::Value;
-use serde_json_path::QueryError;
-use serde_json_path::functions::PatternStore;
+use serde_json_path::functions::{Functions, PatternStore};
+use serde_json_path::{QueryError, Walk};
 use std::alloc::Global;
 
 /// The status of a refused query.
@@ -55,11 +55,12 @@ pub(crate) fn lines_of(
         → CallsByPatternFrom path.now (view document.now) }
 {
     if !path.may_call {
-        return first_lines(alloc, form, limits, plain_walk(alloc, path, document)?);
+        let mut found = plain_walk(alloc, path, document)?;
+        return first_lines(alloc, form, limits, &mut found);
     }
     let store = PatternStore::new();
-    let nodes = walk(alloc, path, document, &store)?;
-    first_lines(alloc, form, limits, nodes)
+    let mut found = walk(alloc, path, document, &store)?;
+    first_lines(alloc, form, limits, &mut found)
 }
 
 /// Puts lines. Returns the status.
@@ -139,6 +140,16 @@ pub extern "C" fn jsonpath_count(
     put_answer(found.map_err(query_status), count)
 }
 
+/// Whether a node remains of a walk, which goes no further than to that.
+#[inline(always)]
+fn has_next<F: Functions + Drop>(walk: &mut Walk<'_, '_, F>) -> Result<bool, QueryError>
+    ensures next { IfOk result (λ has. TellsNext has (rest walk.old) (rest walk.new)) }
+    ensures refused { OnlyMemoryOrPattern (set_of walk.old) (query_of walk.old)
+        (document_of walk.old) result }
+{
+    Ok(walk.next()?.is_some())
+}
+
 /// Whether a path that calls no function selects a node from a document, 1 or 0.
 // Not inlined, as the next: each makes room for its own walk alone.
 #[inline(never)]
@@ -149,7 +160,7 @@ fn selects_plainly(alloc: Global, path: &Compiled, document: &Value) -> Result<u
         → CallsByPatternFrom path.now (view document.now) }
 {
     let mut nodes = plain_walk(alloc, path, document)?;
-    Ok(u8::from(nodes.next()?.is_some()))
+    Ok(u8::from(has_next(&mut nodes)?))
 }
 
 /// The same of any path.
@@ -162,7 +173,7 @@ fn selects_by_patterns(alloc: Global, path: &Compiled, document: &Value) -> Resu
 {
     let store = PatternStore::new();
     let mut nodes = walk(alloc, path, document, &store)?;
-    Ok(u8::from(nodes.next()?.is_some()))
+    Ok(u8::from(has_next(&mut nodes)?))
 }
 
 /// Whether a path selects a node from a document, 1 or 0. It stops at the first.

@@ -1,11 +1,12 @@
 //! Lines within limits.
 
-ghost use Rattle.jsonpath_c.specs.Clauses.{IfOk, string_bytes, OnlyMemoryOrPattern, document_of, query_of, rest, set_of, AreFirstLines};
+ghost use Rattle.std.specs.Prelude.{◌≡◌, ◌++◌, ◌∷◌, [], IfErr, List, Ok, false, true};
+ghost use Rattle.jsonpath_c.specs.Clauses.{AreFirstLines, AreLeft, IfOk, IsLineOfEach, Located, Memory, OnlyMemoryOrPattern, compact_lines, document_of, located, query_of, rest, set_of, string_bytes};
 
 use crate::limits::Limits;
 use jsonpath_lines::{Form, Output, push_line};
 use serde_json_path::functions::Functions;
-use serde_json_path::{LocatedNode, QueryError, Sink, Taken, Walk};
+use serde_json_path::{LocatedNode, QueryError, Walk};
 use std::alloc::Global;
 
 /// Lines, as many as limits allow.
@@ -29,39 +30,49 @@ struct BoundedLines<'a> {
     count: usize,
 }
 
-impl<'a, 'b> Sink<'b> for BoundedLines<'a> {
-    ghost use Rattle.jsonpath_c.specs.Inside.{FilledLines, TookLines};
+impl<'a> BoundedLines<'a> {
+    ghost use Rattle.jsonpath_c.specs.Inside.{TookLines};
 
-    ghost took = { TookLines };
-
-    ghost filled = { FilledLines };
-
+    /// Appends the line of a node, and says whether there was room for it. Where there was none, the text stays.
     #[inline(always)]
-    fn take(&mut self, node: LocatedNode<'b>) -> Result<Taken<'b>, QueryError> {
+    fn push(&mut self, node: &LocatedNode<'_>) -> Result<bool, QueryError>
+        ensures pushed { result ≡ Ok true → (nodes : List Located) → TookLines self.old nodes
+            → TookLines self.new (nodes ++ located node.now ∷ []) }
+        ensures full { result ≡ Ok false → (nodes later : List Located) → TookLines self.old nodes
+            → AreFirstLines self.old.form self.old.limits.now (nodes ++ located node.now ∷ later)
+            (string_bytes self.new.text) false }
+        ensures kept { result ≡ Ok false → self.new.text ≡ self.old.text }
+        ensures same { (self.new.form ≡ self.old.form) × (self.new.limits ≡ self.old.limits) }
+        ensures refused { IfErr result (λ e. e ≡ Memory) }
+    {
         self.line.clear();
         let output = Output::compact_lines(self.form);
-        push_line(self.alloc, &output, "", &mut self.line, &node)?;
+        push_line(self.alloc, &output, "", &mut self.line, node)?;
         let room = self.limits.bytes.saturating_sub(self.text.len());
         if self.count >= self.limits.nodes || room < self.line.len() {
-            return Ok(Taken::Enough);
+            return Ok(false);
         }
         self.text.push_str(self.line.as_str())?;
         self.count += 1;
-        Ok(Taken::More(node.into_steps()))
+        Ok(true)
     }
 }
 
-/// The lines of the first nodes that remain of a walk, as many as the limits allow.
+/// The lines of the first nodes that remain of a walk, as many as the limits allow. The walk goes no further than the node that
+/// would go beyond.
 pub(crate) fn first_lines<F: Functions + Drop>(
     alloc: Global,
     form: Form,
     limits: &Limits,
-    walk: Walk<'_, '_, F>,
+    walk: &mut Walk<'_, '_, F>,
 ) -> Result<FirstLines, QueryError>
     ensures lines { IfOk result (λ lines.
-        AreFirstLines form limits.now (rest walk.entry) (string_bytes lines.text) lines.all) }
-    ensures refused { OnlyMemoryOrPattern (set_of walk.entry) (query_of walk.entry)
-        (document_of walk.entry) result }
+        AreFirstLines form limits.now (rest walk.old) (string_bytes lines.text) lines.all) }
+    ensures stops { IfOk result (λ lines. (shown : List Located)
+        × IsLineOfEach (compact_lines form) [] shown (string_bytes lines.text)
+        × AreLeft (rest walk.old) shown lines.all (rest walk.new)) }
+    ensures refused { OnlyMemoryOrPattern (set_of walk.old) (query_of walk.old)
+        (document_of walk.old) result }
 {
     let mut lines = BoundedLines {
         alloc,
@@ -71,9 +82,18 @@ pub(crate) fn first_lines<F: Functions + Drop>(
         line: String::new(alloc),
         count: 0,
     };
-    let all = walk.feed(&mut lines)?;
+    let mut steps = Vec::new(alloc);
+    'nodes: while let Some(node) = walk.next_into(steps)? {
+        if !lines.push(&node)? {
+            return Ok(FirstLines {
+                text: lines.text,
+                all: false,
+            });
+        }
+        steps = node.into_steps();
+    }
     Ok(FirstLines {
         text: lines.text,
-        all,
+        all: true,
     })
 }

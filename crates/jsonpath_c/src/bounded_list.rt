@@ -5,7 +5,7 @@ ghost use Rattle.jsonpath_c.specs.Clauses.{MatchOption, located, kept, name_byte
 
 use crate::limits::Limits;
 use jsonpath_owned_nodes::OwnedNodes;
-use serde_json_path::{LocatedNode, NormalizedPath, PathElement, QueryError, Sink, Taken};
+use serde_json_path::{LocatedNode, NormalizedPath, PathElement};
 use std::alloc::{AllocError, Global};
 
 /// What is left of so many bytes after the names of a location have taken theirs, or `None` where these are too few.
@@ -60,22 +60,5 @@ impl BoundedList {
         self.nodes.push(node)?;
         self.left = Limits { nodes, bytes };
         Ok(true)
-    }
-}
-
-impl<'b> Sink<'b> for BoundedList {
-    ghost use Rattle.jsonpath_c.specs.Inside.{FilledList, TookList};
-
-    ghost took = { TookList };
-
-    ghost filled = { FilledList };
-
-    #[inline(always)]
-    fn take(&mut self, node: LocatedNode<'b>) -> Result<Taken<'b>, QueryError> {
-        if self.push(&node)? {
-            Ok(Taken::More(node.into_steps()))
-        } else {
-            Ok(Taken::Enough)
-        }
     }
 }

@@ -36,9 +36,9 @@ fn selected(
         → CallsByPatternFrom path.now (view document.now) }
 {
     let store = PatternStore::new();
-    let nodes = walk(alloc, path, document, &store)?;
+    let mut nodes = walk(alloc, path, document, &store)?;
     match unique {
-        0 => first_nodes(alloc, limits, nodes),
+        0 => first_nodes(alloc, limits, &mut nodes),
         _ => first_unique_nodes(alloc, limits, nodes),
     }
 }

@@ -1,6 +1,7 @@
 //! Lists of nodes within limits.
 
-ghost use Rattle.jsonpath_c.specs.Clauses.{IfOk, map, located, OnlyMemoryOrPattern, document_of, query_of, rest, set_of, first_places, AreFirstNodes};
+ghost use Rattle.std.specs.Prelude.{◌≡◌, List};
+ghost use Rattle.jsonpath_c.specs.Clauses.{AreFirstNodes, AreLeft, IfOk, Located, OnlyMemoryOrPattern, document_of, first_places, kept, located, map, query_of, rest, set_of};
 
 use crate::bounded_list::BoundedList;
 use crate::limits::Limits;
@@ -19,22 +20,35 @@ pub(crate) struct FirstNodes {
     pub(crate) all: bool,
 }
 
-/// The first nodes that remain of a walk, as many as the limits allow.
+/// The first nodes that remain of a walk, as many as the limits allow. The walk goes no further than the node that would go
+/// beyond.
 pub(crate) fn first_nodes<F: Functions + Drop>(
     alloc: Global,
     limits: &Limits,
-    walk: Walk<'_, '_, F>,
+    walk: &mut Walk<'_, '_, F>,
 ) -> Result<FirstNodes, QueryError>
     ensures nodes { IfOk result (λ first.
-        AreFirstNodes limits.now (rest walk.entry) first.nodes first.all) }
-    ensures refused { OnlyMemoryOrPattern (set_of walk.entry) (query_of walk.entry)
-        (document_of walk.entry) result }
+        AreFirstNodes limits.now (rest walk.old) first.nodes first.all) }
+    ensures stops { IfOk result (λ first. (shown : List Located)
+        × (first.nodes ≡ map kept shown)
+        × AreLeft (rest walk.old) shown first.all (rest walk.new)) }
+    ensures refused { OnlyMemoryOrPattern (set_of walk.old) (query_of walk.old)
+        (document_of walk.old) result }
 {
     let mut bounded_list = BoundedList::new(alloc, limits);
-    let all = walk.feed(&mut bounded_list)?;
+    let mut steps = Vec::new(alloc);
+    'nodes: while let Some(node) = walk.next_into(steps)? {
+        if !bounded_list.push(&node)? {
+            return Ok(FirstNodes {
+                nodes: bounded_list.nodes,
+                all: false,
+            });
+        }
+        steps = node.into_steps();
+    }
     Ok(FirstNodes {
         nodes: bounded_list.nodes,
-        all,
+        all: true,
     })
 }
 

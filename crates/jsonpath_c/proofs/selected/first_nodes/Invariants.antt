@@ -1,0 +1,13 @@
+use Rattle.jsonpath_c.proofs.Words.{◌≡◌, ◌++◌, AreWithin, List, Located, document_of, query_of, rest, set_of, steps_of}
+use Rattle.jsonpath_c.proofs.selected.first_nodes.Given as goal
+
+abbrev pub invariant-nodes : goal.invariant-nodes
+invariant-nodes g l = record {
+  set : set_of l.walk ≡ set_of l.fn.walk;
+  query : query_of l.walk ≡ query_of l.fn.walk;
+  document : document_of l.walk ≡ document_of l.fn.walk;
+  given : (nodes : List Located) × AreWithin l.fn.limits l.bounded_list.left nodes l.bounded_list.nodes × (rest l.fn.walk ≡ nodes ++ rest l.walk);
+}
+
+abbrev pub decreases-nodes : goal.decreases-nodes
+decreases-nodes g l = steps_of l.walk
