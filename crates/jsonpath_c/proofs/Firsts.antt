@@ -1,5 +1,5 @@
 -- The first of some nodes, with another after them.
-use Rattle.jsonpath_c.proofs.Words.{◌≡◌, ◌≤◌, ◌<◌, ◌+◌, ◌∙◌, ◌⊎◌, inl, inr, ℕ, Bool, false, true, Some, string_bytes, List, [], ◌∷◌, ◌++◌, length, refl, sym, ap, subst, arith, append_assoc, append-nil, common_steps, length-append, length_push, map-append, Located, KeptNode, kept, Bor, IsLine, IsLineOfEach, compact_lines, Form, lines_pushed, AreFirstLines, AreFirstNodes, IsBeyond, IsNodeBeyond, BoundedLines, AreEnough, AreWithin, HasNoRoomFor, IsLeftAfter, TookLines, Limits}
+use Rattle.jsonpath_c.proofs.Words.{◌≡◌, ◌≤◌, ◌<◌, ◌+◌, ◌∙◌, ◌⊎◌, inl, inr, ℕ, Bool, false, Some, string_bytes, List, [], ◌∷◌, ◌++◌, length, refl, sym, ap, subst, arith, append_assoc, append-nil, common_steps, length-append, length_push, map-append, Located, KeptNode, kept, Bor, IsLine, IsLineOfEach, compact_lines, Form, lines_pushed, AreFirstNodes, IsNodeBeyond, BoundedLines, AreEnough, AreWithin, HasNoRoomFor, IsLeftAfter, TookLines, Limits}
 
 -- ---- lists within limits
 

@@ -1,4 +1,4 @@
-use Rattle.jsonpath_c.proofs.Words.{◌≡◌, ◌∙◌, inr, refl, rules, sym, IsFaultTold, MemoryFault, fault_message}
+use Rattle.jsonpath_c.proofs.Words.{◌∙◌, inr, refl, rules, sym, IsFaultTold, MemoryFault, fault_message}
 use Rattle.std.specs.Prelude.{◌≢◌}
 use Rattle.std.proofs.Common.{true≢false}
 use Rattle.jsonpath_c.proofs.documents.jsonpath_document_message.Goals as goal
