@@ -15,14 +15,23 @@ typedef uint8_t lines_call(const uint8_t *, size_t, const uint8_t *, size_t, uin
 
 static _Atomic int failures;
 
-/* How many requests of a thread for memory are granted. The linker puts these in the place of malloc and realloc (--wrap). */
-static _Thread_local size_t granted = SIZE_MAX;
-void *__real_malloc(size_t), *__real_realloc(void *, size_t);
+/* How many requests of a thread for memory are granted, and how many blocks it has that are not freed. The linker puts these in the
+ * place of malloc, realloc and free (--wrap). */
+static _Thread_local size_t granted = SIZE_MAX, blocks;
+void *__real_malloc(size_t), *__real_realloc(void *, size_t), __real_free(void *);
 void *__wrap_malloc(size_t length) {
-    return granted && granted-- ? __real_malloc(length) : NULL;
+    void *made = granted && granted-- ? __real_malloc(length) : NULL;
+    blocks += made != NULL;
+    return made;
 }
 void *__wrap_realloc(void *memory, size_t length) {
-    return granted && granted-- ? __real_realloc(memory, length) : NULL;
+    void *made = granted && granted-- ? __real_realloc(memory, length) : NULL;
+    blocks += made != NULL && memory == NULL;
+    return made;
+}
+void __wrap_free(void *memory) {
+    blocks -= memory != NULL;
+    __real_free(memory);
 }
 
 /* Prints what does not hold. */
@@ -195,6 +204,7 @@ struct asked_with {
     struct jsonpath_limits limits;
     const char *bytes; /* A document that is handed over as such. */
     jsonpath_walk *walk;
+    size_t blocks; /* How many blocks there were before. */
 };
 
 static const struct jsonpath_limits NO_LIMITS = {SIZE_MAX, SIZE_MAX};
@@ -252,7 +262,7 @@ static void read_to(jsonpath_document **document, const char *text) {
 
 /* A path, a document, and the list of the nodes that it selects. */
 static struct asked_with asked_of(const char *path, uint8_t numbers, const char *document) {
-    struct asked_with with = {NULL, NULL, NULL, 0, JSONPATH_VALUES, NO_LIMITS, document, NULL};
+    struct asked_with with = {NULL, NULL, NULL, 0, JSONPATH_VALUES, NO_LIMITS, document, NULL, blocks};
     compile(&with.path, path, numbers);
     read_to(&with.document, document);
     uint8_t status = jsonpath_select(with.path, with.document, 0, &NO_LIMITS, &with.nodes);
@@ -260,7 +270,7 @@ static struct asked_with asked_of(const char *path, uint8_t numbers, const char 
     return with;
 }
 
-/* Frees each handle, and once more, which does nothing. */
+/* Frees each handle, and once more, which does nothing. As many blocks are left then as there were before. */
 static void emptied(struct asked_with *with) {
     for (int times = 0; times < 2; times++) {
         jsonpath_walk_free(&with->walk); /* It needs the next two. */
@@ -269,6 +279,7 @@ static void emptied(struct asked_with *with) {
         jsonpath_nodes_free(&with->nodes);
         holds(!with->walk && !with->path && !with->document && !with->nodes, "a handle that is freed", "NULL");
     }
+    holds(blocks == with->blocks, "blocks are left", "calls on handles");
 }
 
 /* Holds a call's text to what is wanted, with room to spare, with just enough, with a byte too little and with none. */
@@ -407,7 +418,7 @@ static void compiled_paths(void) {
     struct asked_with with = asked_of("$[ \"a\",0 ] .b", JSONPATH_WHOLE_NUMBERS, "{}");
     const char *printed = "$['a', 0].b";
     writes(path_text, &with, JSONPATH_DONE, printed, printed);
-    jsonpath_path *other = NULL;
+    jsonpath_path *other = NULL, *before = with.path;
     uint8_t equal = 7;
     compile(&other, printed, JSONPATH_ALL_NUMBERS);
     holds(jsonpath_path_equals(with.path, other, &equal) == JSONPATH_DONE && equal == 1, "equal", printed);
@@ -423,6 +434,7 @@ static void compiled_paths(void) {
     holds(status == JSONPATH_NOT_UTF8, "not UTF-8 to a handle", "$\\xff");
     holds(is_untouched(&refusal, sizeof refusal), "refusal is written with a handle", "$\\xff");
     writes(path_text, &with, JSONPATH_DONE, printed, "path after refusals");
+    holds(with.path == before, "handle of a path after refusals", printed);
     jsonpath_path *none = NULL;
     holds(jsonpath_path_new((const uint8_t *)"", 0, 0, &none, &refusal) == JSONPATH_PATH_REFUSED, "refused", "");
     holds(none == NULL, "a path that is refused fills a handle", "");
@@ -469,7 +481,9 @@ static void refuses_document(const char *bytes, size_t length, uint8_t wanted, s
     uint8_t *copy = copied(bytes, length);
     holds(jsonpath_document_new(copy, length, &none, &position) == wanted, "status of a document", bytes);
     holds(none == NULL && position == byte, "byte of a document", bytes);
+    jsonpath_document *before = with.document;
     holds(jsonpath_document_new(copy, length, &with.document, &position) == wanted, "status over a document", bytes);
+    holds(with.document == before, "handle of a document after a refusal", bytes);
     writes(lines, &with, JSONPATH_DONE, "[1]\n", "document after a refusal");
     const char *paths[] = {"$", "$.a[0]", "$..a"};
     for (int at = 0; at < 3; at++) {
@@ -533,7 +547,7 @@ static void documents(void) {
 
 /* Holds what is told of bytes, in words, to what is wanted, also where memory is refused. */
 static void tells(const char *bytes, const char *words) {
-    struct asked_with with = {NULL, NULL, NULL, 0, JSONPATH_VALUES, NO_LIMITS, bytes, NULL};
+    struct asked_with with = {NULL, NULL, NULL, 0, JSONPATH_VALUES, NO_LIMITS, bytes, NULL, blocks};
     writes(document_message, &with, JSONPATH_DONE, words, bytes);
     uint8_t *copy = copied(bytes, strlen(bytes)), status = JSONPATH_NO_MEMORY;
     for (size_t requests = 0; status == JSONPATH_NO_MEMORY && requests < 1000; requests++) {
@@ -1151,7 +1165,7 @@ static char *field(struct asked_with *with, size_t index, size_t *length) {
  * two texts take whole numbers. */
 static void is_refused(const char *path, uint8_t numbers, const char *document, size_t length, uint8_t wanted,
                        const char *line) {
-    struct asked_with with = {NULL, NULL, NULL, 0, JSONPATH_LINES, NO_LIMITS, NULL, NULL};
+    struct asked_with with = {NULL, NULL, NULL, 0, JSONPATH_LINES, NO_LIMITS, NULL, NULL, blocks};
     struct jsonpath_refusal refusal;
     size_t position;
     uint8_t status = jsonpath_path_new((const uint8_t *)path, strlen(path), numbers, &with.path, &refusal);
@@ -1238,6 +1252,7 @@ int main(int count, char **words) {
     texts();
     handles();
     for (int at = 1; at < count; at++) cases(words[at]);
+    holds(!blocks, "blocks are left", "all calls");
     printf(failures ? "%d failed\n" : "all hold\n", failures);
     return failures != 0;
 }
