@@ -1,25 +1,14 @@
 -- Blanks before a document are passed over, so blanks alone are the beginning of one.
-use Rattle.std.proofs.Common.{◌≡◌, ◌<◌, ◌⊎◌, inl, inr, ℕ, suc, zero, Bool, true, false, ◌&&◌, List, [], ◌∷◌, ◌++◌, refl, ap, arith, ◌∙◌}
+use Rattle.std.proofs.Common.{◌≡◌, ◌<◌, ℕ, suc, zero, Bool, true, false, ◌&&◌, List, [], ◌∷◌, ◌++◌, refl, arith, ◌∙◌}
 use Rattle.std.proofs.lemmas.Bool.Decides.{nat_tests}
+use Rattle.jsonpath_document.proofs.Bytes.{lex-blank}
 use Rattle.jsonpath_document.specs.Place.{are_blank, is_blank}
 use Rattle.std.specs.Str.{IsAscii}
 use Rattle.std.proofs.lemmas.Str.{IsUtf8-from_ascii}
-use Rattle.json.specs.Lex.{lex, between, class, space}
+use Rattle.json.specs.Lex.{lex, between}
 use Rattle.serde_json.proofs.OnLiterals.{serde_json_on_literals}
 use Rattle.serde_json.specs.Read.{read}
 use Rattle.jsonpath_document.specs.Document.{IsBeginning, IsDocument}
-
-one_blank : (x : ℕ) → is_blank x ≡ true → (x ≡ 32) ⊎ ((x ≡ 9) ⊎ ((x ≡ 10) ⊎ (x ≡ 13)))
-one_blank x blank = grind (arith, nat_tests)
-
-class_blank : (x : ℕ) → is_blank x ≡ true → class x ≡ space
-class_blank x blank = elim (one_blank x blank) [
-  | inl e ↦ ap class e
-  | inr f ↦ elim f [
-    | inl e ↦ ap class e
-    | inr g ↦ elim g [ inl e ↦ ap class e | inr e ↦ ap class e ]
-  ]
-]
 
 below : (x : ℕ) → is_blank x ≡ true → x < 128
 below x blank = grind (arith, nat_tests)
@@ -34,10 +23,8 @@ back false b e = absurd (cc)
 
 pub lex_blanks : (bytes t : List ℕ) → are_blank bytes ≡ true
     → lex between (bytes ++ t) ≡ lex between t
-unfolding lex
 lex_blanks [] t blank = refl
-lex_blanks (x ∷ xs) t blank =
-    rw (class_blank x (front _ _ blank)) (lex_blanks xs t (back _ _ blank))
+lex_blanks (x ∷ xs) t blank = lex-blank x (xs ++ t) (front _ _ blank) ∙ lex_blanks xs t (back _ _ blank)
 
 ascii : (bytes : List ℕ) → are_blank bytes ≡ true → IsAscii (bytes ++ (48 ∷ []))
 ascii [] blank zero = omega arith

@@ -1,6 +1,7 @@
 -- Documents from bytes, and what may be told of a place in them.
 use Rattle.std.specs.Prelude.{◌≡◌, ◌≢◌, ◌==◌, ◌<◌, ◌≤◌, ◌+◌, ◌++◌, ◌&&◌, not, ℕ, Bool, true, false, List, [], ◌∷◌, Some, length, take, drop, codes}
 use Rattle.std.specs.Fmt.{decimal}
+use Rattle.std.specs.Option.{is_some}
 use Rattle.std.specs.Str.{IsUtf8}
 use Rattle.serde_json.specs.Data.{Data}
 use Rattle.serde_json.specs.Read.{read}
@@ -22,6 +23,10 @@ IsDocument bytes = (d : Data) × ReadsAs bytes d
 -- with some bytes after them, the bytes read as a document
 abbrev pub IsBeginning : List ℕ → Type 0
 IsBeginning bytes = (rest : List ℕ) × IsDocument (bytes ++ rest)
+
+-- no bytes that begin so read as a document, as bytes and as text
+abbrev pub BeginsNone : List ℕ → Type 0
+BeginsNone bytes = (rest : List ℕ) → is_some (read (bytes ++ rest)) ≡ false
 
 -- ---- which fault stands at a place
 
@@ -47,6 +52,20 @@ stands BadEscape before text = is_in_string_after before && begins_bad_escape te
 stands LoneSurrogate before text = is_in_string_after before && begins_lone_surrogate text
 stands Memory before text = false
 stands _ before text = true
+
+-- The fault is told at the byte that breaks the text. Others are told where what breaks later begins: a word, a number, an escape, a
+-- comma, a level too deep, or a character.
+abbrev pub is_at_its_byte : DocumentFault → Bool
+is_at_its_byte ByteOrderMark = true
+is_at_its_byte Comment = true
+is_at_its_byte SingleQuote = true
+is_at_its_byte MissingComma = true
+is_at_its_byte MissingColon = true
+is_at_its_byte NameWithoutQuotes = true
+is_at_its_byte PlusSign = true
+is_at_its_byte SecondDocument = true
+is_at_its_byte NotJson = true
+is_at_its_byte _ = false
 
 -- the fault is none of the end, of bytes, of depth or of memory
 abbrev pub IsOfByte : DocumentFault → Type 0

@@ -5,3 +5,6 @@ pub mod Document
 pub mod Place
 -- Begins: what a text begins by, as from a place on.
 pub mod Begins
+-- Completes and Reading: which tokens, and which texts, complete a document from a place in it.
+pub mod Completes
+pub mod Reading

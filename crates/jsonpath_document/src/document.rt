@@ -5,8 +5,8 @@ ghost use Rattle.std.specs.Prelude.{false, length, take, true};
 ghost use Rattle.std.specs.Str.{IsUtf8};
 ghost use Rattle.serde_json.specs.Data.{Data};
 ghost use Rattle.serde_json.specs.View.{view};
-ghost use Rattle.jsonpath_document.specs.Document.{IsBeginning, IsDocument, IsFaultIn, IsTold};
-ghost use Rattle.jsonpath_document.specs.Document.{ReadsAs, message_of};
+ghost use Rattle.jsonpath_document.specs.Document.{BeginsNone, IsBeginning, IsDocument, IsFaultIn, IsTold};
+ghost use Rattle.jsonpath_document.specs.Document.{ReadsAs, is_at_its_byte, message_of};
 ghost use Rattle.jsonpath_document.specs.Place.{are_blank, is_continuation, is_too_deep_after};
 ghost use Rattle.jsonpath_document.specs.Place.{is_too_deep_at, place_after};
 
@@ -181,6 +181,7 @@ fn second_document(alloc: Global, bytes: &[u8], count: usize) -> DocumentError
     ensures told { IsTold bytes.now result }
     ensures second { result.fault ≡ DocumentFault.SecondDocument
         → IsDocument (take (result.position - 1) bytes.now) }
+    ensures at_its_byte { is_at_its_byte result.fault ≡ true → result.position ≡ count + 1 }
 {
     let (first, _) = bytes.split_at(count);
     match Value::from_slice(alloc, first) {
@@ -192,10 +193,12 @@ fn second_document(alloc: Global, bytes: &[u8], count: usize) -> DocumentError
 
 /// What is told of a text that breaks at a place.
 fn told(alloc: Global, bytes: &[u8], stop: &Stop) -> DocumentError
-    requires { (stop.now.at ≤ length bytes.now) × (stop.now.start ≤ stop.now.at) }
+    requires within { (stop.now.at ≤ length bytes.now) × (stop.now.start ≤ stop.now.at) }
+    requires broken { stop.now.is_too_large ≡ false → BeginsNone (take (stop.now.at + 1) bytes.now) }
     ensures told { IsTold bytes.now result }
     ensures second { result.fault ≡ DocumentFault.SecondDocument
         → IsDocument (take (result.position - 1) bytes.now) }
+    ensures breaks { is_at_its_byte result.fault ≡ true → BeginsNone (take result.position bytes.now) }
 {
     let (count, fault) = fault_of(bytes, stop);
     let (before, _) = bytes.split_at(count);
@@ -239,6 +242,7 @@ fn refused(alloc: Global, bytes: &[u8]) -> DocumentError
     ensures empty { (result.fault ≡ DocumentFault.Empty) ↔ (are_blank bytes.now ≡ true) }
     ensures second { result.fault ≡ DocumentFault.SecondDocument
         → IsDocument (take (result.position - 1) bytes.now) }
+    ensures breaks { is_at_its_byte result.fault ≡ true → BeginsNone (take result.position bytes.now) }
 {
     if are_blank(bytes) {
         return DocumentError::after(bytes, DocumentFault::Empty);
@@ -286,6 +290,8 @@ pub fn read_document(alloc: Global, bytes: &[u8]) -> Result<Value, DocumentError
     ensures second { IfErr result (λ e. e.fault ≡ DocumentFault.SecondDocument
         → IsDocument (take (e.position - 1) bytes.now)) }
     ensures whole { IfErr result (λ e. e.fault ≡ DocumentFault.Empty → IsBeginning bytes.now) }
+    ensures breaks { IfErr result (λ e. is_at_its_byte e.fault ≡ true
+        → IsBeginning (take e.position bytes.now) → ⊥) }
 {
     match Value::from_slice(alloc, bytes) {
         Ok(value) => Ok(value),

@@ -1,7 +1,7 @@
 //! What is wrong where a document breaks.
 
-ghost use Rattle.std.specs.Prelude.{◌≡◌, ◌≢◌, ◌≤◌, IfSome, List, length, true, ℕ};
-ghost use Rattle.jsonpath_document.specs.Document.{IsMetAt, IsMetBetween, stands};
+ghost use Rattle.std.specs.Prelude.{◌≡◌, ◌≢◌, ◌≤◌, IfSome, List, false, length, true, ℕ};
+ghost use Rattle.jsonpath_document.specs.Document.{IsMetAt, IsMetBetween, is_at_its_byte, stands};
 ghost use Rattle.jsonpath_document.specs.Place.{is_too_deep_after};
 
 use crate::begins::{
@@ -32,7 +32,8 @@ pub(crate) fn is_too_deep(bytes: &[u8], count: usize) -> bool
 
 /// What is wrong in a string, if anything.
 fn fault_in_string(before: &[u8], rest: &[u8]) -> Option<DocumentFault>
-    ensures { IfSome result (λ fault. IsMetBetween before.now rest.now fault) }
+    ensures met { IfSome result (λ fault. IsMetBetween before.now rest.now fault) }
+    ensures earlier { IfSome result (λ fault. is_at_its_byte fault ≡ false) }
 {
     let (_, in_string, is_escaped) = opened_after(before);
     if !in_string || is_escaped {
@@ -49,7 +50,8 @@ fn fault_in_string(before: &[u8], rest: &[u8]) -> Option<DocumentFault>
 
 /// What is wrong in a string after so many bytes of a text.
 fn string_fault_at(bytes: &[u8], count: usize) -> Option<Met>
-    ensures { IfSome result (λ met. IsMetAt bytes.now met.0 met.1) }
+    ensures met { IfSome result (λ met. IsMetAt bytes.now met.0 met.1) }
+    ensures earlier { IfSome result (λ met. is_at_its_byte met.1 ≡ false) }
 {
     let (before, rest) = bytes.split_at_checked(count)?;
     let fault = fault_in_string(before, rest)?;
@@ -58,7 +60,8 @@ fn string_fault_at(bytes: &[u8], count: usize) -> Option<Met>
 
 /// What is wrong with an escape, or with a pair of them, after so many bytes of a text.
 fn string_fault(bytes: &[u8], start: usize) -> Option<Met>
-    ensures { IfSome result (λ met. IsMetAt bytes.now met.0 met.1) }
+    ensures met { IfSome result (λ met. IsMetAt bytes.now met.0 met.1) }
+    ensures earlier { IfSome result (λ met. is_at_its_byte met.1 ≡ false) }
 {
     match string_fault_at(bytes, start) {
         Some(met) => Some(met),
@@ -69,7 +72,8 @@ fn string_fault(bytes: &[u8], start: usize) -> Option<Met>
 
 /// What is wrong with a word after so many bytes of a text.
 fn word_fault(bytes: &[u8], start: usize) -> Option<Met>
-    ensures { IfSome result (λ met. IsMetAt bytes.now met.0 met.1) }
+    ensures met { IfSome result (λ met. IsMetAt bytes.now met.0 met.1) }
+    ensures earlier { IfSome result (λ met. is_at_its_byte met.1 ≡ false) }
 {
     let (_, word) = bytes.split_at_checked(start)?;
     begins_other_word(word).then_some((start, DocumentFault::OtherWord))
@@ -77,7 +81,8 @@ fn word_fault(bytes: &[u8], start: usize) -> Option<Met>
 
 /// A point without digits on both sides after so many bytes of a text.
 fn bare_point(bytes: &[u8], count: usize) -> Option<Met>
-    ensures { IfSome result (λ met. IsMetAt bytes.now met.0 met.1) }
+    ensures met { IfSome result (λ met. IsMetAt bytes.now met.0 met.1) }
+    ensures earlier { IfSome result (λ met. is_at_its_byte met.1 ≡ false) }
 {
     let (before, after) = bytes.split_at_checked(count)?;
     is_bare_point(before, after).then_some((count, DocumentFault::BarePoint))
@@ -85,7 +90,8 @@ fn bare_point(bytes: &[u8], count: usize) -> Option<Met>
 
 /// What is wrong with a number that breaks at a place.
 fn number_fault(bytes: &[u8], stop: &Stop) -> Option<Met>
-    ensures { IfSome result (λ met. IsMetAt bytes.now met.0 met.1) }
+    ensures met { IfSome result (λ met. IsMetAt bytes.now met.0 met.1) }
+    ensures earlier { IfSome result (λ met. is_at_its_byte met.1 ≡ false) }
 {
     let (_, number) = bytes.split_at_checked(stop.start)?;
     if begins_leading_zero(number) {
@@ -102,7 +108,8 @@ fn number_fault(bytes: &[u8], stop: &Stop) -> Option<Met>
 
 /// The comma before a bracket or a brace that closes, and before blanks.
 fn trailing_comma(bytes: &[u8], at: usize) -> Option<Met>
-    ensures { IfSome result (λ met. IsMetAt bytes.now met.0 met.1) }
+    ensures met { IfSome result (λ met. IsMetAt bytes.now met.0 met.1) }
+    ensures earlier { IfSome result (λ met. is_at_its_byte met.1 ≡ false) }
 {
     let (before, rest) = bytes.split_at_checked(at)?;
     if !begins_by(rest, b']') && !begins_by(rest, b'}') {
@@ -165,7 +172,8 @@ fn fault_between(before: &[u8], rest: &[u8], next: Next) -> DocumentFault
 
 /// What is wrong with the word, the number or the string that breaks at a place, or with the comma before it.
 fn fault_before(bytes: &[u8], stop: &Stop) -> Option<Met>
-    ensures { IfSome result (λ met. IsMetAt bytes.now met.0 met.1) }
+    ensures met { IfSome result (λ met. IsMetAt bytes.now met.0 met.1) }
+    ensures earlier { IfSome result (λ met. is_at_its_byte met.1 ≡ false) }
 {
     match stop.next {
         Next::Text(_) | Next::NameText(_) => string_fault(bytes, stop.start),
@@ -178,7 +186,9 @@ fn fault_before(bytes: &[u8], stop: &Stop) -> Option<Met>
 /// What is wrong where a text breaks. How deep the place is, is not looked at.
 pub(crate) fn fault_of(bytes: &[u8], stop: &Stop) -> Met
     requires { (stop.now.at ≤ length bytes.now) × (stop.now.start ≤ stop.now.at) }
-    ensures { IsMetAt bytes.now result.0 result.1 }
+    ensures met { IsMetAt bytes.now result.0 result.1 }
+    ensures at_its_byte { is_at_its_byte result.1 ≡ true
+        → (result.0 ≡ stop.now.at) × (stop.now.is_too_large ≡ false) }
 {
     if stop.is_too_large {
         return (stop.start, DocumentFault::NumberOutOfRange);

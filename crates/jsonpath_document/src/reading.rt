@@ -1,10 +1,15 @@
 //! A document that is read byte by byte, up to the byte that breaks it.
 
-ghost use Rattle.std.specs.Prelude.{◌≡◌, ◌≤◌, length};
+ghost use Rattle.std.specs.Prelude.{◌≡◌, ◌==◌, ◌+◌, ◌<◌, ◌≤◌, ◌&&◌, is_some, length, option_map, slice_range, take};
+ghost use Rattle.serde_json.specs.Read.{number_of};
+ghost use Rattle.jsonpath_document.specs.Document.{BeginsNone};
+ghost use Rattle.jsonpath_document.specs.Reading.{after_byte, after_number, after_text, after_value_byte};
+ghost use Rattle.jsonpath_document.specs.Reading.{after_word, before_byte, begun_by, closed, ends_before};
+ghost use Rattle.jsonpath_document.specs.Reading.{is_plain, is_within, may_end, open_levels, opened, without_sign};
 
 use crate::begins::{is_d, is_escape, is_first_half, is_second_half};
 use crate::place::is_blank;
-use std::str::from_utf8;
+use fast_float::Numeral;
 
 /// How many arrays and objects `serde_json` takes within each other.
 pub(crate) const MOST_LEVELS: usize = 127;
@@ -32,13 +37,27 @@ pub(crate) enum Next {
     /// What follows a value: a comma, or the end of what it stands in.
     AfterValue,
     /// The rest of `true`, `false` or `null`.
-    Word(&'static [u8]),
+    Word(Word),
     /// More of a number, or what follows it.
     Number(Number),
     /// More of a string.
     Text(Text),
     /// More of a name.
     NameText(Text),
+}
+
+/// What is left of `true`, `false` or `null`.
+#[derive(Clone, Copy, PartialEq, Eq)]
+pub(crate) enum Word {
+    Rue,
+    Ue,
+    Alse,
+    Lse,
+    Se,
+    E,
+    Ull,
+    Ll,
+    L,
 }
 
 /// What a number has come to.
@@ -76,28 +95,50 @@ pub(crate) enum Text {
     PairSecondDigit,
 }
 
+impl Word {
+    /// What may come after a byte of a word, or none where the word goes on otherwise.
+    fn after(self, byte: u8) -> Option<Next>
+        ensures { result ≡ after_word self byte }
+    {
+        match self {
+            Word::Rue => (byte == b'r').then_some(Next::Word(Word::Ue)),
+            Word::Ue => (byte == b'u').then_some(Next::Word(Word::E)),
+            Word::Alse => (byte == b'a').then_some(Next::Word(Word::Lse)),
+            Word::Lse => (byte == b'l').then_some(Next::Word(Word::Se)),
+            Word::Se => (byte == b's').then_some(Next::Word(Word::E)),
+            Word::E => (byte == b'e').then_some(Next::AfterValue),
+            Word::Ull => (byte == b'u').then_some(Next::Word(Word::Ll)),
+            Word::Ll => (byte == b'l').then_some(Next::Word(Word::L)),
+            Word::L => (byte == b'l').then_some(Next::AfterValue),
+        }
+    }
+}
+
 impl Number {
     /// What a number comes to by a byte more, or none where no number goes on so.
-    fn after(self, byte: u8) -> Option<Number> {
-        match (self, byte) {
-            (Number::Minus, b'0') => Some(Number::Zero),
-            (Number::Minus | Number::Whole, b'1'..=b'9') => Some(Number::Whole),
-            (Number::Whole, b'0') => Some(Number::Whole),
-            (Number::Zero | Number::Whole, b'.') => Some(Number::Point),
-            (Number::Point | Number::Fraction, b'0'..=b'9') => Some(Number::Fraction),
-            (Number::Zero | Number::Whole | Number::Fraction, b'e' | b'E') => {
-                Some(Number::Exponent)
+    fn after(self, byte: u8) -> Option<Number>
+        ensures { result ≡ after_number self byte }
+    {
+        match self {
+            Number::Minus if byte == b'0' => Some(Number::Zero),
+            Number::Minus => byte.is_ascii_digit().then_some(Number::Whole),
+            Number::Whole | Number::Fraction if byte.is_ascii_digit() => Some(self),
+            Number::Zero | Number::Whole if byte == b'.' => Some(Number::Point),
+            Number::Zero | Number::Whole | Number::Fraction => {
+                (byte == b'e' || byte == b'E').then_some(Number::Exponent)
             }
-            (Number::Exponent, b'+' | b'-') => Some(Number::ExponentSign),
-            (Number::Exponent | Number::ExponentSign | Number::Power, b'0'..=b'9') => {
-                Some(Number::Power)
+            Number::Point => byte.is_ascii_digit().then_some(Number::Fraction),
+            Number::Exponent if byte == b'-' || byte == b'+' => Some(Number::ExponentSign),
+            Number::Exponent | Number::ExponentSign | Number::Power => {
+                byte.is_ascii_digit().then_some(Number::Power)
             }
-            _ => None,
         }
     }
 
     /// Whether a number may end so.
-    fn may_end(self) -> bool {
+    fn may_end(self) -> bool
+        ensures { result ≡ may_end self }
+    {
         matches!(
             self,
             Number::Zero | Number::Whole | Number::Fraction | Number::Power
@@ -105,14 +146,18 @@ impl Number {
     }
 
     /// Whether a number ends before a byte.
-    fn ends_before(self, byte: u8) -> bool {
+    fn ends_before(self, byte: u8) -> bool
+        ensures { result ≡ ends_before self byte }
+    {
         self.may_end() && self.after(byte).is_none() && !byte.is_ascii_digit()
     }
 }
 
 impl Text {
     /// What may come after a byte of a string, or none where no string goes on so.
-    fn after(self, byte: u8) -> Option<Text> {
+    fn after(self, byte: u8) -> Option<Text>
+        ensures { result ≡ after_text self byte }
+    {
         match self {
             Text::Plain if byte == b'\\' => Some(Text::Escaped),
             Text::Plain if 32 <= byte => Some(Text::Plain),
@@ -136,16 +181,20 @@ impl Text {
     }
 
     /// Whether a byte is the quote that ends a string.
-    fn ends_by(self, byte: u8) -> bool {
+    fn ends_by(self, byte: u8) -> bool
+        ensures { result ≡ (is_plain self && byte == 34) }
+    {
         self == Text::Plain && byte == b'"'
     }
 }
 
 impl Next {
     /// What may come before a byte: it ends the number that has begun, unless that is too large.
-    fn before(self, byte: u8, begun: &[u8]) -> Next {
+    fn before(self, byte: u8, begun: &[u8]) -> Next
+        ensures { result ≡ before_byte self byte begun.now }
+    {
         match self {
-            Next::Number(number) if number.ends_before(byte) && !is_infinite(begun) => {
+            Next::Number(number) if number.ends_before(byte) && is_in_range(begun) => {
                 Next::AfterValue
             }
             _ => self,
@@ -153,7 +202,9 @@ impl Next {
     }
 
     /// Whether what is next belongs to what has begun: a word, a number, or an escape.
-    fn is_within(self) -> bool {
+    fn is_within(self) -> bool
+        ensures { result ≡ is_within self }
+    {
         match self {
             Next::Word(_) | Next::Number(_) => true,
             Next::Text(text) | Next::NameText(text) => text != Text::Plain,
@@ -162,16 +213,22 @@ impl Next {
     }
 }
 
-/// Whether a number is beyond the floats.
-fn is_infinite(number: &[u8]) -> bool {
-    let Ok(text) = from_utf8(number) else {
-        return false;
-    };
-    let value: Result<f64, _> = text.parse();
-    match value {
-        Ok(value) => value.is_infinite(),
-        Err(_) => false,
+/// A number without its minus sign.
+fn without_sign(number: &[u8]) -> &[u8]
+    ensures { result.now ≡ without_sign number.now }
+{
+    match number.split_first() {
+        Some((b'-', digits)) => digits,
+        _ => number,
     }
+}
+
+/// Whether a number is not beyond the floats.
+fn is_in_range(number: &[u8]) -> bool
+    ensures { result ≡ is_some (number_of number.now) }
+{
+    let nearest: f64 = Numeral::scan(without_sign(number)).to_float(false);
+    nearest.is_finite()
 }
 
 /// Whether a number is too large that has ended, or that may still go on: then no exponent may make it smaller.
@@ -181,9 +238,9 @@ fn is_too_large(number: &[u8], has_ended: bool) -> bool {
         return false;
     };
     match (power.get(1), power.get(2)) {
-        (Some(b'+'), None) => is_infinite(front),
-        (Some(b'-'), _) | (None, _) => has_ended && is_infinite(number),
-        _ => is_infinite(number),
+        (Some(b'+'), None) => !is_in_range(front),
+        (Some(b'-'), _) | (None, _) => has_ended && !is_in_range(number),
+        _ => !is_in_range(number),
     }
 }
 
@@ -192,38 +249,46 @@ fn is_too_large(number: &[u8], has_ended: bool) -> bool {
 struct Levels {
     levels: [Level; MOST_LEVELS],
     count: usize,
+    ghost within: { count ≤ 127 },
 }
 
 impl Levels {
     /// What may come after a byte, or none where no document goes on so.
-    fn after(&mut self, next: Next, byte: u8) -> Option<Next> {
+    fn after(&mut self, next: Next, byte: u8) -> Option<Next>
+        ensures { option_map (λ n. (open_levels self.new.levels self.new.count, n)) result
+            ≡ after_byte (open_levels self.old.levels self.old.count) next byte }
+    {
         match next {
             Next::Text(text) if text.ends_by(byte) => Some(Next::AfterValue),
             Next::Text(text) => Some(Next::Text(text.after(byte)?)),
             Next::NameText(text) if text.ends_by(byte) => Some(Next::Colon),
             Next::NameText(text) => Some(Next::NameText(text.after(byte)?)),
             Next::Number(number) => Some(Next::Number(number.after(byte)?)),
-            Next::Word(word) => after_word(word, byte),
+            Next::Word(word) => word.after(byte),
             _ if is_blank(byte) => Some(next),
             Next::FirstItem if byte == b']' => self.close(),
             Next::FirstName if byte == b'}' => self.close(),
             Next::Value | Next::FirstItem => self.begin(byte),
-            Next::FirstName | Next::Name if byte == b'"' => Some(Next::NameText(Text::Plain)),
-            Next::Colon if byte == b':' => Some(Next::Value),
+            Next::FirstName | Next::Name => {
+                (byte == b'"').then_some(Next::NameText(Text::Plain))
+            }
+            Next::Colon => (byte == b':').then_some(Next::Value),
             Next::AfterValue => self.after_value(byte),
-            _ => None,
         }
     }
 
     /// What may come after the first byte of a value.
-    fn begin(&mut self, byte: u8) -> Option<Next> {
+    fn begin(&mut self, byte: u8) -> Option<Next>
+        ensures { option_map (λ n. (open_levels self.new.levels self.new.count, n)) result
+            ≡ begun_by (open_levels self.old.levels self.old.count) byte }
+    {
         match byte {
             b'[' => self.open(Level::Array, Next::FirstItem),
             b'{' => self.open(Level::Object, Next::FirstName),
             b'"' => Some(Next::Text(Text::Plain)),
-            b't' => Some(Next::Word(b"rue")),
-            b'f' => Some(Next::Word(b"alse")),
-            b'n' => Some(Next::Word(b"ull")),
+            b't' => Some(Next::Word(Word::Rue)),
+            b'f' => Some(Next::Word(Word::Alse)),
+            b'n' => Some(Next::Word(Word::Ull)),
             b'-' => Some(Next::Number(Number::Minus)),
             b'0' => Some(Next::Number(Number::Zero)),
             b'1'..=b'9' => Some(Next::Number(Number::Whole)),
@@ -232,7 +297,10 @@ impl Levels {
     }
 
     /// What may come after a byte that follows a value.
-    fn after_value(&mut self, byte: u8) -> Option<Next> {
+    fn after_value(&mut self, byte: u8) -> Option<Next>
+        ensures { option_map (λ n. (open_levels self.new.levels self.new.count, n)) result
+            ≡ after_value_byte (open_levels self.old.levels self.old.count) byte }
+    {
         let level = *self.levels.get(self.count.checked_sub(1)?)?;
         match (level, byte) {
             (Level::Array, b',') => Some(Next::Value),
@@ -243,26 +311,25 @@ impl Levels {
     }
 
     /// Begins an array or an object, unless too many are open.
-    fn open(&mut self, level: Level, next: Next) -> Option<Next> {
-        let place = self.levels.get_mut(self.count)?;
-        *place = level;
+    fn open(&mut self, level: Level, next: Next) -> Option<Next>
+        ensures { option_map (λ n. (open_levels self.new.levels self.new.count, n)) result
+            ≡ opened level next (open_levels self.old.levels self.old.count) }
+    {
+        if self.count >= MOST_LEVELS {
+            return None;
+        }
+        self.levels[self.count] = level;
         self.count += 1;
         Some(next)
     }
 
     /// Ends an array or an object.
-    fn close(&mut self) -> Option<Next> {
-        self.count = self.count.saturating_sub(1);
+    fn close(&mut self) -> Option<Next>
+        ensures { option_map (λ n. (open_levels self.new.levels self.new.count, n)) result
+            ≡ closed (open_levels self.old.levels self.old.count) }
+    {
+        self.count = self.count.checked_sub(1)?;
         Some(Next::AfterValue)
-    }
-}
-
-/// What may come after a byte of a word of which this is left.
-fn after_word(word: &'static [u8], byte: u8) -> Option<Next> {
-    match word.split_first() {
-        Some((first, rest)) if *first == byte && rest.is_empty() => Some(Next::AfterValue),
-        Some((first, rest)) if *first == byte => Some(Next::Word(rest)),
-        _ => None,
     }
 }
 
@@ -290,12 +357,16 @@ impl Stop {
 }
 
 /// What a text has, between two places, of the word, the number or the escape that has begun.
-fn begun(text: &[u8], start: usize, at: usize) -> &[u8] {
-    text.get(start..at).unwrap_or(b"")
+fn begun(text: &[u8], start: usize, at: usize) -> &[u8]
+    requires { (start ≤ at) × (at ≤ length text.now) }
+    ensures { result.now ≡ slice_range text.now start at }
+{
+    &text[start..at]
 }
 
 /// Where a text breaks at a place.
 fn stop_at(text: &[u8], start: usize, at: usize, next: Next) -> Stop
+    requires { (start ≤ at) × (at ≤ length text.now) }
     ensures { (result.at ≡ at) × (result.start ≡ start) }
 {
     let is_too_large = match next {
@@ -317,6 +388,7 @@ fn stop_at(text: &[u8], start: usize, at: usize, next: Next) -> Stop
 pub(crate) fn read(text: &[u8]) -> Stop
     ensures at { result.at ≤ length text.now }
     ensures start { result.start ≤ result.at }
+    ensures broken { result.at < length text.now → BeginsNone (take (result.at + 1) text.now) }
 {
     let mut next = Next::Value;
     let mut start = 0usize;
