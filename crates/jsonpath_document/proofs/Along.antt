@@ -1,13 +1,21 @@
 -- A text is read along: what follows so much of it makes a document where it completes one from where the reader stands.
-use Rattle.std.proofs.Common.{◌≡◌, ℕ, ◌+◌, ◌-◌, ◌<◌, ◌≤◌, Bool, true, false, List, [], ◌∷◌, ◌++◌, length, take, drop, get_or, get_or-drop, length-drop, Option, Some, None, sym, ap, ◌∙◌, subst, arith, if◌then◌else◌, append_assoc}
+use Rattle.std.proofs.Common.{take-append-drop, take-take, ap₂, not, ◌&&◌, ◌||◌, refl, zero, suc, inl, inr, ◌≡◌, ℕ, ◌+◌, ◌-◌, ◌<◌, ◌≤◌, Bool, true, false, List, [], ◌∷◌, ◌++◌, length, take, drop, get_or, get_or-drop, length-drop, Option, Some, None, sym, ap, ◌∙◌, subst, arith, if◌then◌else◌, append_assoc}
 use Rattle.std.proofs.lemmas.List.{take_more}
-use Rattle.std.proofs.lemmas.Bool.{and_parts, eqb-true, true≢false}
+use Rattle.std.proofs.lemmas.Bool.{and_parts, cases_Bool, cases_lt, eqb-true, false_from_ne_true, false≢true, ltb-true, true≢false}
 use Rattle.std.specs.List.{starts_with}
 use Rattle.std.specs.Option.{is_some}
 use Rattle.std.specs.Prelude.{nat_eq, slice_range}
 use Rattle.serde_json.specs.Read.{read}
-use Rattle.jsonpath_document.specs.Document.{BeginsNone, IsBeginning}
-use Rattle.jsonpath_document.specs.Reading.{accepts, accepts_from, after_byte, before_byte, begun_with, is_within}
+use Rattle.jsonpath_document.specs.Document.{BeginsNone, IsBeginning, IsDocument}
+use Rattle.jsonpath_document.proofs.Beginnings.{blanks_begin}
+use Rattle.std.specs.Str.{IsAscii, IsCharBoundary, IsUtf8}
+use Rattle.std.proofs.lemmas.Str.{IsCharBoundary-after_ascii, IsCharBoundary-before_ascii, IsCharBoundary-end, IsCharBoundary-start, IsUtf8-append, IsUtf8-from_ascii, IsUtf8-take}
+use Rattle.serde_json.specs.Data.{Data}
+use Rattle.jsonpath_document.proofs.Fills.{CanGoOn, filled, is_ascii}
+use Rattle.jsonpath_document.proofs.Edges.{IsNumberFrom, IsPlainFrom, can_go, high_leads, number_before_byte, number_stays, number_from, plain_before, plain_goes_on}
+use Rattle.jsonpath_document.specs.Reading.{accepts, accepts_from, after_byte, before_byte, begun_with, is_in_plain, is_number, is_too_large, is_within, may_end, only_grows}
+use Rattle.serde_json.specs.Read.{number_of}
+use Rattle.jsonpath_document.proofs.Endings.{can_go_on}
 use Rattle.jsonpath_document.specs.declared.reading.Level.{Level}
 use Rattle.jsonpath_document.specs.declared.reading.Next.{Next}
 use Rattle.jsonpath_document.specs.declared.reading.Next.TheVariants as next
@@ -19,10 +27,69 @@ pub record IsReached (text : List ℕ) (index start : ℕ) (levels : List Level)
   pub start_in : start ≤ index
   pub stands : IsStanding levels n (slice_range text start index)
   pub same : (r : List ℕ) → is_some (read (take index text ++ r)) ≡ accepts levels n (slice_range text start index) r
+  pub edge : is_in_plain n ≡ false → IsUtf8 text → IsCharBoundary text index
+  pub number : is_number n ≡ true → IsUtf8 text → IsBeginning (take start text)
+
+some_data : (o : Option Data) → is_some o ≡ true → (d : Data) × (o ≡ Some d)
+some_data None e = absurd (false≢true e)
+some_data (Some d) e = (d, refl)
+
+all_ascii : (r : List ℕ) → is_ascii r ≡ true → IsAscii r
+all_ascii [] h i = omega arith
+all_ascii (x ∷ xs) h zero = ltb-true x 128 (and_parts _ _ h).0
+all_ascii (x ∷ xs) h (suc i) = all_ascii xs (and_parts _ _ h).1 i
+
+-- what is read is the beginning of a document, where it ends between two characters
+pub begins_there : (text : List ℕ) (index start : ℕ) (levels : List Level) (n : Next) → IsReached text index start levels n → CanGoOn n (slice_range text start index)
+    → IsUtf8 text → IsCharBoundary text index → IsBeginning (take index text)
+begins_there text index start levels n reached can utf8 boundary =
+    let more = filled levels n (slice_range text start index) reached.stands can in
+    let found = some_data (read (take index text ++ more.0)) (reached.same more.0 ∙ more.2) in
+    (more.0, (found.0, (IsUtf8-append (take index text) more.0 (IsUtf8-take text index utf8 boundary) (IsUtf8-from_ascii more.0 (all_ascii more.0 more.1)), found.1)))
 
 pub reached_first : (text : List ℕ) → IsReached text 0 0 [] next.Value
 unfolding accepts
-reached_first text = record { start_in = omega arith; stands = tt; same = λ r. read_completes r }
+reached_first text = record {
+  start_in = omega arith;
+  stands = tt;
+  same = λ r. read_completes r;
+  edge = λ h utf8. IsCharBoundary-start text utf8;
+  number = λ h. absurd (false≢true h);
+}
+
+number_within : (n : Next) → is_number n ≡ true → is_within n ≡ true
+number_within next.Value h = absurd (false≢true h)
+number_within next.FirstItem h = absurd (false≢true h)
+number_within next.FirstName h = absurd (false≢true h)
+number_within next.Name h = absurd (false≢true h)
+number_within next.Colon h = absurd (false≢true h)
+number_within next.AfterValue h = absurd (false≢true h)
+number_within (next.Word w) h = refl
+number_within (next.Number n) h = refl
+number_within (next.Text t) h = absurd (false≢true h)
+number_within (next.NameText t) h = absurd (false≢true h)
+
+no_number_without : (n : Next) → is_within n ≡ false → is_number n ≡ false
+no_number_without n h = false_from_ne_true (is_number n) (λ e. true≢false (sym (number_within n e) ∙ h))
+
+-- a number that is not too large can go on
+can_continue : (levels : List Level) (n : Next) (begun : List ℕ) (has_ended : Bool) → IsStanding levels n begun → is_too_large n has_ended begun ≡ false → CanGoOn n begun
+can_continue levels next.Value begun has_ended h e = tt
+can_continue levels next.FirstItem begun has_ended h e = tt
+can_continue levels next.FirstName begun has_ended h e = tt
+can_continue levels next.Name begun has_ended h e = tt
+can_continue levels next.Colon begun has_ended h e = tt
+can_continue levels next.AfterValue begun has_ended h e = tt
+can_continue levels (next.Word w) begun has_ended h e = tt
+can_continue levels (next.Number n) begun has_ended h e = can_go_on n begun h.1 (in_range_by (has_ended && may_end n) (only_grows n begun) (is_some (number_of begun)) e)
+  where
+    in_range_by : (a g s : Bool) → (a || g) && not s ≡ false → g ≡ true → s ≡ true
+    in_range_by a g true e f = refl
+    in_range_by true g false e f = absurd (true≢false e)
+    in_range_by false true false e f = absurd (true≢false e)
+    in_range_by false false false e f = absurd (false≢true f)
+can_continue levels (next.Text t) begun has_ended h e = tt
+can_continue levels (next.NameText t) begun has_ended h e = tt
 
 -- a byte more is begun with, unless it begins what has begun
 abbrev pub start_at : Bool → ℕ → ℕ → ℕ
@@ -66,6 +133,26 @@ module _ (text : List ℕ) (index start : ℕ) (levels : List Level) (n : Next) 
       ∙ reached.same (byte ∷ r) ∙ steps levels n (slice_range text start index) byte r reached.stands
       ∙ ap (λ b. accepts_from led b r) (sym (begun_is text start index (is_within before) reached.start_in some))
 
+  -- a place that a byte leads to lies between characters, but in a string
+  edge_after : (final : List Level) (after : Next) → Some (final, after) ≡ led → is_in_plain after ≡ false → IsUtf8 text → IsCharBoundary text (index + 1)
+  edge_after final after e plain utf8 =
+      elim (cases_lt byte 128) [
+        | inl low ↦ IsCharBoundary-after_ascii text index utf8 some low
+        | inr high ↦ absurd (false≢true (sym plain ∙ subst IsPlainFrom (sym e) (high_leads byte high levels before)))
+      ]
+
+  not_plain : is_in_plain before ≡ false → is_in_plain n ≡ false
+  not_plain h = false_from_ne_true (is_in_plain n) (λ e. false≢true (sym h ∙ ap is_in_plain (plain_before n byte (slice_range text start index) e) ∙ e))
+
+  -- where a number begins
+  number_after : (final : List Level) (after : Next) → Some (final, after) ≡ led → is_number after ≡ true → IsUtf8 text → IsBeginning (take (start_at (is_within before) start index) text)
+  number_after final after e h utf8 =
+      elim (subst (IsNumberFrom before) (sym e) (number_from levels before byte) h) [
+        | inl same ↦ subst (λ w. IsBeginning (take (start_at w start index) text)) (sym (number_within before same)) (reached.number (number_before_byte n byte (slice_range text start index) same) utf8)
+        | inr fresh ↦ subst (λ w. IsBeginning (take (start_at w start index) text)) (sym fresh.0)
+            (begins_there text index start levels n reached (can_go n byte (slice_range text start index) (no_number_without before fresh.0)) utf8 (reached.edge (not_plain fresh.1) utf8))
+      ]
+
   -- a byte that leads on
   pub reached_more : (final : List Level) (after : Next) → Some (final, after) ≡ led
       → IsReached text (index + 1) (start_at (is_within before) start index) final after
@@ -75,6 +162,8 @@ module _ (text : List ℕ) (index start : ℕ) (levels : List Level) (n : Next) 
         stands = subst (λ b. IsStanding final after b) (sym begun)
             (subst (λ o. IsStandingFrom o (begun_with before byte (slice_range text start index))) (sym e) (stands_on levels n (slice_range text start index) byte reached.stands));
         same = λ r. reads_on r ∙ ap (λ o. accepts_from o (slice_range text (start_at (is_within before) start index) (index + 1)) r) (sym e);
+        edge = edge_after final after e;
+        number = number_after final after e;
       }
 
   -- a byte that leads nowhere
@@ -91,6 +180,31 @@ module _ (text : List ℕ) (index start : ℕ) (levels : List Level) (n : Next) 
     pub leads_nowhere : None ≡ after_byte levels led_from byte → BeginsNone (take (index + 1) text)
     leads_nowhere f = reached_none (ap (λ m. after_byte levels m byte) (sym is) ∙ sym f)
 
+  -- where the text breaks between characters
+  pub begins_before : (led_from : Next) → led_from ≡ before → None ≡ after_byte levels led_from byte → (start_now : ℕ) → start_now ≡ start_at (is_within led_from) start index
+      → (has_ended : Bool) → is_too_large led_from has_ended (slice_range text start_now index) ≡ false → IsUtf8 text → IsBeginning (take index text)
+  begins_before led_from is none start_now at has_ended fine utf8 =
+      let nowhere : led ≡ None = ap (λ m. after_byte levels m byte) (sym is) ∙ sym none in
+      let can : CanGoOn n (slice_range text start index) = elim (cases_Bool (is_number before)) [
+        | inl e ↦
+            let same : led_from ≡ n = is ∙ number_stays n byte (slice_range text start index) e in
+            let from : start_now ≡ start = at ∙ ap (λ w. start_at w start index) (ap is_within is ∙ number_within before e) in
+            can_continue levels n (slice_range text start index) has_ended reached.stands (ap₂ (λ m s. is_too_large m has_ended (slice_range text s index)) (sym same) (sym from) ∙ fine)
+        | inr e ↦ can_go n byte (slice_range text start index) e
+      ] in
+      begins_there text index start levels n reached can utf8
+      (elim (cases_lt byte 128) [
+        | inl low ↦ IsCharBoundary-before_ascii text index some low
+        | inr high ↦ reached.edge (not_plain (false_from_ne_true (is_in_plain before) (λ e. plain_goes_on byte high levels before e nowhere))) utf8
+      ])
+
+-- the whole text is a beginning
+pub begins_whole : (text : List ℕ) (index start : ℕ) (levels : List Level) (n : Next) → IsReached text index start levels n → index ≡ length text
+    → (has_ended : Bool) → is_too_large n has_ended (slice_range text start index) ≡ false → IsUtf8 text → IsBeginning (take index text)
+begins_whole text index start levels n reached e has_ended fine utf8 =
+    begins_there text index start levels n reached (can_continue levels n (slice_range text start index) has_ended reached.stands fine) utf8
+    (subst (λ i. IsCharBoundary text i) (sym e) (IsCharBoundary-end text))
+
 -- ---- what begins nothing
 
 pub begins_none : (text : List ℕ) → BeginsNone text → IsBeginning text → ⊥
@@ -104,3 +218,26 @@ mark_begins_none (x ∷ xs) position e one r =
     let first : x ≡ 239 = sym (eqb-true 239 x (and_parts _ _ e).0) in
     ap (λ n. is_some (read (take n (x ∷ xs) ++ r))) one ∙ ap (λ b. is_some (read (b ∷ r))) first
     ∙ read_completes (239 ∷ r) ∙ steps [] next.Value [] 239 r tt
+
+-- ---- what stands before a place in a beginning
+
+pub begins_front : (text : List ℕ) (n : ℕ) → IsBeginning text → IsBeginning (take n text)
+begins_front text n is =
+    let whole : take n text ++ (drop n text ++ is.0) ≡ text ++ is.0 = sym (append_assoc (take n text) (drop n text) is.0) ∙ ap (λ t. t ++ is.0) (take-append-drop n text) in
+    (drop n text ++ is.0, subst IsDocument (sym whole) is.1)
+
+pub begins_earlier : (text : List ℕ) (less more : ℕ) → less ≤ more → IsBeginning (take more text) → IsBeginning (take less text)
+begins_earlier text less more le is = subst IsBeginning (take-take less more text le) (begins_front (take more text) less is)
+
+pub begins_nothing : (text : List ℕ) (n : ℕ) → n ≡ 0 → IsBeginning (take n text)
+begins_nothing text n e = subst (λ m. IsBeginning (take m text)) (sym e) (blanks_begin [] refl)
+
+-- of the text at the front of bytes
+pub begins_in_front : (bytes text : List ℕ) (count n : ℕ) → text ≡ take count bytes → count ≤ length bytes → n ≤ count → IsBeginning (take n text) → IsBeginning (take n bytes)
+begins_in_front bytes text count n e within le is = subst IsBeginning (ap (λ t. take n t) e ∙ take-take n count bytes le) is
+
+-- where a fault is told of a text that breaks
+pub begins_told : (text : List ℕ) (at start count position : ℕ) (large : Bool) → count ≤ at → (large ≡ true → count ≡ start) → (large ≡ false → IsBeginning (take at text))
+    → (large ≡ true → IsBeginning (take start text)) → position - 1 ≡ count → IsBeginning (take (position - 1) text)
+begins_told text at start count position true le same kept number e = subst (λ n. IsBeginning (take n text)) (sym (e ∙ same refl)) (number refl)
+begins_told text at start count position false le same kept number e = subst (λ n. IsBeginning (take n text)) (sym e) (begins_earlier text count at le (kept refl))

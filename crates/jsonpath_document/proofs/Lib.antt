@@ -1,13 +1,23 @@
 -- Lemmas; the folders have the proofs of functions.
+-- Along: a text that is read byte by byte, what follows so much of it, and what begins none.
+pub mod Along
 -- Beginnings: blanks alone are the beginning of a document.
 pub mod Beginnings
--- Steps: a text completes a document where what follows its first byte does, from where that byte leads. Below it Bytes, Numbers,
--- Strings, and Parsed, which does the same of tokens.
-pub mod Steps
+-- Steps: a text completes a document where what follows its first byte does, from where that byte leads. Bytes, Numbers and Strings
+-- are of its cases; Parsed does the same of tokens.
+mod Steps
 mod Bytes
-pub mod Along
-mod Levels
-mod Range
 mod Numbers
-pub mod Parsed
 mod Strings
+mod Parsed
+-- Fills: some text completes a document from each place. Endings is of numbers: they can end within the floats (Range), by their parts
+-- (Shapes) and what is scanned of these (Scans).
+mod Fills
+mod Endings
+mod Range
+mod Shapes
+mod Scans
+-- Edges: a text breaks between characters only.
+mod Edges
+-- Levels: what is open, of levels in an array.
+mod Levels

@@ -1,5 +1,5 @@
 -- A number is one of JSON's where it is not beyond the floats.
-use Rattle.std.proofs.Common.{[], ◌∷◌, ◌≡◌, ◌==◌, ◌*◌, ◌^◌, ◌<◌, ◌≤◌, ℕ, Bool, true, false, List, length, drop, Option, Some, None, refl, sym, ◌∙◌, arith, if◌then◌else◌, ltb-true, eqb-true, leb-true, slice_index}
+use Rattle.std.proofs.Common.{subst, [], ◌∷◌, ◌≡◌, ◌==◌, ◌*◌, ◌^◌, ◌<◌, ◌≤◌, ℕ, Bool, true, false, List, length, drop, Option, Some, None, refl, sym, ◌∙◌, arith, if◌then◌else◌, ltb-true, eqb-true, leb-true, slice_index}
 use Rattle.std.proofs.lemmas.Bool.{and_parts}
 use Rattle.std.proofs.Math.Nat.{le-mul_of_pos_right, pow-le-pow_right}
 use Rattle.std.specs.Float.{float_is_finite}
@@ -17,10 +17,9 @@ tens_some k = let some : 0 ≤ k = omega arith in let least : 10 ^ 0 ≤ 10 ^ k 
 
 small_finite : (s : Bool) (p : Parts) → is_integer p ≡ true → digits_of p < 2 ^ 64 → float_is_finite (nearest binary64 s p) ≡ true
 small_finite s p int small =
+    let bound : digits_of p * 10 ^ 0 < 2 ^ 64 * 10 ^ tens_down p = omega (arith, small, le-mul_of_pos_right (2 ^ 64) (tens_some (tens_down p))) in
     let up : tens_up p ≡ 0 = no_tens p.exponent p.exponent_negative (eqb-true _ _ (and_parts _ _ int).1) in
-    let least = le-mul_of_pos_right (2 ^ 64) (tens_some (tens_down p)) in
-    let bound : digits_of p * 10 ^ tens_up p < 2 ^ 64 * 10 ^ tens_down p = rw up (omega (arith, small, least)) in
-    finite_rounded s (digits_of p * 10 ^ tens_up p) (10 ^ tens_down p) (tens_some (tens_down p)) bound
+    finite_rounded s (digits_of p * 10 ^ tens_up p) (10 ^ tens_down p) (tens_some (tens_down p)) (subst (λ u. digits_of p * 10 ^ u < 2 ^ 64 * 10 ^ tens_down p) (sym up) bound)
   where
     no_tens : (e : List ℕ) (negative : Bool) → length e ≡ 0 → (if negative then 0 else digits_value 10 e) ≡ 0
     no_tens [] true h = refl

@@ -31,6 +31,7 @@ use Rattle.jsonpath_document.specs.declared.reading.Number.TheVariants.{Whole}
 use Rattle.jsonpath_document.specs.declared.reading.Text.TheVariants.{Plain}
 use Rattle.jsonpath_document.proofs.Bytes.{Byte, IsOther, blank, quote, backslash, open_brace, close_brace, open_bracket, close_bracket, letter_t, letter_f, letter_n, minus, zero, any_other, byte_is, begun_by-other, begun_digit, lex-blank, lex-other, rest_if, word-other}
 use Rattle.jsonpath_document.proofs.Bytes as bytes
+use Rattle.jsonpath_document.proofs.Shapes.{HasShape, shape_after, shape_digit, shape_minus, shape_zero}
 use Rattle.jsonpath_document.proofs.Strings.{by_table, ends}
 use Rattle.json.proofs.Printed.Numbers.{in_word-ended}
 use Rattle.json.specs.Lex as lexer
@@ -294,7 +295,7 @@ none_follows : (p : Place) (t : tokens.Token) (ls : List Lexeme) (w : Bool) (lev
 unfolding punctuate
 none_follows p t ls w levels e = ap (λ ts. completes ts w levels) e ∙ bad_never w levels
 
-after_other : (levels : List Level) (b : ℕ) → IsOther b → after_value_byte levels b ≡ None
+pub after_other : (levels : List Level) (b : ℕ) → IsOther b → after_value_byte levels b ≡ None
 after_other [] b h = refl
 after_other (Array ∷ levels) b h = rw (h.not_44, h.not_93) refl
 after_other (Object ∷ levels) b h = rw (h.not_44, h.not_125) refl
@@ -586,7 +587,7 @@ IsStanding levels next.Name begun = (outer : List Level) × (levels ≡ Object �
 IsStanding levels next.Colon begun = (outer : List Level) × (levels ≡ Object ∷ outer)
 IsStanding levels next.AfterValue begun = ⊤
 IsStanding levels (next.Word w) begun = ⊤
-IsStanding levels (next.Number n) begun = IsBegun n begun
+IsStanding levels (next.Number n) begun = IsBegun n begun × HasShape n begun
 IsStanding levels (next.Text t) begun = ⊤
 IsStanding levels (next.NameText t) begun = (outer : List Level) × (levels ≡ Object ∷ outer)
 
@@ -650,13 +651,13 @@ step_colon levels b r begun = or_blank b r (Object ∷ levels) next.Colon _ afte
 
 -- ---- numbers
 
-abbrev is_in_number : ℕ → Bool
+abbrev pub is_in_number : ℕ → Bool
 is_in_number b = is_ascii_digit b || (b == 46 || (is_exponent b || is_sign b))
 
 abbrev is_mark : ℕ → Bool
 is_mark b = (b == 34) || ((b == 92) || (is_operator b || is_space b))
 
-in_number_below : (b : ℕ) → is_in_number b ≡ true → b < 128
+pub in_number_below : (b : ℕ) → is_in_number b ≡ true → b < 128
 in_number_below b h = grind (arith, nat_tests)
 
 unmarked : (b : ℕ) → is_in_number b ≡ true → is_mark b ≡ false
@@ -672,7 +673,7 @@ number_class false false true p x xs k e = absurd (true≢false e)
 number_class false false false true x xs k e = absurd (true≢false e)
 number_class false false false false x xs k e = refl
 
-number_passes : (b : ℕ) (r : List ℕ) → is_in_number b ≡ true → lex in_word (b ∷ r) ≡ lex in_word r
+pub number_passes : (b : ℕ) (r : List ℕ) → is_in_number b ≡ true → lex in_word (b ∷ r) ≡ lex in_word r
 unfolding lex
 number_passes b r h = number_class (b == 34) (b == 92) (is_operator b) (is_space b) b r (λ m. lex m r) (unmarked b h)
 
@@ -686,7 +687,7 @@ no_number_by Exponent b z d p e s = rw (s, d) refl
 no_number_by ExponentSign b z d p e s = rw d refl
 no_number_by Power b z d p e s = rw d refl
 
-no_number : (n : Number) (b : ℕ) → is_in_number b ≡ false → byte_after n b ≡ None
+pub no_number : (n : Number) (b : ℕ) → is_in_number b ≡ false → byte_after n b ≡ None
 no_number n b h =
     let one = or_parts _ _ h in
     let two = or_parts _ _ one.1 in
@@ -757,7 +758,7 @@ steps levels next.Colon begun b r h =
     let each : List Level → Type 0 = λ ls. StepsAt ls next.Colon b r begun in subst each (sym h.1) (step_colon h.0 b r begun)
 steps levels next.AfterValue begun b r h = value_ended levels (b ∷ []) b r (byte_is b)
 steps levels (next.Word w) begun b r h = word_goes levels begun (begun ++ b ∷ []) r b w
-steps levels (next.Number n) begun b r h = number_steps levels n begun b r h
+steps levels (next.Number n) begun b r h = number_steps levels n begun b r h.0
 steps levels (next.Text t) begun b r h = in_text levels begun (begun_with (next.Text t) b begun) b r t
 steps levels (next.NameText t) begun b r h = in_name levels begun (begun_with (next.NameText t) b begun) b r t
 
@@ -793,12 +794,12 @@ begun_stands levels b bytes.comma solid = tt
 begun_stands levels b letter_t solid = tt
 begun_stands levels b letter_f solid = tt
 begun_stands levels b letter_n solid = tt
-begun_stands levels b minus solid = begun_minus
-begun_stands levels b zero solid = begun_zero
+begun_stands levels b minus solid = (begun_minus, shape_minus)
+begun_stands levels b zero solid = (begun_zero, shape_zero)
 begun_stands levels _ (any_other b h) solid =
     let goal : Option (List Level × Next) → Type 0 = λ o. IsStandingFrom o (b ∷ []) in
     let each : (d : Bool) → is_ascii_digit b ≡ d → goal (some_if d (levels, next.Number Whole)) = λ d. elim d as (λ d. is_ascii_digit b ≡ d → goal (some_if d (levels, next.Number Whole))) [
-      | true ↦ λ e. begun_digit b h e
+      | true ↦ λ e. (begun_digit b h e, shape_digit b e)
       | false ↦ λ e. tt
     ] in
     subst goal (sym (begun_by-other levels b h)) (each (is_ascii_digit b) refl)
@@ -836,7 +837,7 @@ stands_on levels (next.Word Ll) begun b h = word_stands levels _ (b == 108) (nex
 stands_on levels (next.Word L) begun b h = word_stands levels _ (b == 108) next.AfterValue tt
 stands_on levels (next.Number n) begun b h =
     let each : (o : Option Number) → byte_after n b ≡ o → IsStandingFrom (with_levels levels (option_map next.Number o)) (begun ++ b ∷ []) =
-    λ o. elim o as (λ o. byte_after n b ≡ o → IsStandingFrom (with_levels levels (option_map next.Number o)) (begun ++ b ∷ [])) [ None ↦ λ e. tt | Some m ↦ λ e. begun_more n m begun b h e ] in
+    λ o. elim o as (λ o. byte_after n b ≡ o → IsStandingFrom (with_levels levels (option_map next.Number o)) (begun ++ b ∷ [])) [ None ↦ λ e. tt | Some m ↦ λ e. (begun_more n m begun b h.0 e, shape_after n m begun b h.1 e) ] in
     elim (ends_before n b && is_some (number_of begun))
     as (λ z. IsStandingFrom (after_byte levels (if z then next.AfterValue else next.Number n) b) (begun_with (if z then next.AfterValue else next.Number n) b begun))
     [ true ↦ ended_stands levels b (b ∷ []) | false ↦ each (byte_after n b) refl ]

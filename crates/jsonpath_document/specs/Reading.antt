@@ -1,5 +1,6 @@
 -- What a reader of bytes stands at in a document, what a byte makes of that, and which texts complete the document from there.
-use Rattle.std.specs.Prelude.{◌==◌, ◌&&◌, ◌||◌, not, ℕ, zero, suc, Bool, true, false, List, [], ◌∷◌, ◌++◌, length, drop, codes, nat_eq, nat_le, nat_lt, slice_index, if◌then◌else◌, Option, Some, None, option_map}
+use Rattle.fast_float.specs.Text.{scan}
+use Rattle.std.specs.Prelude.{◌==◌, ◌-◌, ◌&&◌, ◌||◌, not, ℕ, zero, suc, Bool, true, false, List, [], ◌∷◌, ◌++◌, length, drop, codes, nat_eq, nat_le, nat_lt, slice_index, if◌then◌else◌, Option, Some, None, option_map}
 use Rattle.std.specs.Char.{is_ascii_digit, is_ascii_hexdigit}
 use Rattle.std.specs.Int.{is_in_range}
 use Rattle.std.specs.List.{slice_index_or, starts_with}
@@ -258,3 +259,24 @@ open_levels levels (suc count) = slice_index_or levels count Array ∷ open_leve
 -- a number without its minus sign
 abbrev pub without_sign : List ℕ → List ℕ
 without_sign number = if slice_index number 0 == 45 then drop 1 number else number
+
+-- a character of a string may come next, and a number has begun
+abbrev pub is_in_plain : Next → Bool
+is_in_plain (next.Text t) = is_plain t
+is_in_plain (next.NameText t) = is_plain t
+is_in_plain _ = false
+
+abbrev pub is_number : Next → Bool
+is_number (next.Number n) = true
+is_number _ = false
+
+-- more digits make a number no smaller: its exponent has begun, and has no minus sign
+abbrev pub only_grows : Number → List ℕ → Bool
+only_grows ExponentSign number = slice_index number (length number - 1) == 43
+only_grows Power number = not (scan (without_sign number)).exponent_negative
+only_grows _ number = false
+
+-- a number is beyond the floats that has ended, or that can only grow
+abbrev pub is_too_large : Next → Bool → List ℕ → Bool
+is_too_large (next.Number n) has_ended number = ((has_ended && may_end n) || only_grows n number) && not (is_some (number_of number))
+is_too_large _ has_ended number = false

@@ -181,7 +181,7 @@ fn second_document(alloc: Global, bytes: &[u8], count: usize) -> DocumentError
     ensures told { IsTold bytes.now result }
     ensures second { result.fault ≡ DocumentFault.SecondDocument
         → IsDocument (take (result.position - 1) bytes.now) }
-    ensures at_its_byte { is_at_its_byte result.fault ≡ true → result.position ≡ count + 1 }
+    ensures place { result.fault ≢ DocumentFault.Memory → result.position ≡ count + 1 }
 {
     let (first, _) = bytes.split_at(count);
     match Value::from_slice(alloc, first) {
@@ -195,10 +195,14 @@ fn second_document(alloc: Global, bytes: &[u8], count: usize) -> DocumentError
 fn told(alloc: Global, bytes: &[u8], stop: &Stop) -> DocumentError
     requires within { (stop.now.at ≤ length bytes.now) × (stop.now.start ≤ stop.now.at) }
     requires broken { stop.now.is_too_large ≡ false → BeginsNone (take (stop.now.at + 1) bytes.now) }
+    requires kept { stop.now.is_too_large ≡ false → IsBeginning (take stop.now.at bytes.now) }
+    requires number { stop.now.is_too_large ≡ true → IsBeginning (take stop.now.start bytes.now) }
     ensures told { IsTold bytes.now result }
     ensures second { result.fault ≡ DocumentFault.SecondDocument
         → IsDocument (take (result.position - 1) bytes.now) }
     ensures breaks { is_at_its_byte result.fault ≡ true → BeginsNone (take result.position bytes.now) }
+    ensures kept { result.fault ≢ DocumentFault.Memory
+        → IsBeginning (take (result.position - 1) bytes.now) }
 {
     let (count, fault) = fault_of(bytes, stop);
     let (before, _) = bytes.split_at(count);
@@ -213,7 +217,9 @@ fn told(alloc: Global, bytes: &[u8], stop: &Stop) -> DocumentError
 
 /// How many bytes stand before the first that is no part of a character of UTF-8.
 fn text_length(bytes: &[u8]) -> usize
-    ensures { result ≤ length bytes.now }
+    ensures within { result ≤ length bytes.now }
+    ensures text { IsUtf8 (take result bytes.now) }
+    ensures whole { IsUtf8 bytes.now → result ≡ length bytes.now }
 {
     match from_utf8(bytes) {
         Ok(_) => bytes.len(),
@@ -243,6 +249,9 @@ fn refused(alloc: Global, bytes: &[u8]) -> DocumentError
     ensures second { result.fault ≡ DocumentFault.SecondDocument
         → IsDocument (take (result.position - 1) bytes.now) }
     ensures breaks { is_at_its_byte result.fault ≡ true → BeginsNone (take result.position bytes.now) }
+    ensures kept { result.fault ≢ DocumentFault.Memory
+        → (result.fault ≡ DocumentFault.CutShort → IsUtf8 bytes.now)
+        → IsBeginning (take (result.position - 1) bytes.now) }
 {
     if are_blank(bytes) {
         return DocumentError::after(bytes, DocumentFault::Empty);
@@ -292,6 +301,9 @@ pub fn read_document(alloc: Global, bytes: &[u8]) -> Result<Value, DocumentError
     ensures whole { IfErr result (λ e. e.fault ≡ DocumentFault.Empty → IsBeginning bytes.now) }
     ensures breaks { IfErr result (λ e. is_at_its_byte e.fault ≡ true
         → IsBeginning (take e.position bytes.now) → ⊥) }
+    ensures kept { IfErr result (λ e. e.fault ≢ DocumentFault.Memory
+        → (e.fault ≡ DocumentFault.CutShort → IsUtf8 bytes.now)
+        → IsBeginning (take (e.position - 1) bytes.now)) }
 {
     match Value::from_slice(alloc, bytes) {
         Ok(value) => Ok(value),

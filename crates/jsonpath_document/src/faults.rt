@@ -52,21 +52,25 @@ fn fault_in_string(before: &[u8], rest: &[u8]) -> Option<DocumentFault>
 fn string_fault_at(bytes: &[u8], count: usize) -> Option<Met>
     ensures met { IfSome result (λ met. IsMetAt bytes.now met.0 met.1) }
     ensures earlier { IfSome result (λ met. is_at_its_byte met.1 ≡ false) }
+    ensures within { IfSome result (λ met. met.0 ≤ count) }
 {
     let (before, rest) = bytes.split_at_checked(count)?;
     let fault = fault_in_string(before, rest)?;
     Some((count, fault))
 }
 
-/// What is wrong with an escape, or with a pair of them, after so many bytes of a text.
-fn string_fault(bytes: &[u8], start: usize) -> Option<Met>
+/// What is wrong with an escape, or with a pair of them, that breaks at a place.
+fn string_fault(bytes: &[u8], stop: &Stop) -> Option<Met>
+    requires { stop.now.start ≤ stop.now.at }
     ensures met { IfSome result (λ met. IsMetAt bytes.now met.0 met.1) }
     ensures earlier { IfSome result (λ met. is_at_its_byte met.1 ≡ false) }
+    ensures within { IfSome result (λ met. met.0 ≤ stop.now.at) }
 {
-    match string_fault_at(bytes, start) {
+    match string_fault_at(bytes, stop.start) {
         Some(met) => Some(met),
         // The second half of a pair follows the six bytes of the first.
-        None => string_fault_at(bytes, start.checked_add(6)?),
+        None if stop.at - stop.start >= 6 => string_fault_at(bytes, stop.start + 6),
+        None => None,
     }
 }
 
@@ -74,6 +78,7 @@ fn string_fault(bytes: &[u8], start: usize) -> Option<Met>
 fn word_fault(bytes: &[u8], start: usize) -> Option<Met>
     ensures met { IfSome result (λ met. IsMetAt bytes.now met.0 met.1) }
     ensures earlier { IfSome result (λ met. is_at_its_byte met.1 ≡ false) }
+    ensures within { IfSome result (λ met. met.0 ≤ start) }
 {
     let (_, word) = bytes.split_at_checked(start)?;
     begins_other_word(word).then_some((start, DocumentFault::OtherWord))
@@ -83,6 +88,7 @@ fn word_fault(bytes: &[u8], start: usize) -> Option<Met>
 fn bare_point(bytes: &[u8], count: usize) -> Option<Met>
     ensures met { IfSome result (λ met. IsMetAt bytes.now met.0 met.1) }
     ensures earlier { IfSome result (λ met. is_at_its_byte met.1 ≡ false) }
+    ensures within { IfSome result (λ met. met.0 ≤ count) }
 {
     let (before, after) = bytes.split_at_checked(count)?;
     is_bare_point(before, after).then_some((count, DocumentFault::BarePoint))
@@ -90,8 +96,10 @@ fn bare_point(bytes: &[u8], count: usize) -> Option<Met>
 
 /// What is wrong with a number that breaks at a place.
 fn number_fault(bytes: &[u8], stop: &Stop) -> Option<Met>
+    requires { stop.now.start ≤ stop.now.at }
     ensures met { IfSome result (λ met. IsMetAt bytes.now met.0 met.1) }
     ensures earlier { IfSome result (λ met. is_at_its_byte met.1 ≡ false) }
+    ensures within { IfSome result (λ met. met.0 ≤ stop.now.at) }
 {
     let (_, number) = bytes.split_at_checked(stop.start)?;
     if begins_leading_zero(number) {
@@ -110,6 +118,7 @@ fn number_fault(bytes: &[u8], stop: &Stop) -> Option<Met>
 fn trailing_comma(bytes: &[u8], at: usize) -> Option<Met>
     ensures met { IfSome result (λ met. IsMetAt bytes.now met.0 met.1) }
     ensures earlier { IfSome result (λ met. is_at_its_byte met.1 ≡ false) }
+    ensures within { IfSome result (λ met. met.0 ≤ at) }
 {
     let (before, rest) = bytes.split_at_checked(at)?;
     if !begins_by(rest, b']') && !begins_by(rest, b'}') {
@@ -172,11 +181,13 @@ fn fault_between(before: &[u8], rest: &[u8], next: Next) -> DocumentFault
 
 /// What is wrong with the word, the number or the string that breaks at a place, or with the comma before it.
 fn fault_before(bytes: &[u8], stop: &Stop) -> Option<Met>
+    requires { stop.now.start ≤ stop.now.at }
     ensures met { IfSome result (λ met. IsMetAt bytes.now met.0 met.1) }
     ensures earlier { IfSome result (λ met. is_at_its_byte met.1 ≡ false) }
+    ensures within { IfSome result (λ met. met.0 ≤ stop.now.at) }
 {
     match stop.next {
-        Next::Text(_) | Next::NameText(_) => string_fault(bytes, stop.start),
+        Next::Text(_) | Next::NameText(_) => string_fault(bytes, stop),
         Next::Word(_) => word_fault(bytes, stop.start),
         Next::Number(_) => number_fault(bytes, stop),
         _ => trailing_comma(bytes, stop.at),
@@ -187,6 +198,8 @@ fn fault_before(bytes: &[u8], stop: &Stop) -> Option<Met>
 pub(crate) fn fault_of(bytes: &[u8], stop: &Stop) -> Met
     requires { (stop.now.at ≤ length bytes.now) × (stop.now.start ≤ stop.now.at) }
     ensures met { IsMetAt bytes.now result.0 result.1 }
+    ensures within { result.0 ≤ stop.now.at }
+    ensures at_number { stop.now.is_too_large ≡ true → result.0 ≡ stop.now.start }
     ensures at_its_byte { is_at_its_byte result.1 ≡ true
         → (result.0 ≡ stop.now.at) × (stop.now.is_too_large ≡ false) }
 {

@@ -1,11 +1,12 @@
 //! A document that is read byte by byte, up to the byte that breaks it.
 
-ghost use Rattle.std.specs.Prelude.{◌≡◌, ◌==◌, ◌+◌, ◌<◌, ◌≤◌, ◌&&◌, is_some, length, option_map, slice_range, take};
+ghost use Rattle.std.specs.Prelude.{◌≡◌, ◌==◌, ◌+◌, ◌<◌, ◌≤◌, ◌&&◌, false, is_some, length, nat_lt, option_map, slice_range, take, true};
+ghost use Rattle.std.specs.Str.{IsUtf8};
 ghost use Rattle.serde_json.specs.Read.{number_of};
-ghost use Rattle.jsonpath_document.specs.Document.{BeginsNone};
+ghost use Rattle.jsonpath_document.specs.Document.{BeginsNone, IsBeginning};
 ghost use Rattle.jsonpath_document.specs.Reading.{after_byte, after_number, after_text, after_value_byte};
 ghost use Rattle.jsonpath_document.specs.Reading.{after_word, before_byte, begun_by, closed, ends_before};
-ghost use Rattle.jsonpath_document.specs.Reading.{is_plain, is_within, may_end, open_levels, opened, without_sign};
+ghost use Rattle.jsonpath_document.specs.Reading.{is_plain, is_too_large, is_within, may_end, only_grows, open_levels, opened, without_sign};
 
 use crate::begins::{is_d, is_escape, is_first_half, is_second_half};
 use crate::place::is_blank;
@@ -231,16 +232,26 @@ fn is_in_range(number: &[u8]) -> bool
     nearest.is_finite()
 }
 
-/// Whether a number is too large that has ended, or that may still go on: then no exponent may make it smaller.
-fn is_too_large(number: &[u8], has_ended: bool) -> bool {
-    let exponent = number.iter().position(|byte| matches!(*byte, b'e' | b'E'));
-    let Some((front, power)) = number.split_at_checked(exponent.unwrap_or(number.len())) else {
-        return false;
-    };
-    match (power.get(1), power.get(2)) {
-        (Some(b'+'), None) => !is_in_range(front),
-        (Some(b'-'), _) | (None, _) => has_ended && !is_in_range(number),
-        _ => !is_in_range(number),
+/// Whether a number can only grow: its exponent has begun, and has no minus sign.
+fn only_grows(state: Number, number: &[u8]) -> bool
+    ensures { result ≡ only_grows state number.now }
+{
+    match state {
+        Number::ExponentSign => number.last() == Some(&b'+'),
+        Number::Power => !Numeral::scan(without_sign(number)).is_exponent_negative(),
+        _ => false,
+    }
+}
+
+/// Whether what may come is the rest of a number that is beyond the floats, and has ended or can only grow.
+fn is_too_large(next: Next, has_ended: bool, number: &[u8]) -> bool
+    ensures { result ≡ is_too_large next has_ended number.now }
+{
+    match next {
+        Next::Number(state) => {
+            (has_ended && state.may_end() || only_grows(state, number)) && !is_in_range(number)
+        }
+        _ => false,
     }
 }
 
@@ -367,20 +378,15 @@ fn begun(text: &[u8], start: usize, at: usize) -> &[u8]
 /// Where a text breaks at a place.
 fn stop_at(text: &[u8], start: usize, at: usize, next: Next) -> Stop
     requires { (start ≤ at) × (at ≤ length text.now) }
-    ensures { (result.at ≡ at) × (result.start ≡ start) }
+    ensures place { (result.at ≡ at) × (result.start ≡ start) × (result.next ≡ next) }
+    ensures too_large { result.is_too_large
+        ≡ is_too_large next (nat_lt at (length text.now)) (slice_range text.now start at) }
 {
-    let is_too_large = match next {
-        Next::Number(number) => {
-            let has_ended = at < text.len() && number.may_end();
-            is_too_large(begun(text, start, at), has_ended)
-        }
-        _ => false,
-    };
     Stop {
         at,
         start,
         next,
-        is_too_large,
+        is_too_large: is_too_large(next, at < text.len(), begun(text, start, at)),
     }
 }
 
@@ -389,6 +395,10 @@ pub(crate) fn read(text: &[u8]) -> Stop
     ensures at { result.at ≤ length text.now }
     ensures start { result.start ≤ result.at }
     ensures broken { result.at < length text.now → BeginsNone (take (result.at + 1) text.now) }
+    ensures kept { result.is_too_large ≡ false → IsUtf8 text.now
+        → IsBeginning (take result.at text.now) }
+    ensures number { result.is_too_large ≡ true → IsUtf8 text.now
+        → IsBeginning (take result.start text.now) }
 {
     let mut next = Next::Value;
     let mut start = 0usize;
