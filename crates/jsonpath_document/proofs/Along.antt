@@ -1,7 +1,7 @@
 -- A text is read along: what follows so much of it makes a document where it completes one from where the reader stands.
 use Rattle.std.proofs.Common.{take-append-drop, take-take, ap₂, not, ◌&&◌, ◌||◌, refl, zero, suc, inl, inr, ◌≡◌, ℕ, ◌+◌, ◌-◌, ◌<◌, ◌≤◌, Bool, true, false, List, [], ◌∷◌, ◌++◌, length, take, drop, get_or, get_or-drop, length-drop, Option, Some, None, sym, ap, ◌∙◌, subst, arith, if◌then◌else◌, append_assoc}
 use Rattle.std.proofs.lemmas.List.{take_more}
-use Rattle.std.proofs.lemmas.Bool.{and_parts, cases_Bool, cases_lt, eqb-true, false_from_ne_true, false≢true, ltb-true, true≢false}
+use Rattle.std.proofs.lemmas.Bool.{not-true, and_parts, cases_Bool, cases_lt, eqb-true, false_from_ne_true, false≢true, ltb-true, true≢false}
 use Rattle.std.specs.List.{starts_with}
 use Rattle.std.specs.Option.{is_some}
 use Rattle.std.specs.Prelude.{nat_eq, slice_range}
@@ -16,6 +16,7 @@ use Rattle.jsonpath_document.proofs.Edges.{IsNumberFrom, IsPlainFrom, can_go, hi
 use Rattle.jsonpath_document.specs.Reading.{accepts, accepts_from, after_byte, before_byte, begun_with, is_in_plain, is_number, is_too_large, is_within, may_end, only_grows}
 use Rattle.serde_json.specs.Read.{number_of}
 use Rattle.jsonpath_document.proofs.Endings.{can_go_on}
+use Rattle.jsonpath_document.proofs.Growth.{never_smaller}
 use Rattle.jsonpath_document.specs.declared.reading.Level.{Level}
 use Rattle.jsonpath_document.specs.declared.reading.Next.{Next}
 use Rattle.jsonpath_document.specs.declared.reading.Next.TheVariants as next
@@ -241,3 +242,34 @@ pub begins_told : (text : List ℕ) (at start count position : ℕ) (large : Boo
     → (large ≡ true → IsBeginning (take start text)) → position - 1 ≡ count → IsBeginning (take (position - 1) text)
 begins_told text at start count position true le same kept number e = subst (λ n. IsBeginning (take n text)) (sym (e ∙ same refl)) (number refl)
 begins_told text at start count position false le same kept number e = subst (λ n. IsBeginning (take n text)) (sym e) (begins_earlier text count at le (kept refl))
+
+-- ---- what begins nothing, and more of it
+
+pub none_longer : (text : List ℕ) (n : ℕ) → BeginsNone (take n text) → BeginsNone text
+none_longer text n none r =
+    let whole : take n text ++ (drop n text ++ r) ≡ text ++ r = sym (append_assoc (take n text) (drop n text) r) ∙ ap (λ t. t ++ r) (take-append-drop n text) in
+    ap (λ t. is_some (read t)) (sym whole) ∙ none (drop n text ++ r)
+
+-- a number that is too large at the end
+pub none_at_end : (text : List ℕ) (start : ℕ) (levels : List Level) (n : Next) (index : ℕ) → IsReached text index start levels n → index ≡ length text → (has_ended : Bool) → has_ended ≡ false
+    → is_too_large n has_ended (slice_range text start index) ≡ true → BeginsNone text
+none_at_end text start levels next.Value index reached e has_ended f h = absurd (false≢true h)
+none_at_end text start levels next.FirstItem index reached e has_ended f h = absurd (false≢true h)
+none_at_end text start levels next.FirstName index reached e has_ended f h = absurd (false≢true h)
+none_at_end text start levels next.Name index reached e has_ended f h = absurd (false≢true h)
+none_at_end text start levels next.Colon index reached e has_ended f h = absurd (false≢true h)
+none_at_end text start levels next.AfterValue index reached e has_ended f h = absurd (false≢true h)
+none_at_end text start levels (next.Word w) index reached e has_ended f h = absurd (false≢true h)
+none_at_end text start levels (next.Number n) index reached e has_ended f h = none_longer text index (λ r.
+    let begun = slice_range text start index in
+    let large = and_parts _ _ (ap (λ z. ((z && may_end n) || only_grows n begun) && not (is_some (number_of begun))) (sym f) ∙ h) in
+    reached.same r ∙ never_smaller levels n begun reached.stands large.0 (not-true _ large.1) r)
+none_at_end text start levels (next.Text t) index reached e has_ended f h = absurd (false≢true h)
+none_at_end text start levels (next.NameText t) index reached e has_ended f h = absurd (false≢true h)
+
+-- of bytes whose front is a text that breaks
+pub none_in_front : (bytes text : List ℕ) (count n : ℕ) → text ≡ take count bytes → n ≤ count → BeginsNone (take n text) → BeginsNone bytes
+none_in_front bytes text count n e le none = none_longer bytes n (subst BeginsNone (ap (λ t. take n t) e ∙ take-take n count bytes le) none)
+
+pub none_of_front : (bytes text : List ℕ) (count : ℕ) → text ≡ take count bytes → BeginsNone text → BeginsNone bytes
+none_of_front bytes text count e none = none_longer bytes count (subst BeginsNone e none)

@@ -44,7 +44,7 @@ nines_value : (k n : ℕ) → n + k ≤ digits_value_after 10 n (nines k)
 nines_value zero n = omega arith
 nines_value (suc k) n = omega (arith, nines_value k (n * 10 + 9))
 
-value-append : (n : ℕ) (a b : List ℕ) → digits_value_after 10 n (a ++ b) ≡ digits_value_after 10 (digits_value_after 10 n a) b
+pub value-append : (n : ℕ) (a b : List ℕ) → digits_value_after 10 n (a ++ b) ≡ digits_value_after 10 (digits_value_after 10 n a) b
 value-append n [] b = refl
 value-append n (x ∷ xs) b = value-append (n * 10 + digit_value x) xs b
 
@@ -63,7 +63,7 @@ whole_prefix (x ∷ xs) h =
     let more = whole_prefix xs both.1 in
     ap (λ z. cond z (1 + prefix_len is_ascii_digit xs) 0) both.0 ∙ omega (arith, more)
 
-all_taken : (xs : List ℕ) → all_digits xs ≡ true → take (prefix_len is_ascii_digit xs) xs ≡ xs
+pub all_taken : (xs : List ℕ) → all_digits xs ≡ true → take (prefix_len is_ascii_digit xs) xs ≡ xs
 all_taken xs h = ap (λ n. take n xs) (whole_prefix xs h) ∙ take-length xs
 
 -- ---- a number with a negative exponent
@@ -79,16 +79,16 @@ small_finite p negative enough =
     finite_rounded false (digits_of p * 10 ^ tens_up p) (10 ^ tens_down p) (tens_some (tens_down p)) bound
 
 -- no number without its sign begins with one
-not_minus : (w p q : List ℕ) → all_digits w ≡ true → IsPointPart p → (slice_index q 0 == 45) ≡ false → (slice_index (w ++ (p ++ q)) 0 == 45) ≡ false
+pub not_minus : (w p q : List ℕ) → all_digits w ≡ true → IsPointPart p → (slice_index q 0 == 45) ≡ false → (slice_index (w ++ (p ++ q)) 0 == 45) ≡ false
 not_minus [] p q h no_point e = e
 not_minus [] p q h (a_point f fs) e = refl
 not_minus (x ∷ xs) p q h pp e = let d : is_ascii_digit x ≡ true = (and_parts (is_ascii_digit x) (all_digits xs) h).0 in grind (arith, nat_tests)
 
-unsigned : (minus body : List ℕ) → (minus ≡ []) ⊎ (minus ≡ 45 ∷ []) → (slice_index body 0 == 45) ≡ false → without_sign (minus ++ body) ≡ body
+pub unsigned : (minus body : List ℕ) → (minus ≡ []) ⊎ (minus ≡ 45 ∷ []) → (slice_index body 0 == 45) ≡ false → without_sign (minus ++ body) ≡ body
 unsigned minus body (inl e) h = ap (λ m. without_sign (m ++ body)) e ∙ ap (λ z. if z then drop 1 body else body) h
 unsigned minus body (inr e) h = ap (λ m. without_sign (m ++ body)) e
 
-marks : (e : ℕ) → is_exponent e ≡ true → (is_ascii_digit e ≡ false) × ((e == 46) ≡ false) × ((e == 45) ≡ false)
+pub marks : (e : ℕ) → is_exponent e ≡ true → (is_ascii_digit e ≡ false) × ((e == 46) ≡ false) × ((e == 45) ≡ false)
 marks e h = (grind (arith, nat_tests), grind (arith, nat_tests), grind (arith, nat_tests))
 
 -- a number with such an exponent is read
@@ -103,6 +103,10 @@ negative_read minus w p e d ds signed ws pp ex all enough =
     let exponent = found.exponent ∙ digits in
     in_range (minus ++ (w ++ (p ++ q))) ∙ ap (λ t. float_is_finite (nearest binary64 false (scan t))) (unsigned minus (w ++ (p ++ q)) signed (not_minus w p q ws pp none.2))
     ∙ small_finite (scan (w ++ (p ++ q))) (found.negative ∙ ap (λ z. z && true) power) (subst (λ x. length x ≤ digits_value 10 (scan (w ++ (p ++ q))).exponent) (sym found.whole) (subst (λ x. length w ≤ digits_value 10 x) (sym exponent) enough))
+
+-- digits, those after a point, and an exponent without a minus sign make a number within the floats
+abbrev pub is_within : List ℕ → List ℕ → ℕ → Bool
+is_within w p power = float_is_finite (round binary64 false (digits_value 10 (w ++ fraction_of p) * 10 ^ power) (10 ^ (length (fraction_of p) + 0)))
 
 -- ---- how each number can end
 
@@ -140,37 +144,35 @@ module _ (begun minus : List ℕ) (signed : (minus ≡ []) ⊎ (minus ≡ 45 ∷
       by_power Power w p (e ∷ s ∷ d ∷ ds) more w p e d (ds ++ more) is (run_nines (length w)) (ap (λ x. minus ++ (w ++ (p ++ (e ∷ x ∷ d ∷ (ds ++ more))))) (eqb-true s 45 h)) ws pp ex
       (digits-append (d ∷ ds) more all (nines_digits (length w))) big
 
-  negative_of : (w p q : List ℕ) → all_digits w ≡ true → IsPointPart p → (is_ascii_digit (slice_index q 0) ≡ false) × ((slice_index q 0 == 46) ≡ false) × ((slice_index q 0 == 45) ≡ false)
+  pub negative_of : (w p q : List ℕ) → all_digits w ≡ true → IsPointPart p → (is_ascii_digit (slice_index q 0) ≡ false) × ((slice_index q 0 == 46) ≡ false) × ((slice_index q 0 == 45) ≡ false)
       → begun ≡ minus ++ (w ++ (p ++ q)) → (scan (without_sign begun)).exponent_negative ≡ is_power q && (slice_index q 1 == 45)
   negative_of w p q ws pp none is =
       ap (λ t. (scan (without_sign t)).exponent_negative) is ∙ ap (λ t. (scan t).exponent_negative) (unsigned minus (w ++ (p ++ q)) signed (not_minus w p q ws pp none.2))
       ∙ (scanned w p q ws pp none.0 none.1).negative
 
-  plus_sign : (s : ℕ) → is_sign s ≡ true → (s == 45) ≡ false → (s == 43) ≡ true
+  pub plus_sign : (s : ℕ) → is_sign s ≡ true → (s == 45) ≡ false → (s == 43) ≡ true
   plus_sign s sg h = elim (or_cases (s == 45) (s == 43) sg) [ inl e ↦ absurd (true≢false (sym e ∙ h)) | inr e ↦ e ]
 
-  last_is : (w p : List ℕ) (e s : ℕ) → begun ≡ minus ++ (w ++ (p ++ (e ∷ s ∷ []))) → slice_index begun (length begun - 1) ≡ s
+  pub last_is : (w p : List ℕ) (e s : ℕ) → begun ≡ minus ++ (w ++ (p ++ (e ∷ s ∷ []))) → slice_index begun (length begun - 1) ≡ s
   last_is w p e s is =
       let front = minus ++ (w ++ (p ++ (e ∷ []))) in
       let same : begun ≡ front ++ s ∷ [] = is ∙ sym (appended minus w p (e ∷ []) (s ∷ [])) in
       let size : length (front ++ s ∷ []) - 1 ≡ length front + 0 = omega (arith, length-append front (s ∷ [])) in
       ap (λ t. slice_index t (length t - 1)) same ∙ ap (λ i. slice_index (front ++ s ∷ []) i) size ∙ at front (s ∷ []) 0
 
-  -- with an exponent that is 0, or none
-  plain_value : (w p q : List ℕ) → all_digits w ≡ true → IsPointPart p → (is_ascii_digit (slice_index q 0) ≡ false) × ((slice_index q 0 == 46) ≡ false) × ((slice_index q 0 == 45) ≡ false)
-      → (slice_index q 1 == 45) ≡ false → digits_value 10 (power_digits q) ≡ 0 → (text : List ℕ) → text ≡ minus ++ (w ++ (p ++ q))
-      → is_some (number_of text) ≡ float_is_finite (round binary64 false (digits_value 10 (w ++ fraction_of p) * 10 ^ 0) (10 ^ (length (fraction_of p) + 0)))
-  plain_value w p q ws pp none plus power text is =
+  -- with an exponent that has no minus sign
+  pub plain_value : (w p q : List ℕ) → all_digits w ≡ true → IsPointPart p → (is_ascii_digit (slice_index q 0) ≡ false) × ((slice_index q 0 == 46) ≡ false) × ((slice_index q 0 == 45) ≡ false)
+      → (slice_index q 1 == 45) ≡ false → (text : List ℕ) → text ≡ minus ++ (w ++ (p ++ q)) → is_some (number_of text) ≡ is_within w p (digits_value 10 (power_digits q))
+  plain_value w p q ws pp none plus text is =
       let found = scanned w p q ws pp none.0 none.1 in
       let t = scan (w ++ (p ++ q)) in
       let negative : t.exponent_negative ≡ false = found.negative ∙ and_right _ _ plus in
-      let zero_power : digits_value 10 t.exponent ≡ 0 = ap (λ x. digits_value 10 x) found.exponent ∙ power in
-      let up : tens_up t ≡ 0 = ap (λ z. if z then 0 else digits_value 10 t.exponent) negative ∙ zero_power in
+      let up : tens_up t ≡ digits_value 10 (power_digits q) = ap (λ z. if z then 0 else digits_value 10 t.exponent) negative ∙ ap (λ x. digits_value 10 x) found.exponent in
       let down : tens_down t ≡ length (fraction_of p) + 0 = ap₂ (λ z f. length f + (if z then digits_value 10 t.exponent else 0)) negative found.fraction in
       ap (λ x. is_some (number_of x)) is ∙ in_range (minus ++ (w ++ (p ++ q)))
       ∙ ap (λ x. float_is_finite (nearest binary64 false (scan x))) (unsigned minus (w ++ (p ++ q)) signed (not_minus w p q ws pp none.2))
       ∙ ap₂ (λ x y. float_is_finite (round binary64 false (digits_value 10 x * 10 ^ y) (10 ^ tens_down t))) (ap₂ ◌++◌ found.whole found.fraction) up
-      ∙ ap (λ y. float_is_finite (round binary64 false (digits_value 10 (w ++ fraction_of p) * 10 ^ 0) (10 ^ y))) down
+      ∙ ap (λ y. float_is_finite (round binary64 false (digits_value 10 (w ++ fraction_of p) * 10 ^ digits_value 10 (power_digits q)) (10 ^ y))) down
 
   plus_ends : (w p : List ℕ) (e s : ℕ) → all_digits w ≡ true → IsPointPart p → is_exponent e ≡ true → begun ≡ minus ++ (w ++ (p ++ (e ∷ s ∷ [])))
       → (s == 45) ≡ false → (s == 43) ≡ true → is_some (number_of begun) ≡ true → CanEnd ExponentSign begun
@@ -183,8 +185,8 @@ module _ (begun minus : List ℕ) (signed : (minus ≡ []) ⊎ (minus ≡ 45 ∷
         comes_to = Power;
         runs = refl;
         ends = refl;
-        in_range = plain_value w p (e ∷ s ∷ 48 ∷ []) ws pp none h more_power (begun ++ 48 ∷ []) (ap (λ t. t ++ 48 ∷ []) is ∙ appended minus w p (e ∷ s ∷ []) (48 ∷ []))
-            ∙ sym (plain_value w p (e ∷ s ∷ []) ws pp none h power begun is) ∙ fine;
+        in_range = plain_value w p (e ∷ s ∷ 48 ∷ []) ws pp none h (begun ++ 48 ∷ []) (ap (λ t. t ++ 48 ∷ []) is ∙ appended minus w p (e ∷ s ∷ []) (48 ∷ []))
+            ∙ ap (λ v. is_within w p v) (more_power ∙ sym power) ∙ sym (plain_value w p (e ∷ s ∷ []) ws pp none h begun is) ∙ fine;
       }
     where
       no_power : (z : Bool) → digits_value 10 (if z && false then take 0 [] else []) ≡ 0

@@ -10,10 +10,11 @@ mod Bytes
 mod Numbers
 mod Strings
 mod Parsed
--- Fills: some text completes a document from each place. Endings is of numbers: they can end within the floats (Range), by their parts
--- (Shapes) and what is scanned of these (Scans).
+-- Fills: some text completes a document from each place. Endings and Growth are of numbers: which can end within the floats (Range), by
+-- their parts (Shapes) and what is scanned of these (Scans), and which only grow.
 mod Fills
 mod Endings
+mod Growth
 mod Range
 mod Shapes
 mod Scans

@@ -38,11 +38,11 @@ pub record HasShape (n : Number) (begun : List ℕ) : Type 0 where
   pub shaped : Shape n whole point power
   pub is : begun ≡ minus ++ (whole ++ (point ++ power))
 
-all_more : (w : List ℕ) (b : ℕ) → all_digits w ≡ true → is_ascii_digit b ≡ true → all_digits (w ++ b ∷ []) ≡ true
+pub all_more : (w : List ℕ) (b : ℕ) → all_digits w ≡ true → is_ascii_digit b ≡ true → all_digits (w ++ b ∷ []) ≡ true
 all_more [] b h d = and_from _ _ d refl
 all_more (x ∷ xs) b h d = let both = and_parts _ _ h in and_from _ _ both.0 (all_more xs b both.1 d)
 
-some_if_is : {A : Type 0} (c : Bool) (x y : A) → some_if c x ≡ Some y → (c ≡ true) × (x ≡ y)
+pub some_if_is : {A : Type 0} (c : Bool) (x y : A) → some_if c x ≡ Some y → (c ≡ true) × (x ≡ y)
 some_if_is true x y e = (refl, same_Some x y e)
 some_if_is false x y e = absurd (none-some y e)
 

@@ -249,6 +249,9 @@ fn refused(alloc: Global, bytes: &[u8]) -> DocumentError
     ensures second { result.fault ≡ DocumentFault.SecondDocument
         → IsDocument (take (result.position - 1) bytes.now) }
     ensures breaks { is_at_its_byte result.fault ≡ true → BeginsNone (take result.position bytes.now) }
+    ensures cut { result.fault ≢ DocumentFault.Empty → result.fault ≢ DocumentFault.CutShort
+        → result.fault ≢ DocumentFault.NotUtf8 → result.fault ≢ DocumentFault.Memory
+        → BeginsNone bytes.now }
     ensures kept { result.fault ≢ DocumentFault.Memory
         → (result.fault ≡ DocumentFault.CutShort → IsUtf8 bytes.now)
         → IsBeginning (take (result.position - 1) bytes.now) }
@@ -301,6 +304,9 @@ pub fn read_document(alloc: Global, bytes: &[u8]) -> Result<Value, DocumentError
     ensures whole { IfErr result (λ e. e.fault ≡ DocumentFault.Empty → IsBeginning bytes.now) }
     ensures breaks { IfErr result (λ e. is_at_its_byte e.fault ≡ true
         → IsBeginning (take e.position bytes.now) → ⊥) }
+    ensures cut { IfErr result (λ e. e.fault ≢ DocumentFault.Empty → e.fault ≢ DocumentFault.CutShort
+        → e.fault ≢ DocumentFault.NotUtf8 → e.fault ≢ DocumentFault.Memory
+        → IsBeginning bytes.now → ⊥) }
     ensures kept { IfErr result (λ e. e.fault ≢ DocumentFault.Memory
         → (e.fault ≡ DocumentFault.CutShort → IsUtf8 bytes.now)
         → IsBeginning (take (e.position - 1) bytes.now)) }

@@ -395,6 +395,7 @@ pub(crate) fn read(text: &[u8]) -> Stop
     ensures at { result.at ≤ length text.now }
     ensures start { result.start ≤ result.at }
     ensures broken { result.at < length text.now → BeginsNone (take (result.at + 1) text.now) }
+    ensures none { result.is_too_large ≡ true → BeginsNone text.now }
     ensures kept { result.is_too_large ≡ false → IsUtf8 text.now
         → IsBeginning (take result.at text.now) }
     ensures number { result.is_too_large ≡ true → IsUtf8 text.now

@@ -1,9 +1,10 @@
-use Rattle.std.proofs.Common.{arith, sym, subst, take, ◌-◌, ◌≡◌}
+use Rattle.std.proofs.Common.{refl, arith, sym, subst, take, ◌-◌, ◌≡◌}
 use Rattle.jsonpath_document.specs.Document.{IsBeginning}
 use Rattle.std.specs.Str.{IsUtf8}
-use Rattle.jsonpath_document.proofs.Along.{begins_front, begins_in_front, begins_nothing, mark_begins_none}
+use Rattle.jsonpath_document.proofs.Along.{begins_front, begins_in_front, begins_nothing, mark_begins_none, none_in_front, none_longer, none_of_front}
 use Rattle.jsonpath_document.proofs.Beginnings.{blanks_begin}
 use Rattle.jsonpath_document.proofs.document.refused.Goals as goal
+use Rattle.jsonpath_document.proofs.document.refused.Goals.{then-stop-via-then-stop, then-stop-via-else-stop+then-stop-text}
 
 pub returns-then-starts_with-clause-breaks : goal.returns-then-starts_with-clause-breaks
 returns-then-starts_with-clause-breaks c = λ _. mark_begins_none c.args.bytes.now _ (sym c.if-starts_with.ensures.value) c.after-then-starts_with.ensures.position
@@ -13,6 +14,16 @@ returns-then-are_blank-clause-kept c = λ _ _. begins_front c.args.bytes.now (c.
 
 pub returns-then-starts_with-clause-kept : goal.returns-then-starts_with-clause-kept
 returns-then-starts_with-clause-kept c = λ _ _. begins_nothing c.args.bytes.now _ (omega (arith, c.after-then-starts_with.ensures.position))
+
+pub returns-then-starts_with-clause-cut : goal.returns-then-starts_with-clause-cut
+returns-then-starts_with-clause-cut c = λ _ _ _ _. none_longer c.args.bytes.now 1 (mark_begins_none c.args.bytes.now 1 (sym c.if-starts_with.ensures.value) refl)
+
+pub returns-then-stop-clause-cut : goal.returns-then-stop-clause-cut
+returns-then-stop-clause-cut c = λ _ _ _ _.
+    elim c.then-stop.branch [
+      | then-stop-via-then-stop w ↦ none_of_front _ _ _ c.split_at.ensures.front (c.read-stop.ensures.none w.if-stop.true)
+      | then-stop-via-else-stop+then-stop-text w ↦ none_in_front _ _ _ _ c.split_at.ensures.front (omega (arith, w.if-stop-text.true, c.split_at.ensures.front_len)) (c.read-stop.ensures.broken w.if-stop-text.true)
+    ]
 
 pub told-requires-clause-kept : goal.told-requires-clause-kept
 told-requires-clause-kept c = λ fine.

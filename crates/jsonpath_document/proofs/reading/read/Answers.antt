@@ -1,7 +1,7 @@
-use Rattle.std.proofs.Common.{arith, nat_lt, slice_range, length, ◌≡◌, ◌+◌, ◌∙◌, ap, subst, sym, take, get_or}
+use Rattle.std.proofs.Common.{le-ltb, arith, nat_lt, slice_range, length, ◌≡◌, ◌+◌, ◌∙◌, ap, subst, sym, take, get_or}
 use Rattle.jsonpath_document.specs.Document.{BeginsNone, IsBeginning}
 use Rattle.jsonpath_document.specs.Reading.{before_byte, is_too_large, is_within}
-use Rattle.jsonpath_document.proofs.Along.{begins_before, begins_whole, leads_on, leads_nowhere, reached_first, start_at}
+use Rattle.jsonpath_document.proofs.Along.{begins_before, begins_whole, none_at_end, none_longer, leads_on, leads_nowhere, reached_first, start_at}
 use Rattle.jsonpath_document.proofs.reading.read.Goals as goal
 use Rattle.jsonpath_document.proofs.reading.read.Goals.{then-not-is_within, else-not-is_within}
 
@@ -34,6 +34,17 @@ returns-clause-kept c = λ fine utf8.
     let same = ap (λ i. is_too_large c.loop-index.next (nat_lt (length c.args.text.now) (length c.args.text.now)) (slice_range c.args.text.now c.loop-index.start i)) e in
     let kept = begins_whole _ _ _ _ _ c.loop-index.invariant e _ (same ∙ sym c.stop_at-2.ensures.too_large ∙ fine) utf8 in
     subst (λ n. IsBeginning (take n c.args.text.now)) (e ∙ sym place.0) kept
+
+pub returns-in-None-clause-none : goal.returns-in-None-clause-none
+returns-in-None-clause-none c = λ _.
+    none_longer c.args.text.now (c.loop-index.index + 1) (leads_nowhere _ _ _ _ _ c.loop-index.invariant c.loop-index-test.true c.before-next.result
+    (c.before-next.ensures ∙ ap (before_byte c.loop-index.next (get_or c.args.text.now c.loop-index.index 0)) c.begun.ensures) c.in-None.ensures)
+
+pub returns-clause-none : goal.returns-clause-none
+returns-clause-none c = λ large.
+    let e : c.loop-index.index ≡ length c.args.text.now = omega (arith, c.loop-index-test.false, c.loop-index.auto.index-end) in
+    let same = ap (λ i. is_too_large c.loop-index.next (nat_lt (length c.args.text.now) (length c.args.text.now)) (slice_range c.args.text.now c.loop-index.start i)) e in
+    none_at_end _ _ _ _ _ c.loop-index.invariant e _ (le-ltb (length c.args.text.now) (length c.args.text.now) (omega arith)) (same ∙ sym c.stop_at-2.ensures.too_large ∙ large)
 
 pub loop-index-preserved : goal.loop-index-preserved
 loop-index-preserved c =
