@@ -1,5 +1,5 @@
 -- What is answered, by what was found or by what `clap` says.
-use Rattle.jpq_options.proofs.Words.{arith, common_steps, ◌≡◌, ◌∙◌, ◌⊎◌, ◌&&◌, Bool, true, false, not, cond, List, [], ◌∷◌, map, Option, Some, is_some, option_map, refl, sym, ap, subst, Result, IfOk, IsErr, filter, Bor, length-map, first_form, is_empty, App, IsAmong, Kinds, Row, Text, fault_of, is_simple, is_simple_and_free, matches_of, ValueParser, ArgumentConflict, OutOfMemory, jpq, IsRequestOf, AreOptions, IsRefusal, IsTold, texts, form_of_row, forms, given_forms, has_two, is_given, misuse_by, misuse_in, Shown, AllocError, ErrorKind, clap_on_literals, Options, Request}
+use Rattle.jpq_options.proofs.Words.{arith, common_steps, ◌≡◌, ◌∙◌, ◌⊎◌, ◌&&◌, Bool, true, false, not, cond, List, [], ◌∷◌, map, Option, Some, is_some, option_map, refl, sym, ap, subst, Result, IfOk, IsErr, filter, Bor, length-map, first_form, is_empty, App, IsAmong, Kinds, Row, Text, fault_of, is_simple, is_simple_and_free, matches_of, ValueParser, ArgumentConflict, OutOfMemory, jpq, IsRequestOf, AreOptions, IsRefusal, IsTold, texts, form_of_row, forms, given_forms, has_two, is_given, misuse_by, misuse_in, Shown, AllocError, ErrorKind, clap_on_literals, Options, Request, Run, Print, WrongUse, inl, is_request}
 
 -- ---- forms
 
@@ -28,7 +28,10 @@ refusal rows kind a is r = grind (arith, common_steps)
 -- ---- what `clap` says
 
 told_one : (kind : ErrorKind) (faults : Kinds) (rows : List Row) (a : Request) → IsAmong kind faults → IsTold kind a → IsRequestOf faults rows a
-told_one kind faults rows a among told = grind (arith, common_steps)
+told_one kind faults rows (Run options) among told = absurd told
+told_one kind faults rows (Print text) among told = (kind, among, told)
+told_one kind faults rows (WrongUse other text) among told =
+    inl (subst (λ k. IsAmong k faults) (sym told.0) among, subst (λ k. is_request k ≡ false) (sym told.0) told.1)
 
 pub told_answers : (kind : ErrorKind) (faults : Kinds) (rows : List Row) (r : Result Request AllocError) → (kind ≡ OutOfMemory) ⊎ IsAmong kind faults
     → (kind ≡ OutOfMemory → IsErr r) → IfOk r (IsTold kind) → IfOk r (IsRequestOf faults rows)

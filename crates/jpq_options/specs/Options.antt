@@ -1,5 +1,5 @@
 -- What the words of `jpq` ask for.
-use Rattle.std.specs.Prelude.{◌≡◌, ◌⊎◌, ◌++◌, ◌&&◌, ◌||◌, not, ℕ, Bool, true, false, if◌then◌else◌, List, [], ◌∷◌, map, codes, find, Option, Some, None, is_some, option_map, option_and_then, unwrap_or}
+use Rattle.std.specs.Prelude.{◌≡◌, ◌⊎◌, ◌++◌, ◌&&◌, ◌||◌, not, ℕ, Bool, true, false, if◌then◌else◌, List, [], ◌∷◌, map, codes, find, Option, Some, None, is_some, option_map, option_and_then, string_bytes, unwrap_or}
 use Rattle.std.specs.List.{filter, list_any}
 use Rattle.std.specs.Str.{bytes_eq}
 use Rattle.std.specs.Borrow.{Bor}
@@ -172,10 +172,16 @@ is_request DisplayHelp = true
 is_request DisplayVersion = true
 is_request _ = false
 
+-- what is printed for it: of a version its line, and of help a text of which no clause says more
+abbrev pub IsPrintOf : ErrorKind → List ℕ → Type 0
+IsPrintOf DisplayHelp text = Unit {0}
+IsPrintOf DisplayVersion text = text ≡ codes "jpq 0.7.2\n"
+IsPrintOf _ text = ⊥
+
 -- what tells an answer of `clap` of this kind
 abbrev pub IsTold : ErrorKind → Request → Type 0
 IsTold kind (Run options) = ⊥
-IsTold kind (Print text) = is_request kind ≡ true
+IsTold kind (Print text) = IsPrintOf kind (string_bytes text)
 IsTold kind (WrongUse told text) = (told ≡ kind) × (is_request kind ≡ false)
 
 -- what tells a misuse of this kind
@@ -188,7 +194,7 @@ abbrev pub IsRequestOf : Kinds → List Row → Request → Type 0
 IsRequestOf faults rows (Run options) = (faults ≡ []) × (misuse_in rows ≡ None)
     × AreOptions rows (first_form (given_forms forms rows)) options
 IsRequestOf faults rows (Print text) =
-    (kind : ErrorKind) × IsAmong kind faults × (is_request kind ≡ true)
+    (kind : ErrorKind) × IsAmong kind faults × IsPrintOf kind (string_bytes text)
 IsRequestOf faults rows (WrongUse kind text) = (IsAmong kind faults × (is_request kind ≡ false))
     ⊎ ((faults ≡ []) × (misuse_in rows ≡ Some kind))
 

@@ -522,9 +522,8 @@ fn reported<'a>(alloc: Global, error: &Error) -> Result<Request<'a>, AllocError>
 {
     match error.kind() {
         ErrorKind::OutOfMemory => Err(AllocError),
-        ErrorKind::DisplayHelp | ErrorKind::DisplayVersion => {
-            Ok(Request::Print(format!(in alloc; "{error}")?))
-        }
+        ErrorKind::DisplayHelp => Ok(Request::Print(format!(in alloc; "{error}")?)),
+        ErrorKind::DisplayVersion => Ok(Request::Print(format!(in alloc; "jpq {VERSION}\n")?)),
         kind => {
             let text = format!(in alloc; "{error}")?;
             Ok(Request::WrongUse(kind, with_own_tip(alloc, text.as_str())?))

@@ -1,5 +1,5 @@
 -- What options ask for, as documents are answered.
-use Rattle.jpq_program.proofs.Words.{◌≡◌, ◌∙◌, ◌&&◌, ◌||◌, ℕ, Bool, true, false, List, [], Option, None, length, length-map, map, is_some, not, refl, sym, ap, subst, string_bytes, Appends, AreAnswersOn, AreInputsShown, ArePaths, Bor, IsAnswered, Outcome, names_in, rule_in, status_of, Answered, AskedPath, Answering, Documents, Heads, IsPlain, IsPlainRun, IsShownFor, JsonPath, Keeps, IfSome, Nodes, OptionShown, Options, Output, Sends, Streams, builtin_functions, form_in, has_counts, has_lines, head_by, heads_in, is_each, is_plain_answer, is_table, output_in, path_tree, shows_places, LocationAndValue, Value, Raw, Location, Pointer, Json, Count, Nothing}
+use Rattle.jpq_program.proofs.Words.{◌≡◌, ◌∙◌, ◌&&◌, ◌||◌, ℕ, Bool, true, false, List, [], Option, None, length, length-map, map, is_some, not, refl, sym, ap, subst, string_bytes, Appends, AreAnswersOn, AreInputsShown, ArePaths, Bor, IsAnswered, Outcome, names_in, rule_in, status_of, Answered, AskedPath, Answering, Documents, Heads, IsPlain, IsPlainRun, IsShownFor, JsonPath, Keeps, IfSome, Nodes, OptionShown, Options, Output, Sends, Streams, builtin_functions, form_in, has_counts, has_lines, head_by, heads_in, is_each, is_plain_answer, is_table, output_in, path_tree, shows_places, LocationAndValue, Value, Raw, Location, Pointer, Json, Count, Nothing, path_texts}
 use Rattle.jpq_program.proofs.Ended.{sent_out, status_is}
 use Rattle.jpq_program.proofs.Shown.{answered_since}
 
@@ -56,7 +56,7 @@ sent_for contents options asked output heads bytes_of names before start now out
 
 -- a run was answered
 pub run_answered : {W E : Type 0} (contents : W → Option (List ℕ)) (bytes_of : List ℕ → Option (List ℕ)) (options : Options) (asked : List AskedPath) (old start answer final : Streams W E)
-    → ArePaths (rule_in options) (map (λ (text : Bor (List ℕ)). text.now) options.paths.items) (map (λ (path : AskedPath). path.path) asked)
+    → ArePaths (rule_in options) (path_texts bytes_of options) (map (λ (path : AskedPath). path.path) asked)
     → old.outcome ≡ record { selected = false; refused = false } → start.out ≡ old.out → start.outcome ≡ old.outcome → string_bytes start.pending ≡ []
     → final.out ≡ answer.out → final.outcome ≡ answer.outcome → final.outcome.refused ≡ false
     → Sends contents (AreInputsShown (IsShownFor options (map (λ (path : AskedPath). path.path) asked)) options.lines bytes_of (names_in options)) start answer

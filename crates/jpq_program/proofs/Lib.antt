@@ -5,6 +5,7 @@
 -- Parsed: the paths of words, one after the other.
 -- Asked: what options ask for, as documents are answered.
 -- Sending: what is sent of inputs, one after the other.
+-- Opened: which inputs are opened, one after the other.
 -- Ended: how a run ends.
 -- Checked: paths that are checked, one after the other.
 -- Words: the words of definitions and lemmas, from one place.
@@ -14,6 +15,7 @@ mod Read
 mod Parsed
 mod Asked
 mod Sending
+mod Opened
 mod Ended
 mod Checked
 mod Words

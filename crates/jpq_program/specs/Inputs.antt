@@ -2,7 +2,7 @@
 use Rattle.std.specs.Char.{is_ascii_whitespace}
 use Rattle.std.specs.Io.BufRead.{strip_last}
 use Rattle.std.specs.List.{list_all}
-use Rattle.std.specs.Prelude.{◌≡◌, ◌==◌, ◌<◌, ℕ, Bool, false, List, [], ◌∷◌, drop, get_or, length, if◌then◌else◌, MatchBool, Option, Some}
+use Rattle.std.specs.Prelude.{◌≡◌, ◌==◌, ◌<◌, ℕ, Bool, false, List, [], ◌∷◌, ◌++◌, drop, get_or, length, if◌then◌else◌, IfSome, MatchBool, Option, Some}
 use Rattle.jsonpath_document.specs.Begins.{begins}
 use Rattle.jpq_program.specs.Answers.{AreEach}
 
@@ -50,3 +50,13 @@ AreInputsShown Is lines bytes_of names text any = AreEach (λ number name. IsNam
 -- the bytes of each input are known
 abbrev pub AreKnown : (List ℕ → Option (List ℕ)) → List (List ℕ) → Type 0
 AreKnown bytes_of names = (i : ℕ) → i < length names → (bytes : List ℕ) × (bytes_of (get_or names i []) ≡ Some bytes)
+
+-- after those that were opened before these were opened, in order; of where it is not known nothing is said
+abbrev pub Opens : Option (List (List ℕ)) → Option (List (List ℕ)) → List (List ℕ) → Type 0
+Opens before after names = IfSome after (λ later.
+    (earlier : List (List ℕ)) × (before ≡ Some earlier) × (later ≡ earlier ++ names))
+
+-- the same of the first of these, up to some
+abbrev pub OpensFirst : Option (List (List ℕ)) → Option (List (List ℕ)) → List (List ℕ) → Type 0
+OpensFirst before after names =
+    (firsts others : List (List ℕ)) × (names ≡ firsts ++ others) × Opens before after firsts

@@ -14,14 +14,14 @@ use Rattle.serde_json_path.specs.declared.path.JsonPath.{JsonPath}
 use Rattle.serde_json_path_reach.specs.Alike.{IsReadFor, IsReadForPlaces}
 use Rattle.serde_json_path_reach.specs.Readers.{Keeps}
 use Rattle.serde_json_path_syntax.specs.Tree.{Query}
-use Rattle.serde_json_path_functions.specs.Functions.{FunctionSet}
+use Rattle.serde_json_path_functions.specs.Functions.{FunctionSet, Numbers}
 use Rattle.serde_json_path_functions.specs.Patterns.{builtin_functions}
 use Rattle.jpq_options.specs.Options.{is_table}
 use Rattle.jsonpath_document.specs.Document.{ReadsAs}
 use Rattle.jpq_program.specs.Answers.{AreAnswersOn, IsAnswer, IsAnswerOn}
 use Rattle.jpq_program.specs.Heads.{head_text}
 use Rattle.jpq_program.specs.Inputs.{Shown}
-use Rattle.jpq_program.specs.Run.{has_names, has_numbers}
+use Rattle.jpq_program.specs.Run.{ArePaths, has_names, has_numbers}
 use Rattle.jpq_options.specs.declared.options.Options.{Options}
 use Rattle.jpq_program.specs.declared.documents.Documents.{Documents}
 use Rattle.jpq_program.specs.declared.answering.Answering.{Answering}
@@ -73,6 +73,10 @@ Tells before after = after ≡ record before { err = after.err; outcome = record
 -- paths are read as before
 abbrev pub Reads : PathReading → PathReading → Type 0
 Reads before after = after ≡ record before { used = after.used }
+
+-- these texts were read as paths, after those that were read before
+abbrev pub ReadsFurther : Numbers → List (List ℕ) → List AskedPath → List AskedPath → Type 0
+ReadsFurther rule texts before after = (read : List AskedPath) × (after ≡ before ++ read) × ArePaths rule texts (map (λ path. path.path) read)
 
 -- what is shown of the path's result on a value was appended, and the count says whether a node is
 abbrev pub Counts : FunctionSet → JsonPath → Output → List ℕ → Data → List ℕ → List ℕ → ℕ → Type 0

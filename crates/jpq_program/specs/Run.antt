@@ -1,6 +1,6 @@
 -- What comes of a run: the exit status, what went out, and what was told.
-use Rattle.std.specs.List.{AllZip}
-use Rattle.std.specs.Prelude.{◌≡◌, ◌≢◌, ◌≤◌, ◌⊎◌, ◌&&◌, ◌||◌, not, ℕ, Bool, true, false, List, [], ◌∷◌, ◌++◌, length, map, nat_eq, nat_lt, Option, None, Ok, codes, if◌then◌else◌, string_bytes}
+use Rattle.std.specs.List.{AllZip, filter, flat_map}
+use Rattle.std.specs.Prelude.{◌≡◌, ◌≢◌, ◌≤◌, take, ◌⊎◌, ◌&&◌, ◌||◌, not, ℕ, Bool, true, false, List, [], ◌∷◌, ◌++◌, length, map, nat_eq, nat_lt, Option, None, Ok, codes, if◌then◌else◌, string_bytes, unwrap_or}
 use Rattle.std.specs.Io.KnownBytes.{Appends}
 use Rattle.serde_json_path_functions.specs.Functions.{Numbers, all_numbers, whole_numbers}
 use Rattle.serde_json_path_functions.specs.Patterns.{builtin_functions}
@@ -12,6 +12,7 @@ use Rattle.jsonpath_lines.specs.Sent.{AppendsBeginning}
 use Rattle.jsonpath_lines.specs.declared.forms.Form.{Form}
 use Rattle.jsonpath_lines.specs.declared.forms.Form.TheVariants.{Json, Nothing, Raw}
 use Rattle.jsonpath_lines.specs.declared.forms.Output.{Output}
+use Rattle.jpq_options.specs.Paths.{path_lines}
 use Rattle.jpq_options.specs.declared.options.Color.{Color}
 use Rattle.jpq_options.specs.declared.options.Color.TheVariants.{Always, Auto, Never}
 use Rattle.jpq_options.specs.declared.options.Options.{Options}
@@ -21,7 +22,7 @@ use Rattle.jpq_options.specs.declared.options.Shown.{Shown}
 use Rattle.jpq_options.specs.declared.options.Shown.TheVariants.{Nodes}
 use Rattle.jpq_program.specs.Answers.{AreAnswersOn}
 use Rattle.jpq_program.specs.Heads.{head_text}
-use Rattle.jpq_program.specs.Inputs.{AreInputsShown, AreKnown}
+use Rattle.jpq_program.specs.Inputs.{AreInputsShown, AreKnown, OpensFirst, without_mark}
 use Rattle.jpq_program.specs.declared.streams.Streams.{Streams}
 
 -- the exit status of a run with options: 64 only where values are bound to names, as no path may have one; else 0 where something is
@@ -67,6 +68,40 @@ IsShownFor options paths name number bytes text any = AreAnswersOn builtin_funct
 abbrev pub names_in : Options → List (List ℕ)
 names_in options = if nat_eq (length options.files.items) 0 then codes "-" ∷ [] else map (λ file. file.now) options.files.items
 
+-- the text is not empty
+abbrev pub has_text : List ℕ → Bool
+has_text text = nat_lt 0 (length text)
+
+-- the files of paths
+abbrev pub path_files_in : Options → List (List ℕ)
+path_files_in options = map (λ file. file.now) options.paths_files.items
+
+-- what is known of the bytes of an input
+abbrev pub known_bytes : (List ℕ → Option (List ℕ)) → List ℕ → List ℕ
+known_bytes bytes_of name = unwrap_or (bytes_of name) []
+
+-- the texts of the paths in a file of these bytes: of each line that has one
+abbrev pub texts_in_file : List ℕ → List (List ℕ)
+texts_in_file bytes = filter has_text (path_lines (without_mark bytes))
+
+-- the texts of the paths that are asked for: the words, and then those of the files of paths, by what is known of their bytes
+abbrev pub path_texts : (List ℕ → Option (List ℕ)) → Options → List (List ℕ)
+path_texts bytes_of options = map (λ text. text.now) options.paths.items
+    ++ flat_map (λ name. texts_in_file (known_bytes bytes_of name)) (path_files_in options)
+
+-- what a run opens: the files of paths, and then the inputs, unless paths are only checked
+abbrev pub opened_in : Options → List (List ℕ)
+opened_in options = path_files_in options ++ (if options.check then [] else names_in options)
+
+-- what it opens where a path is refused: the files of paths, and then the first word that is a path, as it may be a file's name
+abbrev pub looked_at_in : Options → List (List ℕ)
+looked_at_in options = path_files_in options ++ take 1 (map (λ text. text.now) options.paths.items)
+
+-- each of those is opened at most once, in order, up to where the run ends
+abbrev pub OpensInOrder : Options → ℕ → Option (List (List ℕ)) → Option (List (List ℕ)) → Type 0
+OpensInOrder options status before after =
+    OpensFirst before after (opened_in options) ⊎ ((2 ≤ status) × OpensFirst before after (looked_at_in options))
+
 -- lines have colours: always, or where the output takes them and the options do not say never
 abbrev pub is_colored : Color → Bool → Bool
 is_colored Always taken = true
@@ -81,7 +116,7 @@ is_each (Nodes _) = true
 is_each _ = false
 
 -- Nodes are shown so, neither indented by another unit than two spaces, nor escaped, nor in colours, and neither summed up nor bounded
--- over all documents. The paths are words alone, in which no values are bound to names, and are not only checked.
+-- over all documents. In the paths no values are bound to names, and they are not only checked.
 pub record IsPlainRun (options : Options) (taken : Bool) : Type 0 where
   pub each : is_each options.shown ≡ true
   pub header : options.header ≡ false
@@ -92,14 +127,13 @@ pub record IsPlainRun (options : Options) (taken : Bool) : Type 0 where
   pub total : options.total ≡ false
   pub most_of_all : options.most_of_all ≡ None
   pub bindings : options.bindings.items ≡ []
-  pub paths_files : options.paths_files.items ≡ []
   pub check : options.check ≡ false
 
 -- What comes of such a run in which nothing is refused and no writing fails, where the bytes of the inputs are known: what is shown of
 -- them for the paths went out, and nothing else, and the status says whether a node is shown.
 pub record IsAnswered {W : Type 0} (contents : W → Option (List ℕ)) (bytes_of : List ℕ → Option (List ℕ)) (options : Options) (before after : W) (status : ℕ) : Type 0 where
   pub paths : List JsonPath
-  pub are : ArePaths (rule_in options) (map (λ text. text.now) options.paths.items) paths
+  pub are : ArePaths (rule_in options) (path_texts bytes_of options) paths
   pub text : List ℕ
   pub any : Bool
   pub shown : AreInputsShown (IsShownFor options paths) options.lines bytes_of (names_in options) text any
@@ -108,25 +142,24 @@ pub record IsAnswered {W : Type 0} (contents : W → Option (List ℕ)) (bytes_o
 
 -- ---- paths that are only checked
 
--- The paths are only checked: they are words alone, in which no values are bound to names, and no form of lines is asked for but those
--- of nodes.
+-- The paths are only checked: no values are bound to names in them, and no form is asked for but lines of nodes, or counts.
 pub record IsCheckRun (options : Options) : Type 0 where
   pub check : options.check ≡ true
   pub each : is_each options.shown ≡ true
   pub bindings : options.bindings.items ≡ []
-  pub paths_files : options.paths_files.items ≡ []
 
 -- each path in its canonical form, in a line of its own
 abbrev pub canonical_lines : List JsonPath → List ℕ
 canonical_lines [] = []
 canonical_lines (path ∷ paths) = query_text (path_tree path) ++ (codes "\n" ++ canonical_lines paths)
 
--- What comes of such a run in which nothing is refused and no writing fails: these lines went out, and nothing else. No input is opened.
-pub record IsChecked {I W : Type 0} (contents : W → Option (List ℕ)) (options : Options) (inputs later : I) (before after : W) (status : ℕ) : Type 0 where
+-- What comes of such a run in which nothing is refused and no writing fails, where the bytes of the files of paths are known: these lines
+-- went out, and nothing else. Without such files no input is opened.
+pub record IsChecked {I W : Type 0} (contents : W → Option (List ℕ)) (bytes_of : List ℕ → Option (List ℕ)) (options : Options) (inputs later : I) (before after : W) (status : ℕ) : Type 0 where
   pub paths : List JsonPath
-  pub are : ArePaths (rule_in options) (map (λ text. text.now) options.paths.items) paths
+  pub are : ArePaths (rule_in options) (path_texts bytes_of options) paths
   pub out : Appends (contents before) (contents after) (canonical_lines paths)
-  pub unopened : later ≡ inputs
+  pub unopened : options.paths_files.items ≡ [] → later ≡ inputs
   pub ends : status ≡ 0
 
 -- ---- what is printed
@@ -139,15 +172,16 @@ IsPrinted out err text before after status =
     × AppendsBeginning (err before.err) (err after.err) (codes "jpq: the output failed\n"))
 
 -- What comes of a run whose words ask for this. `out` and `err` say what is known of the bytes of the two writers, and `bytes_of` of
--- the inputs; the output takes colours or not. Of wrong use the message is told, or a beginning of it. Neither then, nor where a text is
+-- the inputs, `opened` which of these are opened; the output takes colours or not. Of wrong use the message is told, or a beginning of it. Neither then, nor where a text is
 -- printed, is an input opened.
-abbrev pub ComesOf : {I W E : Type 0} → (W → Option (List ℕ)) → (E → Option (List ℕ)) → (List ℕ → Option (List ℕ)) → Bool → Request → I → I → Streams W E → Streams W E → ℕ → Type 0
-ComesOf out err bytes_of taken (WrongUse kind text) inputs later before after status = (status ≡ 64) × (later ≡ inputs) × (after.out ≡ before.out)
+abbrev pub ComesOf : {I W E : Type 0} → (W → Option (List ℕ)) → (E → Option (List ℕ)) → (List ℕ → Option (List ℕ)) → (I → Option (List (List ℕ))) → Bool → Request → I → I → Streams W E → Streams W E → ℕ → Type 0
+ComesOf out err bytes_of opened taken (WrongUse kind text) inputs later before after status = (status ≡ 64) × (later ≡ inputs) × (after.out ≡ before.out)
     × AppendsBeginning (err before.err) (err after.err) (string_bytes text)
-ComesOf out err bytes_of taken (Print text) inputs later before after status = (later ≡ inputs) × IsPrinted out err (string_bytes text) before after status
-ComesOf out err bytes_of taken (Run options) inputs later before after status = IsStatusOf options status
-    × (IsPlainRun options taken → AreKnown bytes_of (names_in options) → status ≤ 1 → IsAnswered out bytes_of options before.out after.out status)
-    × (IsCheckRun options → status ≤ 1 → IsChecked out options inputs later before.out after.out status)
+ComesOf out err bytes_of opened taken (Print text) inputs later before after status = (later ≡ inputs) × IsPrinted out err (string_bytes text) before after status
+ComesOf out err bytes_of opened taken (Run options) inputs later before after status = IsStatusOf options status
+    × (IsPlainRun options taken → AreKnown bytes_of (path_files_in options) → AreKnown bytes_of (names_in options) → status ≤ 1 → IsAnswered out bytes_of options before.out after.out status)
+    × (IsCheckRun options → AreKnown bytes_of (path_files_in options) → status ≤ 1 → IsChecked out bytes_of options inputs later before.out after.out status)
+    × OpensInOrder options status (opened inputs) (opened later)
 
 -- memory for the words was refused: no input is opened, nothing goes out, and that is told
 abbrev pub LacksMemory : {I W E : Type 0} → (E → Option (List ℕ)) → I → I → Streams W E → Streams W E → ℕ → Type 0

@@ -159,7 +159,7 @@ impl Answering<'_> {
     }
 
     /// Writes what a path selects from a document, after what was written of earlier paths in the same array. Says whether anything
-    /// stands in the array now.
+    /// stands in the array now. Where memory is refused for the query the run ends.
     fn answer_path<W: Write, E: Write>(
         &self,
         document: Document<'_>,
@@ -195,6 +195,10 @@ impl Answering<'_> {
         }
         if let Err(e) = answered {
             self.refuse_query(document.source, path, e, streams)?;
+            if e == QueryError::Memory {
+                // A part of a line may be pending, which no other may follow.
+                return Err(Stop::Refused);
+            }
         }
         Ok(is_later)
     }

@@ -3,11 +3,11 @@
 ghost use Rattle.std.specs.Char.{is_ascii_whitespace};
 ghost use Rattle.std.specs.Io.BufRead.{strip_last};
 ghost use Rattle.std.specs.List.{list_all};
-ghost use Rattle.std.specs.Prelude.{◌≡◌, ℕ, [], Bool, List, None, IfOk, IfSome, false, map, string_bytes, true};
+ghost use Rattle.std.specs.Prelude.{◌≡◌, ◌∷◌, ℕ, [], Bool, List, None, IfOk, IfSome, false, map, string_bytes, true};
 ghost use Rattle.serde_json.specs.View.{view};
 ghost use Rattle.serde_json_path_syntax.specs.Tree.{Query};
 ghost use Rattle.serde_json_path_reach.specs.Readers.{Keeps};
-ghost use Rattle.jpq_program.specs.Inputs.{AreInputsShown, AreKnown, IsInputShown, IsLineShown, is_blank, without_mark};
+ghost use Rattle.jpq_program.specs.Inputs.{AreInputsShown, AreKnown, IsInputShown, IsLineShown, Opens, OpensFirst, is_blank, without_mark};
 ghost use Rattle.jpq_program.specs.Inside.{IsPlain, IsReadIn, OnlyNotes, Sends, shown_by};
 
 use crate::answering::{Answering, Document};
@@ -315,6 +315,7 @@ impl Documents<'_> {
         streams: &mut Streams<W, E>,
     ) -> Result<Next, Stop>
         ensures same { (name : List ℕ) → I.bytes_of inputs.new name ≡ I.bytes_of inputs.old name }
+        ensures opens { Opens (I.opened inputs.old) (I.opened inputs.new) (name.now ∷ []) }
         ensures right { IfOk result (λ _. IsPlain self.now
             → streams.new.outcome.refused ≡ false → streams.old.outcome.refused ≡ false) }
         ensures answered { IfOk result (λ next. IsPlain self.now → streams.old.left ≡ None
@@ -342,7 +343,9 @@ impl Documents<'_> {
         inputs: &mut I,
         streams: &mut Streams<W, E>,
     ) -> Result<Next, Stop>
-        ensures { IfOk result (λ next. IsPlain self.now → streams.old.left ≡ None
+        ensures opens { OpensFirst (I.opened inputs.old) (I.opened inputs.new)
+            (map (λ name. name.now) names.now) }
+        ensures answered { IfOk result (λ next. IsPlain self.now → streams.old.left ≡ None
             → streams.new.outcome.refused ≡ false → string_bytes streams.old.pending ≡ []
             → AreKnown (I.bytes_of inputs.old) (map (λ name. name.now) names.now)
             → (next ≡ Next.More) × Sends W.contents (AreInputsShown (shown_by self.now.answering) self.now.lines

@@ -1,11 +1,14 @@
 //! The paths that a command line asks for.
 
-ghost use Rattle.std.specs.Prelude.{◌≡◌, ℕ, [], List, IfOk, MatchOption, false, map, true};
+ghost use Rattle.std.specs.Prelude.{◌≡◌, ◌∷◌, ℕ, [], List, IfOk, IfSome, MatchOption, false, map, string_bytes, take, true};
 ghost use Rattle.serde_json_path_functions.specs.Terms.{numbers_view};
 ghost use Rattle.serde_json_path.specs.Paths.{path_signatures};
 ghost use Rattle.serde_json_path.specs.Fitting.{FitsBuiltin};
-ghost use Rattle.jpq_program.specs.Inside.{OnlyTells, Reads, Tells};
-ghost use Rattle.jpq_program.specs.Run.{ArePaths, IsPathOf, rule_in};
+ghost use Rattle.jpq_program.specs.Inside.{OnlyTells, Reads, ReadsFurther, Tells};
+ghost use Rattle.jpq_program.specs.Inputs.{AreKnown, Opens, OpensFirst, without_mark};
+ghost use Rattle.jpq_program.specs.Run.{ArePaths, IsPathOf, has_text, looked_at_in, path_files_in, path_texts, rule_in};
+ghost use Rattle.jpq_options.specs.Paths.{path_lines};
+ghost use Rattle.std.specs.List.{filter};
 
 use crate::asked_path::AskedPath;
 use crate::bindings::{Binding, bindings_of, with_values};
@@ -135,13 +138,19 @@ impl PathReading<'_> {
     ) -> Result<(), Stop>
         ensures kept { Reads self.old self.new }
         ensures told { IfOk result (λ _. Tells streams.old streams.new) }
+        ensures right { IfOk result (λ _. streams.new.outcome.refused ≡ false
+            → streams.new ≡ streams.old) }
+        ensures read { IfOk result (λ _. self.old.bindings.items ≡ []
+            → streams.new.outcome.refused ≡ false → ReadsFurther (numbers_view self.old.numbers)
+            (filter has_text (path_lines text.now)) paths.old.items paths.new.items) }
     {
-        for (index, text) in path_lines(self.alloc, text)?.iter().enumerate() {
-            if text.is_empty() {
+        let lines = path_lines(self.alloc, text)?;
+        for (index, line) in lines.iter().enumerate() {
+            if line.is_empty() {
                 continue;
             }
             let name = format!(in self.alloc; "{file}:{}", index.saturating_add(1))?;
-            if let Some(path) = self.parse(*text, Some(name), streams)? {
+            if let Some(path) = self.parse(*line, Some(name), streams)? {
                 paths.push(path)?;
             }
         }
@@ -175,7 +184,10 @@ fn paths_text<I: Inputs, W: Write, E: Write>(
     streams: &mut Streams<W, E>,
 ) -> Result<String, Stop>
     ensures same { (name : List ℕ) → I.bytes_of inputs.new name ≡ I.bytes_of inputs.old name }
+    ensures opens { Opens (I.opened inputs.old) (I.opened inputs.new) (name.now ∷ []) }
     ensures told { IfOk result (λ _. streams.new ≡ streams.old) }
+    ensures read { IfOk result (λ text. IfSome (I.bytes_of inputs.old name.now)
+        (λ bytes. string_bytes text ≡ bytes)) }
 {
     let mut text = String::new(alloc);
     let read = match inputs.open(name) {
@@ -191,21 +203,37 @@ fn paths_text<I: Inputs, W: Write, E: Write>(
     }
 }
 
+/// A text after a byte order mark, if it begins with one.
+fn without_mark(text: &str) -> &str
+    ensures { result.now ≡ without_mark text.now }
+{
+    text.strip_prefix("\u{feff}").unwrap_or(text)
+}
+
 /// Whether an input of a name can be read: a folder can be opened, but not read.
-fn is_file<I: Inputs>(name: &str, inputs: &mut I) -> bool {
+fn is_file<I: Inputs>(name: &str, inputs: &mut I) -> bool
+    ensures { Opens (I.opened inputs.old) (I.opened inputs.new) (name.now ∷ []) }
+{
     match inputs.open(name) {
         Ok(mut input) => input.read(&mut [0]).is_ok(),
         Err(_) => false,
     }
 }
 
-/// Tells that the path comes first, where a file's name stands in its place.
+/// Tells that the path comes first, where a file's name stands in its place, unless hints are left out.
 fn tell_order<I: Inputs, W: Write, E: Write>(
     alloc: Global,
+    silent: bool,
     texts: &[&str],
     inputs: &mut I,
     streams: &mut Streams<W, E>,
-) -> Result<(), Stop> {
+) -> Result<(), Stop>
+    ensures { OpensFirst (I.opened inputs.old) (I.opened inputs.new)
+        (take 1 (map (λ text. text.now) texts.now)) }
+{
+    if silent {
+        return Ok(());
+    }
     if let Some(text) = texts.first() {
         if *text != "-" && is_file(*text, inputs) {
             let message = format!(in alloc; "jpq: {text} is a file: the path comes first\n")?;
@@ -237,11 +265,16 @@ pub(crate) fn asked_paths<I: Inputs, W: Write, E: Write>(
         (name : List ℕ) → I.bytes_of inputs.new name ≡ I.bytes_of inputs.old name) }
     ensures unopened { IfOk result (λ _. options.now.paths_files.items ≡ []
         → inputs.new ≡ inputs.old) }
+    ensures opens { IfOk result (λ _.
+        Opens (I.opened inputs.old) (I.opened inputs.new) (path_files_in options.now)) }
+    ensures looks { OpensFirst (I.opened inputs.old) (I.opened inputs.new)
+        (looked_at_in options.now) }
     ensures told { IfOk result (λ _. streams.old.outcome.refused ≡ false
         → OnlyTells streams.old streams.new) }
     ensures read { IfOk result (λ paths. options.now.bindings.items ≡ []
-        → options.now.paths_files.items ≡ [] → ArePaths (rule_in options.now)
-        (map (λ text. text.now) options.now.paths.items) (map (λ path. path.path) paths.items)) }
+        → AreKnown (I.bytes_of inputs.old) (path_files_in options.now)
+        → ArePaths (rule_in options.now) (path_texts (I.bytes_of inputs.old) options.now)
+        (map (λ path. path.path) paths.items)) }
 {
     let bindings = match bindings_of(alloc, &options.bindings)? {
         Ok(bindings) => bindings,
@@ -265,15 +298,12 @@ pub(crate) fn asked_paths<I: Inputs, W: Write, E: Write>(
     reading.parse_words(&options.paths, several, &mut paths, streams)?;
     for file in &options.paths_files {
         let text = paths_text(alloc, *file, inputs, streams)?;
-        let lines = text.strip_prefix('\u{feff}').unwrap_or(text.as_str());
-        reading.parse_file(*file, lines, &mut paths, streams)?;
+        reading.parse_file(*file, without_mark(text.as_str()), &mut paths, streams)?;
     }
     if !streams.outcome.refused {
         reading.tell_unused(streams)?;
         return Ok(paths);
     }
-    if reading.hints {
-        tell_order(alloc, &options.paths, inputs, streams)?;
-    }
+    tell_order(alloc, options.silent, &options.paths, inputs, streams)?;
     Err(Stop::Refused)
 }

@@ -8,9 +8,9 @@ ghost use Rattle.serde_json_path_reach.specs.Readers.{Keeps};
 ghost use Rattle.jsonpath_lines.specs.Sent.{AppendsBeginning};
 ghost use Rattle.jpq_options.specs.Options.{AsksFor};
 ghost use Rattle.jpq_options.specs.declared.options.Request as input;
-ghost use Rattle.jpq_program.specs.Inputs.{AreInputsShown, AreKnown};
+ghost use Rattle.jpq_program.specs.Inputs.{AreInputsShown, AreKnown, OpensFirst};
 ghost use Rattle.jpq_program.specs.Inside.{IsPlain, OnlyTells, Sends, heads_in, shown_by, shows_places, status_after, status_of, told_after};
-ghost use Rattle.jpq_program.specs.Run.{ComesOf, IsAnswered, IsChecked, IsCheckRun, IsPlainRun, IsPrinted, IsShownFor, LacksMemory, canonical_lines, is_colored, is_each, names_in, output_in};
+ghost use Rattle.jpq_program.specs.Run.{ComesOf, IsAnswered, IsChecked, IsCheckRun, IsPlainRun, IsPrinted, IsShownFor, LacksMemory, canonical_lines, is_colored, is_each, looked_at_in, names_in, opened_in, output_in, path_files_in};
 
 use crate::answering::Answering;
 use crate::asked_path::AskedPath;
@@ -238,7 +238,8 @@ fn answer_inputs<I: Inputs, W: Write, E: Write>(
     inputs: &mut I,
     streams: &mut Streams<W, E>,
 ) -> Result<Next, Stop>
-    ensures { IfOk result (λ next. IsPlain documents.now → streams.old.left ≡ None
+    ensures opens { OpensFirst (I.opened inputs.old) (I.opened inputs.new) (names_in options.now) }
+    ensures answered { IfOk result (λ next. IsPlain documents.now → streams.old.left ≡ None
         → streams.new.outcome.refused ≡ false → string_bytes streams.old.pending ≡ []
         → AreKnown (I.bytes_of inputs.old) (names_in options.now)
         → (next ≡ Next.More) × Sends W.contents (AreInputsShown
@@ -259,7 +260,8 @@ fn answer_documents<I: Inputs, W: Write, E: Write>(
     inputs: &mut I,
     streams: &mut Streams<W, E>,
 ) -> Result<Next, Stop>
-    ensures { IfOk result (λ next. IsPlain documents.now → options.now.header ≡ false
+    ensures opens { OpensFirst (I.opened inputs.old) (I.opened inputs.new) (names_in options.now) }
+    ensures answered { IfOk result (λ next. IsPlain documents.now → options.now.header ≡ false
         → options.now.total ≡ false → streams.old.left ≡ None
         → streams.new.outcome.refused ≡ false → string_bytes streams.old.pending ≡ []
         → AreKnown (I.bytes_of inputs.old) (names_in options.now)
@@ -303,7 +305,8 @@ fn answer_paths<I: Inputs, W: Write, E: Write>(
     inputs: &mut I,
     streams: &mut Streams<W, E>,
 ) -> Result<Next, Stop>
-    ensures { IfOk result (λ next. IsPlainRun options.now colours.entry.taken
+    ensures opens { OpensFirst (I.opened inputs.old) (I.opened inputs.new) (names_in options.now) }
+    ensures answered { IfOk result (λ next. IsPlainRun options.now colours.entry.taken
         → streams.new.outcome.refused ≡ false → string_bytes streams.old.pending ≡ []
         → AreKnown (I.bytes_of inputs.old) (names_in options.now)
         → (next ≡ Next.More) × Sends W.contents (AreInputsShown (IsShownFor options.now
@@ -350,14 +353,20 @@ fn run_with<I: Inputs, W: Write, E: Write>(
     ensures answered { IfOk result (λ _. IsPlainRun options.now colours.entry.taken
         → streams.old.outcome ≡ record { selected = false; refused = false }
         → string_bytes streams.old.pending ≡ [] → streams.new.outcome.refused ≡ false
+        → AreKnown (I.bytes_of inputs.old) (path_files_in options.now)
         → AreKnown (I.bytes_of inputs.old) (names_in options.now)
         → IsAnswered W.contents (I.bytes_of inputs.old) options.now
         streams.old.out streams.new.out (status_of streams.new.outcome)) }
     ensures checked { IfOk result (λ _. IsCheckRun options.now
         → streams.old.outcome ≡ record { selected = false; refused = false }
         → string_bytes streams.old.pending ≡ []
-        → IsChecked W.contents options.now inputs.old inputs.new
+        → AreKnown (I.bytes_of inputs.old) (path_files_in options.now)
+        → IsChecked W.contents (I.bytes_of inputs.old) options.now inputs.old inputs.new
         streams.old.out streams.new.out (status_of streams.new.outcome)) }
+    ensures opens { IfOk result (λ _.
+        OpensFirst (I.opened inputs.old) (I.opened inputs.new) (opened_in options.now)) }
+    ensures in_order { OpensFirst (I.opened inputs.old) (I.opened inputs.new) (opened_in options.now)
+        ⊎ OpensFirst (I.opened inputs.old) (I.opened inputs.new) (looked_at_in options.now) }
 {
     let paths = asked_paths(alloc, options, inputs, streams)?;
     hint_at_patterns(alloc, options.silent, &paths, streams)?;
@@ -443,8 +452,8 @@ pub fn run<I: Inputs, W: Write, E: Write>(
 ) -> u8
     ensures one_of { (result ≤ 3) ⊎ (result ≡ 64) }
     ensures comes { ((asked : input.Request) × AsksFor (map string_bytes words.now) asked
-        × ComesOf W.contents E.contents (I.bytes_of inputs.old) colours.entry.taken asked
-        inputs.old inputs.new streams.old streams.new result)
+        × ComesOf W.contents E.contents (I.bytes_of inputs.old) I.opened colours.entry.taken
+        asked inputs.old inputs.new streams.old streams.new result)
         ⊎ LacksMemory E.contents inputs.old inputs.new streams.old streams.new result }
 {
     streams.restart();

@@ -1,6 +1,7 @@
 -- What is shown of the two files.
 use Rattle.std.specs.Prelude.{◌≡◌, ◌≤◌, ◌++◌, ◌&&◌, ◌||◌, not, ℕ, Bool, true, false, List, [], ◌∷◌, Option, None, Some, codes, if◌then◌else◌, length, map, nat_eq, nat_lt}
-use Rattle.std.proofs.Common.{ap, arith, refl, suc, subst, sym, zero, ◌∙◌}
+use Rattle.std.specs.List.{flat_map}
+use Rattle.std.proofs.Common.{ap, append-nil, arith, refl, suc, subst, sym, zero, ◌∙◌}
 use Rattle.std.specs.Borrow.{Bor}
 use Rattle.serde_json.specs.Data.{Data, array, item, member, no_items, no_members, number, object, unsigned}
 use Rattle.serde_json.proofs.OnLiterals.{serde_json_on_literals}
@@ -24,7 +25,7 @@ use Rattle.jpq_options.specs.declared.options.Request.{Request}
 use Rattle.jpq_program.specs.Answers.{AreAnswersOn, IsAnswerOn}
 use Rattle.jpq_program.specs.Heads.{head_text}
 use Rattle.jpq_program.specs.Inputs.{AreInputsShown, AreKnown, IsInputShown, IsLineShown, IsNamedShown, Shown}
-use Rattle.jpq_program.specs.Run.{ArePaths, ComesOf, IsPathOf, IsPlainRun, IsShownFor, form_in, has_names, has_numbers, is_colored, is_each, names_in, output_in, rule_in}
+use Rattle.jpq_program.specs.Run.{ArePaths, ComesOf, IsPathOf, IsPlainRun, IsShownFor, form_in, known_bytes, path_files_in, path_texts, texts_in_file, has_names, has_numbers, is_colored, is_each, names_in, output_in, rule_in}
 use Rattle.jpq_program.specs.declared.streams.Streams.{Streams}
 use Rattle.std.specs.Io.KnownBytes.{Appends}
 use Rattle.program_tests.proofs.AskedWords.{OptionsAre, asks_for_run, words}
@@ -141,7 +142,6 @@ is_plain o are = record {
   total = are.total;
   most_of_all = are.most_of_all;
   bindings = nothing_in o.bindings.items are.bindings;
-  paths_files = nothing_in o.paths_files.items are.paths_files;
   check = are.check;
 }
 
@@ -181,6 +181,12 @@ two_paths rule texts paths a b is are = of_two paths (subst (λ (t : List (List 
     of_two (p ∷ q ∷ r ∷ rest) are = absurd are.1.1
     of_two (p ∷ q ∷ []) are = (p, q, refl, are.0, are.1.0)
 
+-- the paths are those of the words
+texts_are : (known : List ℕ → Option (List ℕ)) (o : Options) → OptionsAre o → path_texts known o ≡ codes "$['a']" ∷ codes "$['b'][0]" ∷ []
+texts_are known o are =
+    let words = map (λ (s : Bor (List ℕ)). s.now) o.paths.items in
+    ap (λ (files : List (List ℕ)). words ++ flat_map (λ (name : List ℕ). texts_in_file (known_bytes known name)) files) are.paths_files ∙ append-nil words ∙ are.paths
+
 -- ---- what comes of the run
 
 both_known : (known : List ℕ → Option (List ℕ)) → known (codes "one") ≡ Some one → known (codes "two") ≡ Some two → AreKnown known (codes "one" ∷ codes "two" ∷ [])
@@ -197,18 +203,19 @@ unfolding chars encode_utf8 in_decimal
 text_of_b = refl
 
 -- what comes of words that ask for the run
-pub run_comes : {I W E : Type 0} (out : W → Option (List ℕ)) (err : E → Option (List ℕ)) (known : List ℕ → Option (List ℕ)) (asked : Request) (inputs later : I) (before after : Streams W E) (status : ℕ) → Normal → ResultIsUnique
-    → AsksFor words asked → ComesOf out err known false asked inputs later before after status → known (codes "one") ≡ Some one → known (codes "two") ≡ Some two → status ≤ 1
+pub run_comes : {I W E : Type 0} (out : W → Option (List ℕ)) (err : E → Option (List ℕ)) (known : List ℕ → Option (List ℕ)) (opened : I → Option (List (List ℕ))) (asked : Request) (inputs later : I) (before after : Streams W E) (status : ℕ) → Normal → ResultIsUnique
+    → AsksFor words asked → ComesOf out err known opened false asked inputs later before after status → known (codes "one") ≡ Some one → known (codes "two") ≡ Some two → status ≤ 1
     → (status ≡ 0) × Appends (out before.out) (out after.out) written
 unfolding encode_utf8
-run_comes {I} {W} {E} out err known asked inputs later before after status normal_law unique asks comes is_one is_two few =
+run_comes {I} {W} {E} out err known opened asked inputs later before after status normal_law unique asks comes is_one is_two few =
     let run = asks_for_run asked asks in
     let o = run.0 in
     let are = run.2 in
-    let came = subst (λ (a : Request). ComesOf out err known false a inputs later before after status) run.1 comes in
-    let are_known = subst (λ (names : List (List ℕ)). AreKnown known names) (sym (names_are o are)) (both_known known is_one is_two) in
+    let came = subst (λ (a : Request). ComesOf out err known opened false a inputs later before after status) run.1 comes in
+    let are_known = subst (λ (files : List (List ℕ)). AreKnown known (files ++ names_in o)) (sym are.paths_files)
+    (subst (λ (names : List (List ℕ)). AreKnown known names) (sym (names_are o are)) (both_known known is_one is_two)) in
     let answered = came.1 (is_plain o are) are_known few in
-    let both = two_paths (rule_in o) (map (λ (s : Bor (List ℕ)). s.now) o.paths.items) answered.paths (codes "$['a']") (codes "$['b'][0]") are.paths answered.are in
+    let both = two_paths (rule_in o) (path_texts known o) answered.paths (codes "$['a']") (codes "$['b'][0]") (texts_are known o are) answered.are in
     let paths : ArePathsTo both.0 both.1 = record {
       rule = rule_in o;
       first = subst (λ (text : List ℕ). IsPathOf (rule_in o) text both.0) (sym text_of_a) both.3;

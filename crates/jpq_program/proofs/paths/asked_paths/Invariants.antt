@@ -1,8 +1,16 @@
-use Rattle.jpq_program.proofs.Words.{◌≡◌, List, ℕ, [], Reads, Tells}
+use Rattle.jpq_program.proofs.Words.{◌≡◌, ◌++◌, Bor, List, ℕ, [], false, AreKnown, ArePaths, AskedPath, Opens, Reads, Tells, known_bytes, map, numbers_view, take, texts_in_file}
+use Rattle.std.specs.List.{flat_map}
 use Rattle.jpq_program.proofs.paths.asked_paths.Given as goal
 
 abbrev pub invariant-loop-file : goal.invariant-loop-file
-invariant-loop-file g l =
-    ((name : List ℕ) → g.I.Inputs.bytes_of l.inputs name ≡ g.I.Inputs.bytes_of l.initial.inputs name)
-    × Reads l.initial.reading l.reading × Tells l.initial.streams l.streams
-    × (l.options.paths_files.items ≡ [] → (l.paths ≡ l.initial.paths) × (l.streams ≡ l.initial.streams) × (l.inputs ≡ l.initial.inputs))
+invariant-loop-file g l = record {
+  same : (name : List ℕ) → g.I.Inputs.bytes_of l.inputs name ≡ g.I.Inputs.bytes_of l.initial.inputs name;
+  opens : Opens (g.I.Inputs.opened l.initial.inputs) (g.I.Inputs.opened l.inputs) (map (λ (file : Bor (List ℕ)). file.now) (take l.file-index l.file-items));
+  reads : Reads l.initial.reading l.reading;
+  tells : Tells l.initial.streams l.streams;
+  right : l.streams.outcome.refused ≡ false → l.streams ≡ l.initial.streams;
+  unopened : l.options.paths_files.items ≡ [] → l.inputs ≡ l.initial.inputs;
+  are : l.initial.reading.bindings.items ≡ [] → AreKnown (g.I.Inputs.bytes_of l.initial.inputs) (map (λ (file : Bor (List ℕ)). file.now) l.file-items) → l.streams.outcome.refused ≡ false
+      → ArePaths (numbers_view l.initial.reading.numbers) (map (λ (text : Bor (List ℕ)). text.now) l.options.paths.items ++ flat_map (λ name. texts_in_file (known_bytes (g.I.Inputs.bytes_of l.initial.inputs) name)) (map (λ (file : Bor (List ℕ)). file.now) (take l.file-index l.file-items)))
+      (map (λ (path : AskedPath). path.path) l.paths.items);
+}

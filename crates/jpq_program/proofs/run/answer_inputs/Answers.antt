@@ -1,17 +1,28 @@
-use Rattle.jpq_program.proofs.Words.{◌≡◌, ◌∙◌, Bor, IfOk-weaker, List, More, ℕ, arith, ap, common_steps, false, length, map, nat_eq, nat_tests, subst, sym, true, AreInputsShown, AreKnown, Sends, shown_by}
+use Rattle.jpq_program.proofs.Words.{◌≡◌, ◌∙◌, Bor, IfOk-weaker, List, More, ℕ, arith, ap, common_steps, false, length, map, nat_eq, nat_tests, subst, sym, true, AreInputsShown, AreKnown, OpensFirst, Sends, shown_by}
 use Rattle.jpq_program.proofs.Parsed.{none_named, some_named}
 use Rattle.jpq_program.proofs.run.answer_inputs.Goals as goal
 
-pub returns-then-is_empty : goal.returns-then-is_empty
-returns-then-is_empty g c = IfOk-weaker c.answer_all.result _ _ (λ next answered plain left refused empty known.
+pub returns-then-is_empty-clause-opens : goal.returns-then-is_empty-clause-opens
+returns-then-is_empty-clause-opens g c =
+    let none : nat_eq (length c.args.options.now.files.items) 0 ≡ true = grind (arith, nat_tests, common_steps, c.is_empty.ensures, c.if-is_empty.true) in
+    subst (OpensFirst (g.I.Inputs.opened c.args.inputs.now) (g.I.Inputs.opened c.answer_all.new.inputs)) (sym (none_named c.args.options.now none)) c.answer_all.ensures.opens
+
+pub returns-else-is_empty-clause-opens : goal.returns-else-is_empty-clause-opens
+returns-else-is_empty-clause-opens g c =
+    let some : nat_eq (length c.args.options.now.files.items) 0 ≡ false = grind (arith, nat_tests, common_steps, c.is_empty.ensures, c.if-is_empty.false) in
+    let names = some_named c.args.options.now some ∙ ap (map (λ (file : Bor (List ℕ)). file.now)) (sym c.deref.ensures.value) in
+    subst (OpensFirst (g.I.Inputs.opened c.args.inputs.now) (g.I.Inputs.opened c.answer_all-else-is_empty.new.inputs)) (sym names) c.answer_all-else-is_empty.ensures.opens
+
+pub returns-then-is_empty-clause-answered : goal.returns-then-is_empty-clause-answered
+returns-then-is_empty-clause-answered g c = IfOk-weaker c.answer_all.result _ _ (λ next answered plain left refused empty known.
     let none : nat_eq (length c.args.options.now.files.items) 0 ≡ true = grind (arith, nat_tests, common_steps, c.is_empty.ensures, c.if-is_empty.true) in
     let names = none_named c.args.options.now none in
     subst (λ (names : List (List ℕ)). (next ≡ More) × Sends g.W.Write.contents (AreInputsShown (shown_by c.args.documents.now.answering) c.args.documents.now.lines (g.I.Inputs.bytes_of c.args.inputs.now) names) c.args.streams.now c.answer_all.new.streams) (sym names)
-    (answered plain left refused empty (subst (AreKnown (g.I.Inputs.bytes_of c.args.inputs.now)) names known))) c.answer_all.ensures
+    (answered plain left refused empty (subst (AreKnown (g.I.Inputs.bytes_of c.args.inputs.now)) names known))) c.answer_all.ensures.answered
 
-pub returns-else-is_empty : goal.returns-else-is_empty
-returns-else-is_empty g c = IfOk-weaker c.answer_all-else-is_empty.result _ _ (λ next answered plain left refused empty known.
+pub returns-else-is_empty-clause-answered : goal.returns-else-is_empty-clause-answered
+returns-else-is_empty-clause-answered g c = IfOk-weaker c.answer_all-else-is_empty.result _ _ (λ next answered plain left refused empty known.
     let some : nat_eq (length c.args.options.now.files.items) 0 ≡ false = grind (arith, nat_tests, common_steps, c.is_empty.ensures, c.if-is_empty.false) in
     let names = some_named c.args.options.now some ∙ ap (map (λ (file : Bor (List ℕ)). file.now)) (sym c.deref.ensures.value) in
     subst (λ (names : List (List ℕ)). (next ≡ More) × Sends g.W.Write.contents (AreInputsShown (shown_by c.args.documents.now.answering) c.args.documents.now.lines (g.I.Inputs.bytes_of c.args.inputs.now) names) c.args.streams.now c.answer_all-else-is_empty.new.streams) (sym names)
-    (answered plain left refused empty (subst (AreKnown (g.I.Inputs.bytes_of c.args.inputs.now)) names known))) c.answer_all-else-is_empty.ensures
+    (answered plain left refused empty (subst (AreKnown (g.I.Inputs.bytes_of c.args.inputs.now)) names known))) c.answer_all-else-is_empty.ensures.answered

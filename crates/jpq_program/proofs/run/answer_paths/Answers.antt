@@ -3,8 +3,8 @@ use Rattle.serde_json_path_reach.specs.Alike.{trees_of}
 use Rattle.jpq_program.proofs.Asked.{plain_documents, sent_for}
 use Rattle.jpq_program.proofs.run.answer_paths.Goals as goal
 
-pub returns : goal.returns
-returns g c = IfOk-weaker c.answer_documents.result _ _ (λ next answered run refused empty known.
+pub returns-clause-answered : goal.returns-clause-answered
+returns-clause-answered g c = IfOk-weaker c.answer_documents.result _ _ (λ next answered run refused empty known.
     let told = c.dress_of.ensures.told in
     let read = subst (λ (queries : List Query). IfSome c.reader_for.result (λ reader. Keeps reader (shows_places c.output_of-output.result.form) queries)) (ap trees_of c.as_slice.ensures.value ∙ c.in_ok-trees.ensures) c.reader_for.ensures in
     let sent = answered (plain_documents _ c.args.options.now c.args.colours.taken run refl c.output_of-output.ensures (c.in_ok-dress.ensures.plain run) refl read) run.header run.total run.most_of_all refused
@@ -13,4 +13,4 @@ returns g c = IfOk-weaker c.answer_documents.result _ _ (λ next answered run re
       sent_for g.W.Write.contents c.args.options.now c.args.paths.now c.output_of-output.result c.heads_of.result (g.I.Inputs.bytes_of c.args.inputs.now) (names_in c.args.options.now) c.args.streams.now _ c.answer_documents.new.streams
           c.output_of-output.ensures (c.heads_of.ensures run.each) (ap (λ (s : Streams g.row.W.Denot g.row.E.Denot). s.out) told) (ap (λ (s : Streams g.row.W.Denot g.row.E.Denot). s.pending) told)
           (ap (λ (s : Streams g.row.W.Denot g.row.E.Denot). s.outcome) told) sent.1,
-    )) c.answer_documents.ensures
+    )) c.answer_documents.ensures.answered

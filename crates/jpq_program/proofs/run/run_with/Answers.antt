@@ -1,9 +1,10 @@
-use Rattle.jpq_program.proofs.Words.{◌≡◌, ◌∙◌, List, ℕ, Option, ap, map, string_bytes, subst, sym, AreInputsShown, AreKnown, ArePaths, AskedPath, Bor, IsShownFor, Sends, Streams, names_in, rule_in}
+use Rattle.jpq_program.proofs.Words.{◌≡◌, ◌∙◌, List, ℕ, Option, ap, inl, map, string_bytes, subst, sym, AreInputsShown, AreKnown, ArePaths, AskedPath, Bor, IsShownFor, Sends, Streams, names_in, path_texts, rule_in}
 use Rattle.jpq_program.proofs.Asked.{run_answered}
+use Rattle.jpq_program.proofs.Opened.{opens_inputs}
 use Rattle.jpq_program.proofs.run.run_with.Goals as goal
 
 pub returns-clause-answered : goal.returns-clause-answered
-returns-clause-answered g c = λ run fresh empty refused known.
+returns-clause-answered g c = λ run fresh empty refused files known.
     let right = ap (λ o. o.refused) fresh in
     let asked = c.in_ok-paths.ensures.told right in
     let hinted = c.hint_at_patterns.ensures in
@@ -11,11 +12,27 @@ returns-clause-answered g c = λ run fresh empty refused known.
     let same : g.I.Inputs.bytes_of c.asked_paths.new.inputs ≡ g.I.Inputs.bytes_of c.args.inputs.now = λ i name. c.in_ok-paths.ensures.same name i in
     let still = sym (ap (λ (s : Streams g.row.W.Denot g.row.E.Denot). s.outcome.refused) ended) ∙ refused in
     let nothing = ap (λ (s : Streams g.row.W.Denot g.row.E.Denot). string_bytes s.pending) hinted ∙ ap (λ (s : Streams g.row.W.Denot g.row.E.Denot). string_bytes s.pending) asked ∙ empty in
-    let are = c.in_ok-paths.ensures.read run.bindings run.paths_files in
+    let are = c.in_ok-paths.ensures.read run.bindings files in
     run_answered g.W.Write.contents (g.I.Inputs.bytes_of c.args.inputs.now) c.args.options.now c.deref-2.result.now c.args.streams.now c.hint_at_patterns.new.streams c.answer_paths.new.streams c.hint_at_nothing.new.streams
-    (subst (λ (paths : List AskedPath). ArePaths (rule_in c.args.options.now) (map (λ (text : Bor (List ℕ)). text.now) c.args.options.now.paths.items) (map (λ (path : AskedPath). path.path) paths)) (sym c.deref-2.ensures.value) are)
+    (subst (λ (paths : List AskedPath). ArePaths (rule_in c.args.options.now) (path_texts (g.I.Inputs.bytes_of c.args.inputs.now) c.args.options.now) (map (λ (path : AskedPath). path.path) paths)) (sym c.deref-2.ensures.value) are)
     fresh (ap (λ (s : Streams g.row.W.Denot g.row.E.Denot). s.out) hinted ∙ ap (λ (s : Streams g.row.W.Denot g.row.E.Denot). s.out) asked)
     (ap (λ (s : Streams g.row.W.Denot g.row.E.Denot). s.outcome) hinted ∙ ap (λ (s : Streams g.row.W.Denot g.row.E.Denot). s.outcome) asked) nothing
     (ap (λ (s : Streams g.row.W.Denot g.row.E.Denot). s.out) ended) (ap (λ (s : Streams g.row.W.Denot g.row.E.Denot). s.outcome) ended) refused
     (subst (λ (bytes_of : List ℕ → Option (List ℕ)). Sends g.W.Write.contents (AreInputsShown (IsShownFor c.args.options.now (map (λ (path : AskedPath). path.path) c.deref-2.result.now)) c.args.options.now.lines bytes_of (names_in c.args.options.now)) c.hint_at_patterns.new.streams c.answer_paths.new.streams) same
-    (c.in_ok-next.ensures run still nothing (subst (λ (bytes_of : List ℕ → Option (List ℕ)). AreKnown bytes_of (names_in c.args.options.now)) (sym same) known)).1)
+    (c.in_ok-next.ensures.answered run still nothing (subst (λ (bytes_of : List ℕ → Option (List ℕ)). AreKnown bytes_of (names_in c.args.options.now)) (sym same) known)).1)
+
+pub returns-in_err-next-clause-in_order : goal.returns-in_err-next-clause-in_order
+returns-in_err-next-clause-in_order g c =
+    inl (opens_inputs c.args.options.now (g.I.Inputs.opened c.args.inputs.now) (g.I.Inputs.opened c.asked_paths.new.inputs) (g.I.Inputs.opened c.answer_paths.new.inputs) c.if-options.false c.in_ok-paths.ensures.opens c.answer_paths.ensures.opens)
+
+pub returns-in_err-hint_at_nothing-clause-in_order : goal.returns-in_err-hint_at_nothing-clause-in_order
+returns-in_err-hint_at_nothing-clause-in_order g c =
+    inl (opens_inputs c.args.options.now (g.I.Inputs.opened c.args.inputs.now) (g.I.Inputs.opened c.asked_paths.new.inputs) (g.I.Inputs.opened c.answer_paths.new.inputs) c.if-options.false c.in_ok-paths.ensures.opens c.answer_paths.ensures.opens)
+
+pub returns-clause-opens : goal.returns-clause-opens
+returns-clause-opens g c =
+    opens_inputs c.args.options.now (g.I.Inputs.opened c.args.inputs.now) (g.I.Inputs.opened c.asked_paths.new.inputs) (g.I.Inputs.opened c.answer_paths.new.inputs) c.if-options.false c.in_ok-paths.ensures.opens c.answer_paths.ensures.opens
+
+pub returns-clause-in_order : goal.returns-clause-in_order
+returns-clause-in_order g c =
+    inl (opens_inputs c.args.options.now (g.I.Inputs.opened c.args.inputs.now) (g.I.Inputs.opened c.asked_paths.new.inputs) (g.I.Inputs.opened c.answer_paths.new.inputs) c.if-options.false c.in_ok-paths.ensures.opens c.answer_paths.ensures.opens)
