@@ -1,5 +1,5 @@
 -- What options ask for, as documents are answered.
-use Rattle.jpq_program.proofs.Words.{◌≡◌, ◌∙◌, ◌&&◌, ◌||◌, ℕ, Bool, true, false, List, [], Option, None, length, length-map, map, is_some, not, refl, sym, ap, subst, string_bytes, Appends, AreAnswersOn, AreInputsShown, ArePaths, Bor, IsAnswered, Outcome, names_in, rule_in, status_of, Answered, AskedPath, Answering, Documents, Heads, IsPlain, IsPlainRun, IsShownFor, JsonPath, Keeps, IfSome, Nodes, OptionShown, Options, Output, Sends, Streams, builtin_functions, form_in, has_counts, has_lines, head_by, heads_in, is_each, is_plain_answer, is_table, output_in, path_tree, shows_places, LocationAndValue, Value, Raw, Location, Pointer, Json, Count, Nothing, path_texts}
+use Rattle.jpq_program.proofs.Words.{◌≡◌, ◌∙◌, ◌&&◌, ◌||◌, ℕ, Bool, true, false, List, [], Option, None, length, length-map, map, is_some, not, refl, sym, ap, subst, string_bytes, Appends, AreAnswersOn, AreInputsShown, ArePaths, IsAnswered, Outcome, names_in, rule_in, status_of, Answered, AskedPath, Answering, Documents, Heads, IsPlain, IsPlainRun, IsShownFor, JsonPath, Keeps, IfSome, Nodes, OptionShown, Options, Output, Sends, Streams, builtin_functions, form_in, has_counts, has_lines, head_by, heads_in, is_each, is_plain_answer, is_table, output_in, path_tree, shows_places, LocationAndValue, Value, Raw, Location, Pointer, Json, Count, Nothing, path_texts}
 use Rattle.jpq_program.proofs.Ended.{sent_out, status_is}
 use Rattle.jpq_program.proofs.Shown.{answered_since}
 

@@ -1,5 +1,5 @@
 -- Which inputs are opened, one after the other.
-use Rattle.jpq_program.proofs.Words.{Bool, Err, IfOk, Next, Ok, OpensInOrder, Options, Outcome, Result, Stop, arith, common_steps, inl, inr, looked_at_in, names_in, path_files_in, if◌then◌else◌, nat_tests, opened_in, status_after, ◌⊎◌, ◌≡◌, ◌∙◌, ◌+◌, ◌<◌, ◌≤◌, ◌++◌, ◌∷◌, [], ℕ, Bor, List, None, Option, Some, Opens, OpensFirst, ap, append-nil, append_assoc, get_or, length, map, refl, subst, sym, take, drop, map-append, take-append-drop, take_all}
+use Rattle.jpq_program.proofs.Words.{Bool, Err, IfOk, false, Next, Ok, OpensInOrder, Options, Outcome, Result, Stop, arith, common_steps, inl, inr, looked_at_in, names_in, path_files_in, if◌then◌else◌, nat_tests, opened_in, status_after, ◌⊎◌, ◌≡◌, ◌∙◌, ◌+◌, ◌<◌, ◌≤◌, ◌++◌, ◌∷◌, [], ℕ, Bor, List, None, Option, Some, Opens, OpensFirst, ap, append-nil, append_assoc, get_or, length, map, refl, subst, sym, take, drop, map-append, take-append-drop, take_all}
 use Rattle.jpq_program.proofs.Nodes.{further_mapped}
 use Rattle.jpq_program.proofs.Sending.{same_item}
 

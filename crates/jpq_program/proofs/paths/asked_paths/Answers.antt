@@ -1,4 +1,4 @@
-use Rattle.jpq_program.proofs.Words.{◌≡◌, ◌∙◌, ◌++◌, ◌+◌, ◌<◌, ◌≤◌, ◌∷◌, Option, get_or, [], AreKnown, ArePaths, AskedPath, Bor, List, Numbers, OpensFirst, PathReading, ReadsFurther, Streams, Opens, ap, append-nil, arith, false, has_text, known_bytes, length, looked_at_in, map, numbers_view, path_files_in, path_lines, refl, rule_in, string_bytes, subst, sym, take, take_all, texts_in_file, without_mark, ℕ}
+use Rattle.jpq_program.proofs.Words.{◌≡◌, ◌∙◌, ◌++◌, ◌+◌, ◌<◌, ◌≤◌, ◌∷◌, Option, get_or, [], AreKnown, ArePaths, AskedPath, Bor, List, Numbers, OpensFirst, PathReading, ReadsFurther, Streams, Opens, ap, append-nil, arith, has_text, known_bytes, length, looked_at_in, map, numbers_view, path_files_in, path_lines, refl, rule_in, string_bytes, subst, sym, take, take_all, texts_in_file, without_mark, ℕ}
 use Rattle.jpq_program.proofs.Opened.{opens_all, opens_alone, opens_further, opens_none, opens_nothing, opens_some, opens_then, opens_within}
 use Rattle.jpq_program.proofs.Parsed.{file_read}
 use Rattle.std.specs.List.{filter, flat_map}

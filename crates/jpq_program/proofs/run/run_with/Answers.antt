@@ -1,4 +1,4 @@
-use Rattle.jpq_program.proofs.Words.{◌≡◌, ◌∙◌, List, ℕ, Option, ap, inl, map, string_bytes, subst, sym, AreInputsShown, AreKnown, ArePaths, AskedPath, Bor, IsShownFor, Sends, Streams, names_in, path_texts, rule_in}
+use Rattle.jpq_program.proofs.Words.{◌≡◌, ◌∙◌, List, ℕ, Option, ap, inl, map, string_bytes, subst, sym, AreInputsShown, AreKnown, ArePaths, AskedPath, IsShownFor, Sends, Streams, names_in, path_texts, rule_in}
 use Rattle.jpq_program.proofs.Asked.{run_answered}
 use Rattle.jpq_program.proofs.Opened.{opens_inputs}
 use Rattle.jpq_program.proofs.run.run_with.Goals as goal

@@ -1,4 +1,4 @@
-use Rattle.jpq_program.proofs.Words.{[], Bool, Bor, length, not, ◌==◌, List, ReadsFurther, map, path_lines, subst, take, take_all, ℕ, ◌∙◌, AskedPath, Global, PathReading, Streams, Vec, ap, append-nil, arith, common_steps, false, has_text, nat_tests, numbers_view, refl, sym, true, true≢false, ◌≡◌}
+use Rattle.jpq_program.proofs.Words.{[], Bool, Bor, length, not, ◌==◌, List, ReadsFurther, map, path_lines, subst, take, take_all, ℕ, ◌∙◌, AskedPath, Global, PathReading, Streams, Vec, ap, append-nil, arith, common_steps, has_text, nat_tests, numbers_view, refl, sym, true≢false, ◌≡◌}
 use Rattle.jpq_program.proofs.Parsed.{line_passed, line_read}
 use Rattle.std.specs.List.{filter}
 use Rattle.jpq_program.proofs.paths.PathReading.parse_file.Goals as goal
