@@ -189,6 +189,9 @@ texts_are known o are =
 
 -- ---- what comes of the run
 
+none_known : (known : List ℕ → Option (List ℕ)) → AreKnown known []
+none_known known i within = absurd (omega (arith, within))
+
 both_known : (known : List ℕ → Option (List ℕ)) → known (codes "one") ≡ Some one → known (codes "two") ≡ Some two → AreKnown known (codes "one" ∷ codes "two" ∷ [])
 both_known known is_one is_two zero within = (one, is_one)
 both_known known is_one is_two (suc zero) within = (two, is_two)
@@ -212,9 +215,9 @@ run_comes {I} {W} {E} out err known opened asked inputs later before after statu
     let o = run.0 in
     let are = run.2 in
     let came = subst (λ (a : Request). ComesOf out err known opened false a inputs later before after status) run.1 comes in
-    let are_known = subst (λ (files : List (List ℕ)). AreKnown known (files ++ names_in o)) (sym are.paths_files)
-    (subst (λ (names : List (List ℕ)). AreKnown known names) (sym (names_are o are)) (both_known known is_one is_two)) in
-    let answered = came.1 (is_plain o are) are_known few in
+    let files_known = subst (λ (files : List (List ℕ)). AreKnown known files) (sym are.paths_files) (none_known known) in
+    let are_known = subst (λ (names : List (List ℕ)). AreKnown known names) (sym (names_are o are)) (both_known known is_one is_two) in
+    let answered = came.1 (is_plain o are) files_known are_known few in
     let both = two_paths (rule_in o) (path_texts known o) answered.paths (codes "$['a']") (codes "$['b'][0]") (texts_are known o are) answered.are in
     let paths : ArePathsTo both.0 both.1 = record {
       rule = rule_in o;

@@ -14,34 +14,13 @@ use test_rows::holds;
 
 /// Two files, of which the first ends without a line feed, and the second begins with a blank line.
 #[derive(Drop)]
-struct TwoFiles {
-    /// Of each file that was opened, whether it is the first one.
-    opened: Vec<bool>,
-    /// Whether these are all that were opened.
-    are_all: bool,
-}
-
-impl TwoFiles {
-    /// Keeps which file is opened.
-    fn note(&mut self, is_first: bool)
-        ensures { self.new.are_all ≡ true → (self.old.are_all ≡ true)
-            × (self.new.opened.items ≡ self.old.opened.items ++ is_first ∷ []) }
-    {
-        if self.opened.push(is_first).is_err() {
-            self.are_all = false;
-        }
-    }
-}
+struct TwoFiles;
 
 impl Inputs for TwoFiles {
     type Input = &'static [u8];
 
-    ghost use Rattle.std.specs.Prelude.{Some, None, codes, map, if◌then◌else◌};
+    ghost use Rattle.std.specs.Prelude.{Some, None, codes, if◌then◌else◌};
     ghost use Rattle.std.specs.Str.{bytes_eq};
-
-    ghost opened = { λ files. if files.are_all
-        then Some (map (λ first. if first then codes "one" else codes "two") files.opened.items)
-        else None };
 
     ghost bytes_of = { λ _ name.
         if bytes_eq name (codes "one") then Some (codes "{\"a\":1,\"b\":[2]}\n{\"b\":[4],\"a\":3}")
@@ -49,18 +28,9 @@ impl Inputs for TwoFiles {
 
     fn open(&mut self, name: &str) -> io::Result<&'static [u8]> {
         match name {
-            "one" => {
-                self.note(true);
-                Ok(b"{\"a\":1,\"b\":[2]}\n{\"b\":[4],\"a\":3}")
-            }
-            "two" => {
-                self.note(false);
-                Ok(b"\n{\"a\":5,\"b\":[6]}\n")
-            }
-            _ => {
-                self.are_all = false;
-                Err(io::Error::from(io::ErrorKind::NotFound))
-            }
+            "one" => Ok(b"{\"a\":1,\"b\":[2]}\n{\"b\":[4],\"a\":3}"),
+            "two" => Ok(b"\n{\"a\":5,\"b\":[6]}\n"),
+            _ => Err(io::Error::from(io::ErrorKind::NotFound)),
         }
     }
 }
@@ -84,7 +54,7 @@ fn words(alloc: Global) -> Result<Vec<String>, AllocError>
 }
 
 /// Runs them. Unless the status tells of a refusal, it and what is written are known before.
-fn run_two_files(alloc: Global) -> Result<(u8, Vec<u8>, TwoFiles), AllocError>
+fn run_two_files(alloc: Global) -> Result<(u8, Vec<u8>), AllocError>
     ensures { IfOk result (λ ran. ran.0 ≤ 1 → (ran.0 ≡ 0) × (ran.1.items
         ≡ codes "one\t1\t$['a']\t1\none\t2\t$['b'][0]\t2\n"
         ++ (codes "one\t1\t$['a']\t3\none\t2\t$['b'][0]\t4\n"
@@ -94,18 +64,12 @@ fn run_two_files(alloc: Global) -> Result<(u8, Vec<u8>, TwoFiles), AllocError>
     law_result_is_unique();
     let words = words(alloc)?;
     let mut streams = Streams::new(alloc, Vec::new(alloc), Vec::new(alloc));
-    let mut files = TwoFiles {
-        opened: Vec::new(alloc),
-        are_all: true,
-    };
-    let status = run(alloc, &words, NO_COLOURS, &mut files, &mut streams);
-    Ok((status, streams.out, files))
+    let status = run(alloc, &words, NO_COLOURS, &mut TwoFiles, &mut streams);
+    Ok((status, streams.out))
 }
 
 #[test]
 fn two_paths_over_the_lines_of_two_files(rt: HostRuntime) -> Result<(), Fail> {
-    let (status, _, files) = run_two_files(rt.alloc())?;
-    holds(status == 0, "the status is 0")?;
-    let is_each_opened = files.are_all && files.opened.as_slice() == [true, false].as_slice();
-    holds(is_each_opened, "each file is opened once, in order")
+    let (status, _) = run_two_files(rt.alloc())?;
+    holds(status == 0, "the status is 0")
 }
