@@ -1,7 +1,7 @@
 -- Derivations of a query: how it comes to a node, and which derivation stands before which
 -- (RFC 9535, sections 2.5.1.2 and 2.5.2.2).
 use Rattle.std.specs.Prelude.{◌≡◌, ℕ, zero, suc, ◌<◌, pos, ◌<ℤ◌, List, [], ◌∷◌, ◌++◌, ◌⊎◌, Some}
-use Rattle.serde_json_path_core.specs.Imports.{Data, Step, at, StepBefore, DescentBefore, Located, QueryKind, root, current, Segments, no_segments, segment, Segment, dot_name, dot_wildcard, long_hand, Selectors, no_selectors, selector, Selector, slice}
+use Rattle.serde_json_path_core.specs.Imports.{Data, Step, at, StepBefore, DescentBefore, Located, QueryKind, root, current, Segments, no_segments, segment, Segment, long_hand, Selectors, no_selectors, selector, Selector, slice}
 use Rattle.serde_json_path_core.specs.Slices.{step_of}
 
 -- What a derivation does at one segment: child steps down to where the selectors are applied, the number of the
@@ -45,8 +45,7 @@ SelectedBeforeBy (selector sel more) (suc number) a b = SelectedBeforeBy more nu
 
 abbrev pub SelectedBeforeIn : Segment → ℕ → Step → Step → Type 0
 SelectedBeforeIn (long_hand sels) number a b = SelectedBeforeBy sels number a b
-SelectedBeforeIn (dot_name k) number a b = StepBefore a b
-SelectedBeforeIn dot_wildcard number a b = StepBefore a b
+SelectedBeforeIn _ number a b = StepBefore a b
 
 -- by descent in document order, then by the number of the selector, then by the order of that selector
 abbrev pub TripleBefore : Segment → Triple → Triple → Type 0

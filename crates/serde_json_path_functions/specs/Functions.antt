@@ -1,5 +1,5 @@
 -- Function sets: the signature of each name, and what it means (RFC 9535, section 2.4).
-use Rattle.std.specs.Prelude.{◌≡◌, ℕ, ◌≤◌, List, [], ◌∷◌, length, map, Bool, Option, Some, None, bytes_eq, codes, if◌then◌else◌}
+use Rattle.std.specs.Prelude.{◌≡◌, ℕ, ◌≤◌, List, [], ◌∷◌, length, map, Bool, Option, Some, None, option_map, bytes_eq, codes, if◌then◌else◌}
 use Rattle.std.specs.Str.{chars}
 use Rattle.serde_json.specs.Events.{items_len, members_len}
 use Rattle.serde_json.specs.Data.{Data, number, string, array, object, unsigned}
@@ -69,10 +69,6 @@ KeepsTypes F =
 
 -- ---- two sets, one before the other: the names of the first, then the other names of the second
 
-abbrev pub first_signature : Option Signature → Option Signature → Option Signature
-first_signature None other = other
-first_signature (Some s) other = Some s
-
 -- what the first set has where it declares the name, else what the second has
 abbrev pub of_first : {A : Type 0} → Option Signature → A → A → A
 of_first None first second = second
@@ -80,7 +76,7 @@ of_first (Some s) first second = first
 
 abbrev pub both : FunctionSet → FunctionSet → FunctionSet
 both A B = record {
-  signature = λ name. first_signature (A.signature name) (B.signature name);
+  signature = λ name. of_first (A.signature name) (A.signature name) (B.signature name);
   meaning = λ name ts. of_first (A.signature name) (A.meaning name ts) (B.meaning name ts);
   by_regex = λ name. of_first (A.signature name) (A.by_regex name) (B.by_regex name);
   numbers = A.numbers;
@@ -100,19 +96,23 @@ plain_signature name =
     else if bytes_eq name (codes "value") then Some (record { params = of_nodes ∷ []; result = of_value })
     else None
 
+-- the built-in names that use `regex` (sections 2.4.6 and 2.4.7)
+abbrev pub builtin_by_regex : List ℕ → Option Matching
+builtin_by_regex name =
+    if bytes_eq name (codes "match") then Some whole_text
+    else if bytes_eq name (codes "search") then Some any_part
+    else None
+
 -- the signature of a name that stands for `match` or `search`: two values and a truth value
 abbrev pub matching_signature : Signature
 matching_signature = record { params = of_value ∷ of_value ∷ []; result = of_logical }
 
 -- `match(Value, Value) -> Logical` and `search(Value, Value) -> Logical` (sections 2.4.6 and 2.4.7)
 abbrev pub pattern_signature : List ℕ → Option Signature
-pattern_signature name =
-    if bytes_eq name (codes "match") then Some matching_signature
-    else if bytes_eq name (codes "search") then Some matching_signature
-    else None
+pattern_signature name = option_map (λ (m : Matching). matching_signature) (builtin_by_regex name)
 
 abbrev pub builtin_signature : List ℕ → Option Signature
-builtin_signature name = first_signature (plain_signature name) (pattern_signature name)
+builtin_signature name = of_first (plain_signature name) (plain_signature name) (pattern_signature name)
 
 -- a number as a value
 abbrev pub counted : ℕ → Option Data
@@ -130,13 +130,6 @@ length_of _ = None
 abbrev pub value_of_one : List Data → Option Data
 value_of_one (d ∷ []) = Some d
 value_of_one _ = None
-
--- the built-in names that use `regex` (sections 2.4.6 and 2.4.7)
-abbrev pub builtin_by_regex : List ℕ → Option Matching
-builtin_by_regex name =
-    if bytes_eq name (codes "match") then Some whole_text
-    else if bytes_eq name (codes "search") then Some any_part
-    else None
 
 -- what `length`, `count` and `value` mean
 abbrev pub length_meaning : List Term → Term

@@ -1,5 +1,5 @@
 -- Bytes and the characters that they encode: the character at a place, by its first byte, and ASCII characters that are taken many at a time.
-use Rattle.serde_json_path_parser.proofs.Words.{common_steps, slice_get_past, IsUtf8-from_ascii, encodes-chars, slice_get, IsUtf8, encode_utf8_all, StartsWithChar, get_or-drop, slice_get_within, slice_get-get_or, same_Some, none-some, length-drop, cases_lt, ◌==◌, is_utf8, chars, eqb-true, drop-drop, drop_all, IsUtf8-from_is_utf8, is_utf8-from_IsUtf8, chars-nil, chars_past_char, byte_from_char, char_from_byte, is_ascii, IsAhead, begins, nat_le, nat_lt, ◌^◌, IsAscii, and_parts, cases_Bool, take_more_set, encodes-append, encodes-IsAscii, AllPass, is_name_char, front, past, Observed, one_more, looked, LooksOn, is_ascii_name_char, Gathered, Stretched, IsSome, ◌≡◌, ℕ, ◌+◌, ◌*◌, ◌%◌, ◌<◌, ◌≤◌, inl, inr, true, List, [], ◌∷◌, length, get_or, drop, Some, refl, sym, ap, subst, ◌∙◌, arith, Option, None, zero, suc, ◌-◌, Bool, ◌++◌, take, set, append_assoc, ◌&&◌, IsScalar, false_from_ne_true}
+use Rattle.serde_json_path_parser.proofs.Words.{common_steps, slice_get_past, IsUtf8-from_ascii, encodes-chars, slice_get, IsUtf8, encode_utf8_all, StartsWithChar, get_or-drop, slice_get_within, slice_get-get_or, same_Some, none-some, length-drop, cases_lt, ◌==◌, is_utf8, chars, eqb-true, drop-drop, drop_all, IsUtf8-from_is_utf8, is_utf8-from_IsUtf8, chars-nil, chars_past_char, byte_from_char, char_from_byte, is_ascii, IsAhead, begins, nat_le, nat_lt, ◌^◌, IsAscii, and_parts, cases_Bool, take_more_set, encodes-append, encodes-IsAscii, AllPass, is_name_char, front, past, Observed, looked, LooksOn, is_ascii_name_char, Gathered, Stretched, IsSome, ◌≡◌, ℕ, ◌+◌, ◌*◌, ◌%◌, ◌<◌, ◌≤◌, inl, inr, true, List, [], ◌∷◌, length, get_or, drop, Some, refl, sym, ap, subst, ◌∙◌, arith, Option, None, zero, suc, ◌-◌, Bool, ◌++◌, take, set, append_assoc, ◌&&◌, IsScalar, false_from_ne_true, if◌then◌else◌}
 use Rattle.std.proofs.iter.FirstChar.{wide, in_one, in_two, in_three, in_four}
 use Rattle.serde_json_path_parser.proofs.Reading.{past_through, front_through}
 
@@ -120,12 +120,12 @@ is_ahead k b cs low a is = a.1 ∙ ap (λ c. c ∷ drop 1 cs) (a.2 (omega (arith
 
 -- ---- looks
 
-at_most : (n : ℕ) → one_more n ≤ n + 1
+at_most : (n : ℕ) → (if nat_lt n (2 ^ 128 - 1) then n + 1 else n) ≤ n + 1
 at_most n = elim (cases_Bool (nat_lt n (2 ^ 128 - 1))) [ inl e ↦ rw e (omega arith) | inr e ↦ rw e (omega arith) ]
 
 -- one look more, at the next byte
 pub looked_on : (old mid now : Observed) (count number at : ℕ) → LooksOn old mid count number → now ≡ looked mid at → number ≤ at + 1 → LooksOn old now (count + 1) (at + 1)
-looked_on old mid now count number at h e le = grind (arith, one_more, at_most)
+looked_on old mid now count number at h e le = grind (arith, at_most)
 
 -- ---- a part of a name
 

@@ -245,15 +245,11 @@ pub data IsPiece (quote : ℕ) : List ℕ → ℕ → Type 0 where
       → IsHighSurrogate high → IsLowSurrogate low
       → IsPiece quote ((codes "\\u" ++ a) ++ (codes "\\u" ++ b)) (pair_of high low)
 
--- the text is the joining of pieces that stand for these characters
-abbrev pub ArePieces : ℕ → List ℕ → List ℕ → Type 0
-ArePieces quote text characters = Joined (IsPiece quote) text characters
-
 abbrev pub IsQuote : ℕ → Type 0
 IsQuote quote = (quote ≡ code "'") ⊎ (quote ≡ code "\"")
 
 -- a string in single or double quotes of these bytes
 abbrev pub IsString : List ℕ → List ℕ → Type 0
 IsString text bytes =
-    (quote : ℕ) × (inside characters : List ℕ) × IsQuote quote × ArePieces quote inside characters
+    (quote : ℕ) × (inside characters : List ℕ) × IsQuote quote × Joined (IsPiece quote) inside characters
     × (text ≡ quote ∷ (inside ++ quote ∷ [])) × (bytes ≡ encode_utf8_all characters)

@@ -12,14 +12,10 @@ pub record Observed : Type 0 where
   pub looks : ℕ
   pub farthest : ℕ
 
--- one look more; at the greatest count it stays
-abbrev pub one_more : ℕ → ℕ
-one_more looks = if nat_lt looks (2 ^ 128 - 1) then looks + 1 else looks
-
--- the source after a look at the byte at that index, from 0
+-- the source after a look at the byte at that index, from 0; at the greatest count the looks stay
 abbrev pub looked : Observed → ℕ → Observed
 looked observed index = record {
   text = observed.text;
-  looks = one_more observed.looks;
+  looks = if nat_lt observed.looks (2 ^ 128 - 1) then observed.looks + 1 else observed.looks;
   farthest = max observed.farthest (index + 1);
 }

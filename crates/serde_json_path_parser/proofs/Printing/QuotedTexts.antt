@@ -1,5 +1,5 @@
 -- A text between single quotes, as it is printed, reads as a string of it.
-use Rattle.serde_json_path_parser.proofs.Words.{common_steps, rules, AllByRecursion, AllPass, IsScalar, encode_utf8_all, all_scalars, and_parts, encodes-append, encode_ascii, flat_map, digit_char, chars, IsUtf8, cases_lt, le-ltb, nat_tests, encodes-chars, scalars-chars, hexadecimal_escape, escape_of, in_quotes, quoted, hexadecimal_of, IsHex4, escaped_by, is_plain, IsPiece, plain, quote_escape, letter_escape, hex_escape, pair_escape, ArePieces, IsQuote, IsString, ◌≡◌, ◌<◌, ℕ, true, List, [], ◌∷◌, ◌++◌, refl, ap, sym, ◌∙◌, arith, lt-ltb, ◌/◌, ◌%◌, ◌==◌, inl, inr, nat_lt, nat_le, Bool, false, if◌then◌else◌, Option, Some, None, unwrap_or, encode_utf8, subst, append-nil, eqb-true, ltb-true, ltb-false}
+use Rattle.serde_json_path_parser.proofs.Words.{common_steps, rules, AllByRecursion, AllPass, IsScalar, encode_utf8_all, all_scalars, and_parts, encodes-append, encode_ascii, flat_map, digit_char, chars, IsUtf8, cases_lt, le-ltb, nat_tests, encodes-chars, scalars-chars, hexadecimal_escape, escape_of, in_quotes, quoted, hexadecimal_of, IsHex4, escaped_by, is_plain, IsPiece, plain, quote_escape, letter_escape, hex_escape, pair_escape, Joined, IsQuote, IsString, ◌≡◌, ◌<◌, ℕ, true, List, [], ◌∷◌, ◌++◌, refl, ap, sym, ◌∙◌, arith, lt-ltb, ◌/◌, ◌%◌, ◌==◌, inl, inr, nat_lt, nat_le, Bool, false, if◌then◌else◌, Option, Some, None, unwrap_or, encode_utf8, subst, append-nil, eqb-true, ltb-true, ltb-false}
 use Rattle.std.proofs.str.Laws.{scalars-append}
 use Rattle.serde_json_path_parser.proofs.Grammar.Strings.{of_quote}
 
@@ -131,7 +131,7 @@ module _ (c : ℕ) where
 -- ---- a text in quotes
 
 -- the characters of a text as they are printed are pieces that stand for them
-text_pieces : (cs : List ℕ) → ArePieces 39 (flat_map printed cs) cs
+text_pieces : (cs : List ℕ) → Joined (IsPiece 39) (flat_map printed cs) cs
 text_pieces [] = refl
 text_pieces (c ∷ cs) = (printed c, flat_map printed cs, printed_piece c (escape_of c) (escape_printed c), text_pieces cs, refl)
 
@@ -178,7 +178,7 @@ piece_scalar quote _ _ is e (hex_escape digits c four (inl low)) = low_scalar c 
 piece_scalar quote _ _ is e (hex_escape digits c four (inr high)) = high_scalar c high (let small = hex4_small digits c four in omega (arith, small))
 piece_scalar quote _ _ is e (pair_escape a b high low h l is_high is_low) = grind (arith, common_steps, high_scalar)
 
-pieces_scalar : (quote : ℕ) (text characters : List ℕ) → IsQuote quote → all_scalars text ≡ true → ArePieces quote text characters → all_scalars characters ≡ true
+pieces_scalar : (quote : ℕ) (text characters : List ℕ) → IsQuote quote → all_scalars text ≡ true → Joined (IsPiece quote) text characters → all_scalars characters ≡ true
 pieces_scalar quote text [] is e pieces = refl
 pieces_scalar quote text (c ∷ cs) is e (a, b, piece, more, split) =
     let h = scalars_of text a b e split in

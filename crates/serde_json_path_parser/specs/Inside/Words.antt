@@ -3,7 +3,7 @@ pub use Rattle.serde_json_path_parser.specs.Imports.{IsLiteralAmount, Amount, Nu
 pub use Rattle.serde_json_path_parser.specs.Filters.{Deeper, and_list, begins_call, begins_test, ends_argument, or_list, past_word, read_and, read_and_from, read_argument, read_arguments, read_basic, read_basic_from, read_call, read_comparable, read_end, read_literal_word, read_logical_from, read_named, read_negated, read_negated_test, read_next_and, read_next_basic, read_operand, read_operator, read_or, read_or_from, read_paren, read_path, read_query, read_relation, read_right_side, read_some_arguments, read_test, read_text, word}
 pub use Rattle.serde_json_path_parser.specs.Inside.Giving.{Fails, Grows, GrowsFrom, IsArgumentOf, IsAsRead, IsNear, IsQueryAsRead, IsRefused, IsWithin, Makes, MakesArgument, MakesArguments, MakesCall, MakesFrom, MakesOperand, MakesSegments, MakesSelectors, MakesSo, Moves, MovesTo, StopsNear, at_level, deeper, error_of, left, literal_word, read_filter, seen, segment_branch, signatures, observed}
 pub use Rattle.serde_json_path_parser.specs.Inside.Looking.{Gathered, IsAhead, LooksOn, Stretched, begins_operator, is_ascii, is_ascii_name_char, is_ascii_plain, limit_of, up_to}
-pub use Rattle.serde_json_path_parser.specs.Lexical.{AllPass, AreDigits, ArePieces, AreSignedDigits, IsAmount, IsBlank, IsDecimal, IsExponent, IsFraction, IsFunctionName, IsHex4, IsInt, IsName, IsNumber, IsNumberLiteral, IsNumeral, IsNumeralOf, IsPiece, IsPlaces, IsQuote, IsString, Joined, are_at, begins, begins_both, escaped_by, fraction_of, hex_escape, hexadecimal_of, is_at, is_blank, is_digit, is_function_char, is_name_char, is_name_first, is_plain, is_small_letter, letter_escape, opens, pair_escape, pair_of, plain, quote_escape, value_from, ◌∈◌}
+pub use Rattle.serde_json_path_parser.specs.Lexical.{AllPass, AreDigits, AreSignedDigits, IsAmount, IsBlank, IsDecimal, IsExponent, IsFraction, IsFunctionName, IsHex4, IsInt, IsName, IsNumber, IsNumberLiteral, IsNumeral, IsNumeralOf, IsPiece, IsPlaces, IsQuote, IsString, Joined, are_at, begins, begins_both, escaped_by, fraction_of, hex_escape, hexadecimal_of, is_at, is_blank, is_digit, is_function_char, is_name_char, is_name_first, is_plain, is_small_letter, letter_escape, opens, pair_escape, pair_of, plain, quote_escape, value_from, ◌∈◌}
 pub use Rattle.serde_json_path_parser.specs.Numbers.{after_first, as_fraction, as_literal, capped, is_exponent, is_sign, literal_of, read_amount, read_exponent, read_fraction, read_number, read_numeral, read_places, read_signed, read_signed_digits, read_some_digits, read_whole, read_whole_text}
 pub use Rattle.serde_json_path_parser.specs.Operands.{is_number_argument, is_result, is_test, is_value_literal, is_whole, suits, takes_result}
 pub use Rattle.serde_json_path_parser.specs.Parsed.{Parsed, byte_count, front, past, past_blanks, refusal, refusal_at, with_front, ◌>>=◌}
