@@ -1,6 +1,6 @@
 -- How many filters, parentheses and calls stand within each other at most: the measure of this project's own limit.
 use Rattle.std.specs.Prelude.{ℕ, ◌+◌, max}
-use Rattle.serde_json_path_syntax.specs.Tree.{Query, query, Segments, no_segments, segment, Segment, long_hand, Selectors, no_selectors, selector, Selector, filter, LogicalOr, no_or, or, LogicalAnd, no_and, and, Basic, paren, relation, test, Operand, literal, queried, called, Call, call, Arguments, no_arguments, argument, Argument, operand, logical_argument}
+use Rattle.serde_json_path_syntax.specs.Tree.{Query, query, Segments, no_segments, segment, Segment, dot_name, dot_wildcard, long_hand, Selectors, no_selectors, selector, Selector, name, wildcard, index, slice, filter, LogicalOr, no_or, or, LogicalAnd, no_and, and, Basic, paren, relation, test, Operand, literal, queried, called, Call, call, Arguments, no_arguments, argument, Argument, operand, logical_argument}
 
 abbrev mutual
   pub depth : Query → ℕ
@@ -11,8 +11,9 @@ abbrev mutual
   segments_depth (segment kind seg more) = max (segment_depth seg) (segments_depth more)
 
   pub segment_depth : Segment → ℕ
+  segment_depth (dot_name k) = 0
+  segment_depth dot_wildcard = 0
   segment_depth (long_hand sels) = selectors_depth sels
-  segment_depth _ = 0
 
   pub selectors_depth : Selectors → ℕ
   selectors_depth no_selectors = 0
@@ -21,7 +22,10 @@ abbrev mutual
   -- a filter counts
   pub selector_depth : Selector → ℕ
   selector_depth (filter e) = or_depth e + 1
-  selector_depth _ = 0
+  selector_depth (name k) = 0
+  selector_depth wildcard = 0
+  selector_depth (index i) = 0
+  selector_depth (slice s) = 0
 
   pub or_depth : LogicalOr → ℕ
   or_depth no_or = 0

@@ -123,7 +123,7 @@ AreSingular (segment descendant seg more) = ⊥
 
 -- a singular query (RFC 9535, section 2.3.5.1)
 abbrev pub IsSingular : Query → Type 0
-IsSingular (query kind segs) = AreSingular segs
+IsSingular q = AreSingular (segments_of q)
 
 -- a side of a comparison: of queries a singular one alone (section 2.3.5.1)
 abbrev pub IsComparable : Operand → Type 0

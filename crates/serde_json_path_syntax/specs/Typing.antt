@@ -1,7 +1,7 @@
 -- Well-typed queries (RFC 9535, section 2.4.3): each call names a declared function, has one argument for each parameter,
 -- of a form that the parameter takes, and stands where its result may stand.
 use Rattle.std.specs.Prelude.{◌≡◌, ℕ, List, [], ◌∷◌, ◌⊎◌, Option, Some, option_map}
-use Rattle.serde_json_path_syntax.specs.Tree.{Query, query, Segments, no_segments, segment, Segment, long_hand, Selectors, no_selectors, selector, Selector, filter, LogicalOr, no_or, or, LogicalAnd, no_and, and, Basic, paren, relation, test, Operand, literal, queried, called, Call, call, Arguments, no_arguments, argument, Argument, operand, logical_argument, IsSingular}
+use Rattle.serde_json_path_syntax.specs.Tree.{Query, query, Segments, no_segments, segment, Segment, dot_name, dot_wildcard, long_hand, Selectors, no_selectors, selector, Selector, name, wildcard, index, slice, filter, LogicalOr, no_or, or, LogicalAnd, no_and, and, Basic, paren, relation, test, Operand, literal, queried, called, Call, call, Arguments, no_arguments, argument, Argument, operand, logical_argument, IsSingular}
 use Rattle.serde_json_path_functions.specs.Functions.{Kind, of_value, of_nodes, of_logical, Signature}
 
 -- a result that may stand as a test
@@ -28,8 +28,9 @@ module _ (signature : List ℕ → Option Signature) where
     AreTypedSegments (segment kind seg more) = IsTypedSegment seg × AreTypedSegments more
 
     pub IsTypedSegment : Segment → Type 0
+    IsTypedSegment (dot_name k) = Unit {0}
+    IsTypedSegment dot_wildcard = Unit {0}
     IsTypedSegment (long_hand sels) = AreTypedSelectors sels
-    IsTypedSegment _ = Unit {0}
 
     pub AreTypedSelectors : Selectors → Type 0
     AreTypedSelectors no_selectors = Unit {0}
@@ -37,7 +38,10 @@ module _ (signature : List ℕ → Option Signature) where
 
     pub IsTypedSelector : Selector → Type 0
     IsTypedSelector (filter e) = IsTypedOr e
-    IsTypedSelector _ = Unit {0}
+    IsTypedSelector (name k) = Unit {0}
+    IsTypedSelector wildcard = Unit {0}
+    IsTypedSelector (index i) = Unit {0}
+    IsTypedSelector (slice s) = Unit {0}
 
     pub IsTypedOr : LogicalOr → Type 0
     IsTypedOr no_or = Unit {0}

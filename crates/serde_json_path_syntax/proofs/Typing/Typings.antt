@@ -1,5 +1,5 @@
 -- Well-typedness is decided, so that it can be recovered from its truncation. Each lemma decides what its type says.
-use Rattle.serde_json_path_syntax.proofs.Words.{◌≡◌, ℕ, List, [], ◌∷◌, Option, Some, None, Bool, true, false, inl, inr, refl, sym, subst, true≢false, none-some, same_Some, Query, query, Segments, no_segments, segment, Segment, long_hand, Selectors, no_selectors, selector, Selector, filter, LogicalOr, no_or, or, LogicalAnd, no_and, and, Basic, paren, relation, test, Operand, literal, queried, called, Call, call, Arguments, no_arguments, argument, Argument, operand, logical_argument, AreSingular, IsSingular, are_singular, Kind, of_value, of_nodes, of_logical, Signature, IsTestKind, result_kind, TakesResult, IsTyped, AreTypedSegments, IsTypedSegment, AreTypedSelectors, IsTypedSelector, IsTypedOr, IsTypedAnd, IsTypedBasic, IsTypedComparable, IsTypedCall, AreTypedArguments, IsTypedArgument, IsTypedOperand, map_dec, ∥∥₁_elim, arith, nat_tests, common_steps}
+use Rattle.serde_json_path_syntax.proofs.Words.{◌≡◌, ℕ, List, [], ◌∷◌, Option, Some, None, Bool, true, false, inl, inr, refl, sym, subst, true≢false, none-some, same_Some, Query, query, Segments, no_segments, segment, Segment, long_hand, Selectors, no_selectors, selector, Selector, filter, LogicalOr, no_or, or, LogicalAnd, no_and, and, Basic, paren, relation, test, Operand, literal, queried, called, Call, call, Arguments, no_arguments, argument, Argument, operand, logical_argument, segments_of, AreSingular, are_singular, Kind, of_value, of_nodes, of_logical, Signature, IsTestKind, result_kind, TakesResult, IsTyped, AreTypedSegments, IsTypedSegment, AreTypedSelectors, IsTypedSelector, IsTypedOr, IsTypedAnd, IsTypedBasic, IsTypedComparable, IsTypedCall, AreTypedArguments, IsTypedArgument, IsTypedOperand, map_dec, ∥∥₁_elim, arith, nat_tests, common_steps}
 use Rattle.std.proofs.Common.{Decides}
 use Rattle.std.proofs.Math.Logic.Dec.{and as both}
 use Rattle.serde_json_path_syntax.proofs.Tree.NamedParts.{Decides-are_singular}
@@ -16,9 +16,6 @@ by_test b decides = grind (arith, nat_tests, common_steps)
 
 singular : (segs : Segments) → Dec (AreSingular segs)
 singular segs = by_test (are_singular segs) (Decides-are_singular segs)
-
-singular_query : (q : Query) → Dec (IsSingular q)
-singular_query (query kind segs) = singular segs
 
 -- ---- declared names
 
@@ -69,7 +66,7 @@ module _ (signature : List ℕ → Option Signature) where
 
     typed_comparable : (c : Operand) → Dec (IsTypedComparable signature c)
     typed_comparable (literal l) = yes tt
-    typed_comparable (queried q) = both (typed q) (singular_query q)
+    typed_comparable (queried q) = both (typed q) (singular (segments_of q))
     typed_comparable (called c) = both (typed_call c) (kind (result_kind signature c) of_value)
 
     typed_call : (c : Call) → Dec (IsTypedCall signature c)
@@ -87,7 +84,7 @@ module _ (signature : List ℕ → Option Signature) where
     typed_argument (logical_argument e) _ = no (λ h. h)
 
     typed_operand : (o : Operand) (wanted : Kind) → Dec (IsTypedOperand signature o wanted)
-    typed_operand (queried q) of_value = both (typed q) (singular_query q)
+    typed_operand (queried q) of_value = both (typed q) (singular (segments_of q))
     typed_operand (queried q) _ = typed q
     typed_operand (called c) wanted = both (typed_call c) (takes_result wanted (result_kind signature c))
     typed_operand o wanted = grind (arith, nat_tests, common_steps, singular, takes_result)
