@@ -1,7 +1,7 @@
 -- A text is read along: what follows so much of it makes a document where it completes one from where the reader stands.
-use Rattle.std.proofs.Common.{take-append-drop, take-take, ap₂, not, ◌&&◌, ◌||◌, refl, zero, suc, inl, inr, ◌≡◌, ℕ, ◌+◌, ◌-◌, ◌<◌, ◌≤◌, Bool, true, false, List, [], ◌∷◌, ◌++◌, length, take, drop, get_or, get_or-drop, length-drop, Option, Some, None, sym, ap, ◌∙◌, subst, arith, if◌then◌else◌, append_assoc}
+use Rattle.std.proofs.Common.{take_all, take-append-drop, take-take, ap₂, not, ◌&&◌, ◌||◌, refl, zero, suc, inl, inr, ◌≡◌, ℕ, ◌+◌, ◌-◌, ◌<◌, ◌≤◌, Bool, true, false, List, [], ◌∷◌, ◌++◌, length, take, drop, get_or, get_or-drop, length-drop, Option, Some, None, sym, ap, ◌∙◌, subst, arith, if◌then◌else◌, append_assoc}
 use Rattle.std.proofs.lemmas.List.{take_more}
-use Rattle.std.proofs.lemmas.Bool.{not-true, and_parts, cases_Bool, cases_lt, eqb-true, false_from_ne_true, false≢true, ltb-true, true≢false}
+use Rattle.std.proofs.lemmas.Bool.{not-true, and_parts, cases_Bool, cases_lt, eqb-true, false_from_ne_true, leb-true, false≢true, ltb-true, true≢false}
 use Rattle.std.specs.List.{starts_with}
 use Rattle.std.specs.Option.{is_some}
 use Rattle.std.specs.Prelude.{nat_eq, slice_range}
@@ -12,8 +12,8 @@ use Rattle.std.specs.Str.{IsAscii, IsCharBoundary, IsUtf8}
 use Rattle.std.proofs.lemmas.Str.{IsCharBoundary-after_ascii, IsCharBoundary-before_ascii, IsCharBoundary-end, IsCharBoundary-start, IsUtf8-append, IsUtf8-from_ascii, IsUtf8-take}
 use Rattle.serde_json.specs.Data.{Data}
 use Rattle.jsonpath_document.proofs.Fills.{CanGoOn, filled, is_ascii}
-use Rattle.jsonpath_document.proofs.Edges.{IsNumberFrom, IsPlainFrom, can_go, high_leads, number_before_byte, number_stays, number_from, plain_before, plain_goes_on}
-use Rattle.jsonpath_document.specs.Reading.{accepts, accepts_from, after_byte, before_byte, begun_with, is_in_plain, is_number, is_too_large, is_within, may_end, only_grows}
+use Rattle.jsonpath_document.proofs.Edges.{IsNumberFrom, IsPlainFrom, can_go, high_ends, high_leads, number_before_byte, number_stays, number_from, off_before, plain_before, plain_can, plain_goes_on}
+use Rattle.jsonpath_document.specs.Reading.{IsCutOff, accepts, accepts_from, after_byte, are_high, before_byte, begun_with, is_in_plain, is_number, is_too_large, is_within, may_end, only_grows}
 use Rattle.serde_json.specs.Read.{number_of}
 use Rattle.jsonpath_document.proofs.Endings.{can_go_on}
 use Rattle.jsonpath_document.proofs.Growth.{never_smaller}
@@ -40,13 +40,17 @@ all_ascii [] h i = omega arith
 all_ascii (x ∷ xs) h zero = ltb-true x 128 (and_parts _ _ h).0
 all_ascii (x ∷ xs) h (suc i) = all_ascii xs (and_parts _ _ h).1 i
 
+begins_by : (text more : List ℕ) → IsUtf8 text → is_ascii more ≡ true → is_some (read (text ++ more)) ≡ true → IsBeginning text
+begins_by text more utf8 ascii e =
+    let found = some_data (read (text ++ more)) e in
+    (more, (found.0, (IsUtf8-append text more utf8 (IsUtf8-from_ascii more (all_ascii more ascii)), found.1)))
+
 -- what is read is the beginning of a document, where it ends between two characters
 pub begins_there : (text : List ℕ) (index start : ℕ) (levels : List Level) (n : Next) → IsReached text index start levels n → CanGoOn n (slice_range text start index)
     → IsUtf8 text → IsCharBoundary text index → IsBeginning (take index text)
 begins_there text index start levels n reached can utf8 boundary =
     let more = filled levels n (slice_range text start index) reached.stands can in
-    let found = some_data (read (take index text ++ more.0)) (reached.same more.0 ∙ more.2) in
-    (more.0, (found.0, (IsUtf8-append (take index text) more.0 (IsUtf8-take text index utf8 boundary) (IsUtf8-from_ascii more.0 (all_ascii more.0 more.1)), found.1)))
+    begins_by (take index text) more.0 (IsUtf8-take text index utf8 boundary) more.1 (reached.same more.0 ∙ more.2)
 
 pub reached_first : (text : List ℕ) → IsReached text 0 0 [] next.Value
 unfolding accepts
@@ -139,7 +143,7 @@ module _ (text : List ℕ) (index start : ℕ) (levels : List Level) (n : Next) 
   edge_after final after e plain utf8 =
       elim (cases_lt byte 128) [
         | inl low ↦ IsCharBoundary-after_ascii text index utf8 some low
-        | inr high ↦ absurd (false≢true (sym plain ∙ subst IsPlainFrom (sym e) (high_leads byte high levels before)))
+        | inr high ↦ absurd (false≢true (sym plain ∙ (subst (IsPlainFrom (is_in_plain before)) (sym e) (high_leads byte high levels before)).1))
       ]
 
   not_plain : is_in_plain before ≡ false → is_in_plain n ≡ false
@@ -206,6 +210,44 @@ begins_whole text index start levels n reached e has_ended fine utf8 =
     begins_there text index start levels n reached (can_continue levels n (slice_range text start index) has_ended reached.stands fine) utf8
     (subst (λ i. IsCharBoundary text i) (sym e) (IsCharBoundary-end text))
 
+-- ---- bytes beyond ASCII after the text
+
+-- from within a string some text completes a document after the bytes
+abbrev FillsAfter : List ℕ → Type 0
+FillsAfter bytes = (levels : List Level) (n : Next) (begun : List ℕ) → IsStanding levels n begun → is_in_plain n ≡ true
+    → (r : List ℕ) × (is_ascii r ≡ true) × (accepts levels n begun (bytes ++ r) ≡ true)
+
+filled_from : (bytes begun : List ℕ) (plain : Bool) (o : Option (List Level × Next)) → FillsAfter bytes → (o ≡ None → ⊥) → IsPlainFrom plain o → IsStandingFrom o begun
+    → (r : List ℕ) × (is_ascii r ≡ true) × (accepts_from o begun (bytes ++ r) ≡ true)
+filled_from bytes begun plain None fills goes leads stands = absurd (goes refl)
+filled_from bytes begun plain (Some s) fills goes leads stands = fills s.0 s.1 begun stands leads.1
+
+high_filled : (bytes : List ℕ) → are_high bytes ≡ true → FillsAfter bytes
+high_filled [] high levels n begun stands plain = filled levels n begun stands (plain_can n begun plain)
+high_filled (b ∷ bytes) high levels n begun stands plain =
+    let both = and_parts _ _ high in
+    let first = leb-true 128 b both.0 in
+    let before = before_byte n b begun in
+    let goes : after_byte levels before b ≡ None → ⊥ = λ e. plain_goes_on b first levels n plain (ap (λ m. after_byte levels m b) (sym (plain_before n b begun plain)) ∙ e) in
+    let more = filled_from bytes _ _ _ (high_filled bytes both.1) goes (high_leads b first levels before) (stands_on levels n begun b stands) in
+    (more.0, more.1, steps levels n begun b (bytes ++ more.0) stands ∙ more.2)
+
+module _ (text : List ℕ) (index start : ℕ) (levels : List Level) (n : Next) (reached : IsReached text index start levels n) (e : index ≡ length text) where
+  abbrev whole : take index text ≡ text
+  whole = take_all index text (omega (arith, e))
+
+  pub begins_in_string : is_in_plain n ≡ true → (more : List ℕ) → are_high more ≡ true → IsUtf8 (text ++ more) → IsBeginning (text ++ more)
+  begins_in_string plain more high utf8 =
+      let rest = high_filled more high levels n (slice_range text start index) reached.stands plain in
+      let same : (text ++ more) ++ rest.0 ≡ take index text ++ (more ++ rest.0) = append_assoc text more rest.0 ∙ ap (λ t. t ++ (more ++ rest.0)) (sym whole) in
+      begins_by (text ++ more) rest.0 utf8 rest.1 (ap (λ t. is_some (read t)) same ∙ reached.same (more ++ rest.0) ∙ rest.2)
+
+  pub none_off_string : is_in_plain n ≡ false → (b : ℕ) → 128 ≤ b → BeginsNone (text ++ b ∷ [])
+  none_off_string off b high r =
+      let begun = slice_range text start index in
+      ap (λ t. is_some (read t)) (append_assoc text (b ∷ []) r ∙ ap (λ t. t ++ (b ∷ r)) (sym whole)) ∙ reached.same (b ∷ r) ∙ steps levels n begun b r reached.stands
+      ∙ ap (λ o. accepts_from o (begun_with (before_byte n b begun) b begun) r) (high_ends b high levels (before_byte n b begun) (off_before n b begun off))
+
 -- ---- what begins nothing
 
 pub begins_none : (text : List ℕ) → BeginsNone text → IsBeginning text → ⊥
@@ -222,10 +264,11 @@ mark_begins_none (x ∷ xs) position e one r =
 
 -- ---- what stands before a place in a beginning
 
+begins_less : (text more : List ℕ) → IsBeginning (text ++ more) → IsBeginning text
+begins_less text more is = (more ++ is.0, subst IsDocument (append_assoc text more is.0) is.1)
+
 pub begins_front : (text : List ℕ) (n : ℕ) → IsBeginning text → IsBeginning (take n text)
-begins_front text n is =
-    let whole : take n text ++ (drop n text ++ is.0) ≡ text ++ is.0 = sym (append_assoc (take n text) (drop n text) is.0) ∙ ap (λ t. t ++ is.0) (take-append-drop n text) in
-    (drop n text ++ is.0, subst IsDocument (sym whole) is.1)
+begins_front text n is = begins_less (take n text) (drop n text) (subst IsBeginning (sym (take-append-drop n text)) is)
 
 pub begins_earlier : (text : List ℕ) (less more : ℕ) → less ≤ more → IsBeginning (take more text) → IsBeginning (take less text)
 begins_earlier text less more le is = subst IsBeginning (take-take less more text le) (begins_front (take more text) less is)
@@ -273,3 +316,20 @@ none_in_front bytes text count n e le none = none_longer bytes n (subst BeginsNo
 
 pub none_of_front : (bytes text : List ℕ) (count : ℕ) → text ≡ take count bytes → BeginsNone text → BeginsNone bytes
 none_of_front bytes text count e none = none_longer bytes count (subst BeginsNone e none)
+
+-- ---- what follows the text at the front of bytes
+
+-- the beginning of a character, in a string
+pub begins_cut_off : (bytes text : List ℕ) (n : ℕ) → text ≡ take n bytes → IsUtf8 text → IsCutOff (drop n bytes)
+    → ((more : List ℕ) → are_high more ≡ true → IsUtf8 (text ++ more) → IsBeginning (text ++ more)) → IsBeginning bytes
+begins_cut_off bytes text n e utf8 cut on =
+    let more = drop n bytes ++ cut.0 in
+    let whole : text ++ more ≡ bytes ++ cut.0 = ap (λ t. t ++ more) e ∙ sym (append_assoc (take n bytes) (drop n bytes) cut.0) ∙ ap (λ t. t ++ cut.0) (take-append-drop n bytes) in
+    begins_less bytes cut.0 (subst IsBeginning whole (on more cut.1 (IsUtf8-append text more utf8 cut.2)))
+
+-- a byte beyond ASCII, and not in a string
+pub none_with_high : (bytes text : List ℕ) (n : ℕ) → text ≡ take n bytes → n < length bytes → 128 ≤ get_or bytes n 0
+    → ((b : ℕ) → 128 ≤ b → BeginsNone (text ++ b ∷ [])) → BeginsNone bytes
+none_with_high bytes text n e some high none =
+    let more : text ++ get_or bytes n 0 ∷ [] ≡ take (n + 1) bytes = ap (λ t. t ++ get_or bytes n 0 ∷ []) e ∙ sym (take_more bytes n 0 some) in
+    none_longer bytes (n + 1) (subst BeginsNone more (none (get_or bytes n 0) high))

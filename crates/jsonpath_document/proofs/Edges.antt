@@ -19,10 +19,14 @@ use Rattle.jsonpath_document.proofs.Bytes.{IsOther, begun_by-other}
 use Rattle.jsonpath_document.proofs.Fills.{CanEnd, CanGoOn, ended_so}
 use Rattle.jsonpath_document.proofs.Steps.{after_other, is_in_number, no_number}
 
--- leads nowhere but into a string
-abbrev pub IsPlainFrom : Option (List Level × Next) → Type 0
-IsPlainFrom None = ⊤
-IsPlainFrom (Some s) = is_in_plain s.1 ≡ true
+-- leads nowhere but on in a string
+abbrev pub IsPlainFrom : Bool → Option (List Level × Next) → Type 0
+IsPlainFrom plain None = ⊤
+IsPlainFrom plain (Some s) = (plain ≡ true) × (is_in_plain s.1 ≡ true)
+
+nowhere_else : (o : Option (List Level × Next)) → IsPlainFrom false o → o ≡ None
+nowhere_else None h = refl
+nowhere_else (Some s) h = absurd (false≢true h.0)
 
 module _ (b : ℕ) (high : 128 ≤ b) where
   not_at : (n : ℕ) → n ≤ 127 → (b == n) ≡ false
@@ -52,10 +56,10 @@ module _ (b : ℕ) (high : 128 ≤ b) where
   no_part : is_in_number b ≡ false
   no_part = grind (arith, nat_tests)
 
-  nowhere : (o : Option (List Level × Next)) → o ≡ None → IsPlainFrom o
-  nowhere o e = subst IsPlainFrom (sym e) tt
+  nowhere : (o : Option (List Level × Next)) → o ≡ None → IsPlainFrom false o
+  nowhere o e = subst (IsPlainFrom false) (sym e) tt
 
-  solid : (levels : List Level) (n : Next) (o : Option (List Level × Next)) → o ≡ None → IsPlainFrom (unless_blank levels n b o)
+  solid : (levels : List Level) (n : Next) (o : Option (List Level × Next)) → o ≡ None → IsPlainFrom false (unless_blank levels n b o)
   solid levels n o e = nowhere _ (ap (λ z. if z then Some (levels, n) else o) other.not_blank ∙ e)
 
   text_only : (t : Text) → after_text t b ≡ (if is_plain t then Some Plain else None)
@@ -79,7 +83,7 @@ module _ (b : ℕ) (high : 128 ≤ b) where
   no_value : (levels : List Level) → begun_by levels b ≡ None
   no_value levels = begun_by-other levels b other ∙ ap (λ z. some_if z (levels, next.Number Whole)) no_digit
 
-  pub high_leads : (levels : List Level) (n : Next) → IsPlainFrom (after_byte levels n b)
+  pub high_leads : (levels : List Level) (n : Next) → IsPlainFrom (is_in_plain n) (after_byte levels n b)
   high_leads levels next.Value = solid levels next.Value _ (no_value levels)
   high_leads levels next.FirstItem = solid levels next.FirstItem _ (ap (λ z. if z then closed levels else begun_by levels b) other.not_93 ∙ no_value levels)
   high_leads levels next.FirstName = solid levels next.FirstName _ (rw (other.not_125, other.not_34) refl)
@@ -97,11 +101,15 @@ module _ (b : ℕ) (high : 128 ≤ b) where
   high_leads levels (next.Word L) = nowhere _ (rw (not_at 108 (omega arith)) refl)
   high_leads levels (next.Number n) = nowhere _ (ap (λ o. with_levels levels (option_map next.Number o)) (no_number n b no_part))
   high_leads levels (next.Text t) =
-      subst IsPlainFrom (sym (ap (λ z. if z then Some (levels, next.AfterValue) else with_levels levels (option_map next.Text (after_text t b))) (no_quote t) ∙ ap (λ o. with_levels levels (option_map next.Text o)) (text_only t)))
-      (elim (is_plain t) as (λ z. IsPlainFrom (with_levels levels (option_map next.Text (if z then Some Plain else None)))) [ true ↦ refl | false ↦ tt ])
+      subst (IsPlainFrom (is_plain t)) (sym (ap (λ z. if z then Some (levels, next.AfterValue) else with_levels levels (option_map next.Text (after_text t b))) (no_quote t) ∙ ap (λ o. with_levels levels (option_map next.Text o)) (text_only t)))
+      (elim (is_plain t) as (λ z. IsPlainFrom z (with_levels levels (option_map next.Text (if z then Some Plain else None)))) [ true ↦ (refl, refl) | false ↦ tt ])
   high_leads levels (next.NameText t) =
-      subst IsPlainFrom (sym (ap (λ z. if z then Some (levels, next.Colon) else with_levels levels (option_map next.NameText (after_text t b))) (no_quote t) ∙ ap (λ o. with_levels levels (option_map next.NameText o)) (text_only t)))
-      (elim (is_plain t) as (λ z. IsPlainFrom (with_levels levels (option_map next.NameText (if z then Some Plain else None)))) [ true ↦ refl | false ↦ tt ])
+      subst (IsPlainFrom (is_plain t)) (sym (ap (λ z. if z then Some (levels, next.Colon) else with_levels levels (option_map next.NameText (after_text t b))) (no_quote t) ∙ ap (λ o. with_levels levels (option_map next.NameText o)) (text_only t)))
+      (elim (is_plain t) as (λ z. IsPlainFrom z (with_levels levels (option_map next.NameText (if z then Some Plain else None)))) [ true ↦ (refl, refl) | false ↦ tt ])
+
+  -- nothing else goes on
+  pub high_ends : (levels : List Level) (n : Next) → is_in_plain n ≡ false → after_byte levels n b ≡ None
+  high_ends levels n off = nowhere_else _ (subst (λ z. IsPlainFrom z (after_byte levels n b)) off (high_leads levels n))
 
   -- a string goes on
   pub plain_goes_on : (levels : List Level) (n : Next) → is_in_plain n ≡ true → after_byte levels n b ≡ None → ⊥
@@ -173,6 +181,11 @@ plain_before (next.Number n) b begun h = absurd (false≢true h)
 plain_before (next.Text t) b begun h = refl
 plain_before (next.NameText t) b begun h = refl
 
+pub off_before : (n : Next) (b : ℕ) (begun : List ℕ) → is_in_plain n ≡ false → is_in_plain (before_byte n b begun) ≡ false
+off_before (next.Number n) b begun h =
+    elim (ends_before n b && is_some (number_of begun)) as (λ z. is_in_plain (if z then next.AfterValue else next.Number n) ≡ false) [ true ↦ refl | false ↦ refl ]
+off_before _ b begun h = h
+
 pub number_before_byte : (n : Next) (b : ℕ) (begun : List ℕ) → is_number (before_byte n b begun) ≡ true → is_number n ≡ true
 number_before_byte next.Value b begun h = h
 number_before_byte next.FirstItem b begun h = h
@@ -203,6 +216,11 @@ can_go (next.Number n) b begun h =
     each (ends_before n b && is_some (number_of begun)) refl h
 can_go (next.Text t) b begun h = tt
 can_go (next.NameText t) b begun h = tt
+
+pub plain_can : (n : Next) (begun : List ℕ) → is_in_plain n ≡ true → CanGoOn n begun
+plain_can (next.Text t) begun h = tt
+plain_can (next.NameText t) begun h = tt
+plain_can _ begun h = absurd (false≢true h)
 
 pub number_stays : (n : Next) (b : ℕ) (begun : List ℕ) → is_number (before_byte n b begun) ≡ true → before_byte n b begun ≡ n
 number_stays next.Value b begun h = refl

@@ -18,7 +18,8 @@ mod Growth
 mod Range
 mod Shapes
 mod Scans
--- Edges: a text breaks between characters only.
+-- Edges: a text breaks between characters only. Characters: which bytes after a text end within a character, and which are of none.
 mod Edges
+mod Characters
 -- Levels: what is open, of levels in an array.
 mod Levels

@@ -69,7 +69,7 @@ is_at_its_byte _ = false
 
 -- the fault is none of the end, of bytes, of depth or of memory
 abbrev pub IsOfByte : DocumentFault → Type 0
-IsOfByte fault = (fault ≢ Empty) × (fault ≢ NotUtf8) × (fault ≢ TooDeep) × (fault ≢ Memory)
+IsOfByte fault = (fault ≢ Empty) × (fault ≢ CutShort) × (fault ≢ NotUtf8) × (fault ≢ TooDeep) × (fault ≢ Memory)
 
 -- such a fault stands between two texts
 abbrev pub IsMetBetween : List ℕ → List ℕ → DocumentFault → Type 0
@@ -128,7 +128,7 @@ IsFaultIn text e = (before after : List ℕ) × (text ≡ before ++ after)
 -- what is told of a text that breaks at a byte
 pub record IsTold (text : List ℕ) (e : DocumentError) : Type 0 where
   pub stands : e.fault ≢ Memory → IsFaultIn text e
-  pub byte : (e.fault ≢ NotUtf8) × (e.fault ≢ Empty)
+  pub byte : (e.fault ≢ NotUtf8) × (e.fault ≢ Empty) × (e.fault ≢ CutShort)
   pub too_deep : e.fault ≡ TooDeep → is_too_deep_at text e.position ≡ true
   pub not_too_deep : e.fault ≢ Memory → e.fault ≢ TooDeep → is_too_deep_at text e.position ≡ false
   pub memory : e.fault ≡ Memory → 0 < length text

@@ -1,10 +1,11 @@
 -- What a reader of bytes stands at in a document, what a byte makes of that, and which texts complete the document from there.
 use Rattle.fast_float.specs.Text.{scan}
-use Rattle.std.specs.Prelude.{◌==◌, ◌-◌, ◌&&◌, ◌||◌, not, ℕ, zero, suc, Bool, true, false, List, [], ◌∷◌, ◌++◌, length, drop, codes, nat_eq, nat_le, nat_lt, slice_index, if◌then◌else◌, Option, Some, None, option_map}
+use Rattle.std.specs.Prelude.{◌≡◌, ◌==◌, ◌-◌, ◌&&◌, ◌||◌, not, ℕ, zero, suc, Bool, true, false, List, [], ◌∷◌, ◌++◌, length, drop, codes, nat_eq, nat_le, nat_lt, slice_index, if◌then◌else◌, Option, Some, None, option_map}
 use Rattle.std.specs.Char.{is_ascii_digit, is_ascii_hexdigit}
 use Rattle.std.specs.Int.{is_in_range}
-use Rattle.std.specs.List.{slice_index_or, starts_with}
+use Rattle.std.specs.List.{list_all, slice_index_or, starts_with}
 use Rattle.std.specs.Option.{is_some}
+use Rattle.std.specs.Str.{IsUtf8}
 use Rattle.json.specs.Token as token
 use Rattle.json.specs.Lex.{Mode, between, in_word, in_string, in_escape, lex, punctuate, fresh, after_comma, after_key, after_value}
 use Rattle.json.specs.Lex as places
@@ -106,6 +107,16 @@ is_plain PairBackslash = false
 is_plain PairEscaped = false
 is_plain PairFirstDigit = false
 is_plain PairSecondDigit = false
+
+-- ---- bytes beyond ASCII
+
+-- each byte is
+abbrev pub are_high : List ℕ → Bool
+are_high bytes = list_all (λ byte. nat_le 128 byte) bytes
+
+-- the bytes are characters beyond ASCII, of which the last may be cut off: with some bytes after them they are a text
+abbrev pub IsCutOff : List ℕ → Type 0
+IsCutOff bytes = (rest : List ℕ) × (are_high (bytes ++ rest) ≡ true) × IsUtf8 (bytes ++ rest)
 
 -- ---- a document, a byte more
 

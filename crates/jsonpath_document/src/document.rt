@@ -1,14 +1,16 @@
 //! Documents from bytes, and what stands where bytes are no document.
 
-ghost use Rattle.std.specs.Prelude.{◌≡◌, ◌≢◌, ◌+◌, ◌-◌, ◌<◌, ◌≤◌, ◌↔◌, IfErr, IfOk};
-ghost use Rattle.std.specs.Prelude.{false, length, take, true};
+ghost use Rattle.std.specs.Prelude.{◌≡◌, ◌≢◌, ◌+◌, ◌-◌, ◌<◌, ◌≤◌, ◌↔◌, ◌++◌, IfErr, IfOk, List, ℕ};
+ghost use Rattle.std.specs.Prelude.{drop, false, length, slice_index, take, true};
 ghost use Rattle.std.specs.Str.{IsUtf8};
+ghost use Rattle.std.specs.Str.Lossy.{utf8_valid_len};
 ghost use Rattle.serde_json.specs.Data.{Data};
 ghost use Rattle.serde_json.specs.View.{view};
 ghost use Rattle.jsonpath_document.specs.Document.{BeginsNone, IsBeginning, IsDocument, IsFaultIn, IsTold};
 ghost use Rattle.jsonpath_document.specs.Document.{ReadsAs, is_at_its_byte, message_of};
 ghost use Rattle.jsonpath_document.specs.Place.{are_blank, is_continuation, is_too_deep_after};
 ghost use Rattle.jsonpath_document.specs.Place.{is_too_deep_at, place_after};
+ghost use Rattle.jsonpath_document.specs.Reading.{IsCutOff};
 
 use crate::faults::{fault_of, is_too_deep};
 use crate::place::are_blank;
@@ -215,15 +217,20 @@ fn told(alloc: Global, bytes: &[u8], stop: &Stop) -> DocumentError
     }
 }
 
-/// How many bytes stand before the first that is no part of a character of UTF-8.
-fn text_length(bytes: &[u8]) -> usize
-    ensures within { result ≤ length bytes.now }
-    ensures text { IsUtf8 (take result bytes.now) }
-    ensures whole { IsUtf8 bytes.now → result ≡ length bytes.now }
+/// How many bytes stand before the first that is no part of a character of UTF-8, and whether all may go on as a text: they are
+/// one, or end within a character.
+fn text_of(bytes: &[u8]) -> (usize, bool)
+    ensures within { result.0 ≤ length bytes.now }
+    ensures text { IsUtf8 (take result.0 bytes.now) }
+    ensures whole { IsUtf8 bytes.now → result.0 ≡ length bytes.now }
+    ensures longest { result.0 ≡ utf8_valid_len bytes.now }
+    ensures high { result.0 < length bytes.now → 128 ≤ slice_index bytes.now result.0 }
+    ensures cut_off { result.1 ≡ true → IsCutOff (drop result.0 bytes.now) }
+    ensures never { result.1 ≡ false → (rest : List ℕ) → IsUtf8 (bytes.now ++ rest) → ⊥ }
 {
     match from_utf8(bytes) {
-        Ok(_) => bytes.len(),
-        Err(e) => e.valid_up_to(),
+        Ok(_) => (bytes.len(), true),
+        Err(e) => (e.valid_up_to(), e.error_len().is_none()),
     }
 }
 
@@ -240,6 +247,8 @@ fn unfinished(bytes: &[u8]) -> DocumentError
 fn refused(alloc: Global, bytes: &[u8]) -> DocumentError
     ensures stands { result.fault ≢ DocumentFault.Memory → IsFaultIn bytes.now result }
     ensures not_utf8 { result.fault ≡ DocumentFault.NotUtf8 → IsUtf8 bytes.now → ⊥ }
+    ensures first { result.fault ≡ DocumentFault.NotUtf8
+        → result.position ≡ utf8_valid_len bytes.now + 1 }
     ensures too_deep { result.fault ≡ DocumentFault.TooDeep
         → is_too_deep_at bytes.now result.position ≡ true }
     ensures not_too_deep { IsUtf8 bytes.now → result.fault ≢ DocumentFault.Memory
@@ -249,11 +258,9 @@ fn refused(alloc: Global, bytes: &[u8]) -> DocumentError
     ensures second { result.fault ≡ DocumentFault.SecondDocument
         → IsDocument (take (result.position - 1) bytes.now) }
     ensures breaks { is_at_its_byte result.fault ≡ true → BeginsNone (take result.position bytes.now) }
-    ensures cut { result.fault ≢ DocumentFault.Empty → result.fault ≢ DocumentFault.CutShort
-        → result.fault ≢ DocumentFault.NotUtf8 → result.fault ≢ DocumentFault.Memory
-        → BeginsNone bytes.now }
+    ensures cut { result.fault ≢ DocumentFault.Empty → result.fault ≢ DocumentFault.Memory
+        → (result.fault ≡ DocumentFault.CutShort) ↔ IsBeginning bytes.now }
     ensures kept { result.fault ≢ DocumentFault.Memory
-        → (result.fault ≡ DocumentFault.CutShort → IsUtf8 bytes.now)
         → IsBeginning (take (result.position - 1) bytes.now) }
 {
     if are_blank(bytes) {
@@ -262,18 +269,17 @@ fn refused(alloc: Global, bytes: &[u8]) -> DocumentError
     if bytes.starts_with(b"\xef\xbb\xbf") {
         return DocumentError::after(b"", DocumentFault::ByteOrderMark);
     }
-    let (text, _) = bytes.split_at(text_length(bytes));
+    let (count, may_go_on) = text_of(bytes);
+    let (text, _) = bytes.split_at(count);
     let stop = read(text);
     if stop.is_too_large || stop.at < text.len() {
         return told(alloc, bytes, &stop);
     }
-    match from_utf8(bytes) {
-        // A character of a string may go on.
-        Err(e) if !stop.is_in_string() || e.error_len().is_some() => {
-            DocumentError::after(text, DocumentFault::NotUtf8)
-        }
-        _ => unfinished(bytes),
+    // A character of a string may go on.
+    if count == bytes.len() || stop.is_in_string() && may_go_on {
+        return unfinished(bytes);
     }
+    DocumentError::after(text, DocumentFault::NotUtf8)
 }
 
 /// Reads a document from its bytes, as `serde_json` does: it takes 127 levels of arrays and objects, no number beyond those
@@ -292,6 +298,8 @@ pub fn read_document(alloc: Global, bytes: &[u8]) -> Result<Value, DocumentError
         → (d : Data) → ReadsAs bytes.now d → ⊥) }
     ensures stands { IfErr result (λ e. e.fault ≢ DocumentFault.Memory → IsFaultIn bytes.now e) }
     ensures not_utf8 { IfErr result (λ e. e.fault ≡ DocumentFault.NotUtf8 → IsUtf8 bytes.now → ⊥) }
+    ensures first { IfErr result (λ e. e.fault ≡ DocumentFault.NotUtf8
+        → e.position ≡ utf8_valid_len bytes.now + 1) }
     ensures too_deep { IfErr result (λ e. e.fault ≡ DocumentFault.TooDeep
         → is_too_deep_at bytes.now e.position ≡ true) }
     ensures not_too_deep { IfErr result (λ e. IsUtf8 bytes.now → e.fault ≢ DocumentFault.Memory
@@ -304,11 +312,9 @@ pub fn read_document(alloc: Global, bytes: &[u8]) -> Result<Value, DocumentError
     ensures whole { IfErr result (λ e. e.fault ≡ DocumentFault.Empty → IsBeginning bytes.now) }
     ensures breaks { IfErr result (λ e. is_at_its_byte e.fault ≡ true
         → IsBeginning (take e.position bytes.now) → ⊥) }
-    ensures cut { IfErr result (λ e. e.fault ≢ DocumentFault.Empty → e.fault ≢ DocumentFault.CutShort
-        → e.fault ≢ DocumentFault.NotUtf8 → e.fault ≢ DocumentFault.Memory
-        → IsBeginning bytes.now → ⊥) }
+    ensures cut { IfErr result (λ e. e.fault ≢ DocumentFault.Empty → e.fault ≢ DocumentFault.Memory
+        → (e.fault ≡ DocumentFault.CutShort) ↔ IsBeginning bytes.now) }
     ensures kept { IfErr result (λ e. e.fault ≢ DocumentFault.Memory
-        → (e.fault ≡ DocumentFault.CutShort → IsUtf8 bytes.now)
         → IsBeginning (take (e.position - 1) bytes.now)) }
 {
     match Value::from_slice(alloc, bytes) {

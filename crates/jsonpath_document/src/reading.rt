@@ -1,12 +1,14 @@
 //! A document that is read byte by byte, up to the byte that breaks it.
 
-ghost use Rattle.std.specs.Prelude.{◌≡◌, ◌==◌, ◌+◌, ◌<◌, ◌≤◌, ◌&&◌, false, is_some, length, nat_lt, option_map, slice_range, take, true};
+ghost use Rattle.std.specs.Prelude.{◌≡◌, ◌==◌, ◌+◌, ◌<◌, ◌≤◌, ◌&&◌, ◌++◌, ◌∷◌, [], List, ℕ};
+ghost use Rattle.std.specs.Prelude.{false, is_some, length, nat_lt, option_map, slice_range, take, true};
 ghost use Rattle.std.specs.Str.{IsUtf8};
 ghost use Rattle.serde_json.specs.Read.{number_of};
 ghost use Rattle.jsonpath_document.specs.Document.{BeginsNone, IsBeginning};
-ghost use Rattle.jsonpath_document.specs.Reading.{after_byte, after_number, after_text, after_value_byte};
+ghost use Rattle.jsonpath_document.specs.Reading.{after_byte, after_number, after_text, after_value_byte, are_high};
 ghost use Rattle.jsonpath_document.specs.Reading.{after_word, before_byte, begun_by, closed, ends_before};
-ghost use Rattle.jsonpath_document.specs.Reading.{is_plain, is_too_large, is_within, may_end, only_grows, open_levels, opened, without_sign};
+ghost use Rattle.jsonpath_document.specs.Reading.{is_in_plain, is_plain, is_too_large, is_within, may_end};
+ghost use Rattle.jsonpath_document.specs.Reading.{only_grows, open_levels, opened, without_sign};
 
 use crate::begins::{is_d, is_escape, is_first_half, is_second_half};
 use crate::place::is_blank;
@@ -359,7 +361,9 @@ pub(crate) struct Stop {
 
 impl Stop {
     /// Whether a character of a string might have come.
-    pub(crate) fn is_in_string(&self) -> bool {
+    pub(crate) fn is_in_string(&self) -> bool
+        ensures { result ≡ is_in_plain self.now.next }
+    {
         matches!(
             self.next,
             Next::Text(Text::Plain) | Next::NameText(Text::Plain)
@@ -400,6 +404,11 @@ pub(crate) fn read(text: &[u8]) -> Stop
         → IsBeginning (take result.at text.now) }
     ensures number { result.is_too_large ≡ true → IsUtf8 text.now
         → IsBeginning (take result.start text.now) }
+    ensures in_string { result.at ≡ length text.now → is_in_plain result.next ≡ true
+        → (more : List ℕ) → are_high more ≡ true → IsUtf8 (text.now ++ more)
+        → IsBeginning (text.now ++ more) }
+    ensures off_string { result.at ≡ length text.now → is_in_plain result.next ≡ false
+        → (byte : ℕ) → 128 ≤ byte → BeginsNone (text.now ++ byte ∷ []) }
 {
     let mut next = Next::Value;
     let mut start = 0usize;

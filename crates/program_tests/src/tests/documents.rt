@@ -181,6 +181,7 @@ const NOT_UTF8: &[(&[u8], &str)] = &[
     (b"\"\xc3\xa9\n\xff\"", CONTROL),
     (b"[1,]\xff", COMMA),
     (b"[\"\xf0\x9f\x98", CUT),
+    (b"{\"\xf0\x9f\x98", CUT),
 ];
 
 const LATER_BYTE: &str = "line 2, column 3: a byte that is not UTF-8";

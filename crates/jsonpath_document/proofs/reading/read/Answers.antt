@@ -1,7 +1,7 @@
 use Rattle.std.proofs.Common.{le-ltb, arith, nat_lt, slice_range, length, ◌≡◌, ◌+◌, ◌∙◌, ap, subst, sym, take, get_or}
 use Rattle.jsonpath_document.specs.Document.{BeginsNone, IsBeginning}
-use Rattle.jsonpath_document.specs.Reading.{before_byte, is_too_large, is_within}
-use Rattle.jsonpath_document.proofs.Along.{begins_before, begins_whole, none_at_end, none_longer, leads_on, leads_nowhere, reached_first, start_at}
+use Rattle.jsonpath_document.specs.Reading.{before_byte, is_in_plain, is_too_large, is_within}
+use Rattle.jsonpath_document.proofs.Along.{begins_before, begins_in_string, begins_whole, none_off_string, none_at_end, none_longer, leads_on, leads_nowhere, reached_first, start_at}
 use Rattle.jsonpath_document.proofs.reading.read.Goals as goal
 use Rattle.jsonpath_document.proofs.reading.read.Goals.{then-not-is_within, else-not-is_within}
 
@@ -45,6 +45,14 @@ returns-clause-none c = λ large.
     let e : c.loop-index.index ≡ length c.args.text.now = omega (arith, c.loop-index-test.false, c.loop-index.auto.index-end) in
     let same = ap (λ i. is_too_large c.loop-index.next (nat_lt (length c.args.text.now) (length c.args.text.now)) (slice_range c.args.text.now c.loop-index.start i)) e in
     none_at_end _ _ _ _ _ c.loop-index.invariant e _ (le-ltb (length c.args.text.now) (length c.args.text.now) (omega arith)) (same ∙ sym c.stop_at-2.ensures.too_large ∙ large)
+
+pub returns-clause-in_string : goal.returns-clause-in_string
+returns-clause-in_string c = λ _ plain.
+    begins_in_string _ _ _ _ _ c.loop-index.invariant (omega (arith, c.loop-index-test.false, c.loop-index.auto.index-end)) (ap is_in_plain (sym c.stop_at-2.ensures.place.2) ∙ plain)
+
+pub returns-clause-off_string : goal.returns-clause-off_string
+returns-clause-off_string c = λ _ off.
+    none_off_string _ _ _ _ _ c.loop-index.invariant (omega (arith, c.loop-index-test.false, c.loop-index.auto.index-end)) (ap is_in_plain (sym c.stop_at-2.ensures.place.2) ∙ off)
 
 pub loop-index-preserved : goal.loop-index-preserved
 loop-index-preserved c =
