@@ -1,7 +1,9 @@
 -- What options ask for, as documents are answered.
-use Rattle.jpq_program.proofs.Words.{◌≡◌, ◌∙◌, ◌&&◌, ◌||◌, ℕ, Bool, true, false, List, [], Option, None, length, length-map, map, is_some, not, refl, sym, ap, subst, string_bytes, Appends, AreAnswersOn, AreInputsShown, ArePaths, IsAnswered, Outcome, names_in, rule_in, status_of, Answered, AskedPath, Answering, Documents, Heads, IsPlain, IsPlainRun, IsShownFor, JsonPath, Keeps, IfSome, Nodes, OptionShown, Options, Output, Sends, Streams, builtin_functions, form_in, has_counts, has_lines, head_by, heads_in, is_each, is_plain_answer, is_table, output_in, path_tree, shows_places, LocationAndValue, Value, Raw, Location, Pointer, Json, Count, Nothing, path_texts}
+use Rattle.jpq_program.proofs.Words.{◌≡◌, ◌∙◌, ◌&&◌, ◌||◌, ℕ, Bool, true, false, List, [], Option, None, length, length-map, map, is_some, not, refl, sym, ap, subst, string_bytes, Appends, AreAnswersOn, AreInputsShown, AreKnown, ArePaths, head_text, IsAnswered, Outcome, names_in, rule_in, status_of, Answered, AppendsBeginning, AreAnswersInPart, AskedPath, Answering, Begins, IsAnsweredInPart, IsShownInPartFor, SendsFor, Shown, inr, ◌++◌, Documents, Heads, IsPlain, IsPlainRun, IsShownFor, JsonPath, Keeps, IfSome, Nodes, OptionShown, Options, Output, Sends, Streams, builtin_functions, form_in, has_counts, has_lines, head_by, heads_in, is_each, is_plain_answer, is_table, output_in, path_tree, shows_places, LocationAndValue, Value, Raw, Location, Pointer, Json, Count, Nothing, path_texts}
 use Rattle.jpq_program.proofs.Ended.{sent_out, status_is}
-use Rattle.jpq_program.proofs.Shown.{answered_since}
+use Rattle.jpq_program.proofs.Sending.{no_named, no_paths}
+use Rattle.jpq_program.proofs.Shown.{answered_since, begun_since, nothing_begun}
+use Rattle.jpq_program.specs.Run.{has_names, has_numbers}
 
 -- ---- plain answers
 
@@ -36,30 +38,59 @@ plain_documents documents options taken run shown output dress total read = reco
 
 -- ---- what was sent
 
--- what was sent of the inputs is what the options ask for
-pub sent_for : {W E : Type 0} (contents : W → Option (List ℕ)) (options : Options) (asked : List AskedPath) (output : Output) (heads : Heads) (bytes_of : List ℕ → Option (List ℕ)) (names : List (List ℕ)) (before start now : Streams W E)
+-- ---- what is shown of the inputs is what the options ask for
+
+abbrev Whole : List JsonPath → Output → Heads → Shown
+Whole paths output heads name number bytes text any = AreAnswersOn builtin_functions paths output (head_by heads name number) bytes text any
+
+abbrev InPart : List JsonPath → Output → Heads → Shown
+InPart paths output heads name number bytes text any = AreAnswersInPart builtin_functions paths output (head_by heads name number) bytes text any
+
+heads_as_asked : (options : Options) (asked : List AskedPath) (heads : Heads) → heads ≡ heads_in options (length asked) → heads ≡ heads_in options (length (map (λ (path : AskedPath). path.path) asked))
+heads_as_asked options asked heads is = is ∙ ap (heads_in options) (sym (length-map asked (λ (path : AskedPath). path.path)))
+
+pub sent_for : {W E : Type 0} (contents : W → Option (List ℕ)) (options : Options) (asked : List AskedPath) (output : Output) (heads : Heads) (bytes_of : List ℕ → Option (List ℕ)) (before start now : Streams W E)
     → output ≡ output_in options → heads ≡ heads_in options (length asked) → start.out ≡ before.out → start.pending ≡ before.pending → start.outcome ≡ before.outcome
-    → Sends contents (AreInputsShown (λ name number bytes text any. AreAnswersOn builtin_functions (map (λ (path : AskedPath). path.path) asked) output (head_by heads name number) bytes text any) options.lines bytes_of names) start now
-    → Sends contents (AreInputsShown (IsShownFor options (map (λ (path : AskedPath). path.path) asked)) options.lines bytes_of names) before now
-sent_for contents options asked output heads bytes_of names before start now output_is heads_is out pending outcome sent = (
-  answered_since contents (AreInputsShown (IsShownFor options paths) options.lines bytes_of names) before start now out pending outcome
-      (subst (λ (h : Heads). Answered contents (AreInputsShown (λ name number bytes text any. AreAnswersOn builtin_functions paths (output_in options) (head_by h name number) bytes text any) options.lines bytes_of names) start now) heads_are
-      (subst (λ (o : Output). Answered contents (AreInputsShown (λ name number bytes text any. AreAnswersOn builtin_functions paths o (head_by heads name number) bytes text any) options.lines bytes_of names) start now) output_is sent.0)),
+    → Sends contents (AreInputsShown (Whole (map (λ (path : AskedPath). path.path) asked) output heads) options.lines bytes_of (names_in options))
+    (AreInputsShown (InPart (map (λ (path : AskedPath). path.path) asked) output heads) options.lines bytes_of (names_in options)) start now
+    → SendsFor contents options (map (λ (path : AskedPath). path.path) asked) bytes_of before now
+sent_for contents options asked output heads bytes_of before start now output_is heads_is out pending outcome sent = (
+  answered_since contents (AreInputsShown (IsShownFor options paths) options.lines bytes_of names) (AreInputsShown (IsShownInPartFor options paths) options.lines bytes_of names) before start now out pending outcome
+      (subst (λ (h : Heads). Answered contents (AreInputsShown (Whole paths (output_in options) h) options.lines bytes_of names) (AreInputsShown (InPart paths (output_in options) h) options.lines bytes_of names) start now) (heads_as_asked options asked heads heads_is)
+      (subst (λ (o : Output). Answered contents (AreInputsShown (Whole paths o heads) options.lines bytes_of names) (AreInputsShown (InPart paths o heads) options.lines bytes_of names) start now) output_is sent.0)),
   sent.1,
 )
+  where
+    names : List (List ℕ)
+    names = names_in options
+
+    paths : List JsonPath
+    paths = map (λ (path : AskedPath). path.path) asked
+
+pub begun_for : {W E : Type 0} (contents : W → Option (List ℕ)) (options : Options) (asked : List AskedPath) (output : Output) (heads : Heads) (bytes_of : List ℕ → Option (List ℕ)) (before start now : Streams W E)
+    → output ≡ output_in options → heads ≡ heads_in options (length asked) → start.out ≡ before.out → start.pending ≡ before.pending
+    → Begins contents (AreInputsShown (InPart (map (λ (path : AskedPath). path.path) asked) output heads) options.lines bytes_of (names_in options)) start now
+    → Begins contents (AreInputsShown (IsShownInPartFor options (map (λ (path : AskedPath). path.path) asked)) options.lines bytes_of (names_in options)) before now
+begun_for contents options asked output heads bytes_of before start now output_is heads_is out pending begun =
+    begun_since contents (AreInputsShown (IsShownInPartFor options paths) options.lines bytes_of (names_in options)) before start now out pending
+    (subst (λ (h : Heads). Begins contents (AreInputsShown (InPart paths (output_in options) h) options.lines bytes_of (names_in options)) start now) (heads_as_asked options asked heads heads_is)
+    (subst (λ (o : Output). Begins contents (AreInputsShown (InPart paths o heads) options.lines bytes_of (names_in options)) start now) output_is begun))
   where
     paths : List JsonPath
     paths = map (λ (path : AskedPath). path.path) asked
 
-    heads_are : heads ≡ heads_in options (length paths)
-    heads_are = heads_is ∙ ap (heads_in options) (sym (length-map asked (λ (path : AskedPath). path.path)))
+-- of inputs that are known nothing may be shown
+pub nothing_for : {W E : Type 0} (contents : W → Option (List ℕ)) (options : Options) (paths : List JsonPath) (bytes_of : List ℕ → Option (List ℕ)) (before now : Streams W E) → AreKnown bytes_of (names_in options) → now.out ≡ before.out
+    → Begins contents (AreInputsShown (IsShownInPartFor options paths) options.lines bytes_of (names_in options)) before now
+nothing_for contents options paths bytes_of before now known same = nothing_begun contents (AreInputsShown (IsShownInPartFor options paths) options.lines bytes_of (names_in options)) before now
+    (no_named (IsShownInPartFor options paths) options.lines bytes_of (names_in options) (λ name number bytes. no_paths paths (output_in options) (head_text (has_names options) options.line_number (has_numbers options (length paths)) name number) bytes) known 1) same
 
 -- a run was answered
 pub run_answered : {W E : Type 0} (contents : W → Option (List ℕ)) (bytes_of : List ℕ → Option (List ℕ)) (options : Options) (asked : List AskedPath) (old start answer final : Streams W E)
     → ArePaths (rule_in options) (path_texts bytes_of options) (map (λ (path : AskedPath). path.path) asked)
     → old.outcome ≡ record { selected = false; refused = false } → start.out ≡ old.out → start.outcome ≡ old.outcome → string_bytes start.pending ≡ []
     → final.out ≡ answer.out → final.outcome ≡ answer.outcome → final.outcome.refused ≡ false
-    → Sends contents (AreInputsShown (IsShownFor options (map (λ (path : AskedPath). path.path) asked)) options.lines bytes_of (names_in options)) start answer
+    → SendsFor contents options (map (λ (path : AskedPath). path.path) asked) bytes_of start answer
     → IsAnswered contents bytes_of options old.out final.out (status_of final.outcome)
 run_answered {W} {E} contents bytes_of options asked old start answer final are fresh out outcome empty final_out final_outcome right sent =
     let any = sent.0.any in
@@ -70,10 +101,26 @@ run_answered {W} {E} contents bytes_of options asked old start answer final are 
       are = are;
       text = sent.0.text;
       any = any;
-      shown = sent.0.is;
+      shown = (sent.0.whole (sym (ap (λ (o : Outcome). o.refused) final_outcome) ∙ right)).1;
       out = subst (λ (o : W). Appends (contents o) (contents final.out) sent.0.text) out (subst (λ (o : W). Appends (contents start.out) (contents o) sent.0.text) (sym final_out) appends);
       ends = status_is final.outcome any right selected;
     }
+
+-- of what is shown of the inputs a beginning is out
+pub run_begun : {W E : Type 0} (contents : W → Option (List ℕ)) (bytes_of : List ℕ → Option (List ℕ)) (options : Options) (asked : List AskedPath) (old start answer final : Streams W E)
+    → ArePaths (rule_in options) (path_texts bytes_of options) (map (λ (path : AskedPath). path.path) asked)
+    → start.out ≡ old.out → string_bytes start.pending ≡ [] → final.out ≡ answer.out
+    → Begins contents (AreInputsShown (IsShownInPartFor options (map (λ (path : AskedPath). path.path) asked)) options.lines bytes_of (names_in options)) start answer
+    → IsAnsweredInPart contents bytes_of options old.out final.out
+run_begun {W} {E} contents bytes_of options asked old start answer final are out empty final_out begun = inr (
+  map (λ (path : AskedPath). path.path) asked,
+  are,
+  begun.0,
+  begun.1,
+  begun.2,
+  subst (λ (o : W). AppendsBeginning (contents o) (contents final.out) begun.0) out (subst (λ (o : W). AppendsBeginning (contents start.out) (contents o) begun.0) (sym final_out)
+      (subst (λ (waiting : List ℕ). AppendsBeginning (contents start.out) (contents answer.out) (waiting ++ begun.0)) empty begun.3)),
+)
 
 -- the same of a run that ended so
 pub run_ended : {W : Type 0} (contents : W → Option (List ℕ)) (bytes_of : List ℕ → Option (List ℕ)) (options : Options) (old start final last : W) (outcome : Outcome) (status : ℕ) → start ≡ old → last ≡ final → status ≡ status_of outcome
@@ -82,3 +129,7 @@ run_ended {W} contents bytes_of options old start final last outcome status begi
     subst (λ (o : W). IsAnswered contents bytes_of options o last status) begins
     (subst (λ (o : W). IsAnswered contents bytes_of options start o status) (sym ends)
     (subst (λ (n : ℕ). IsAnswered contents bytes_of options start final n) (sym is) answered))
+
+-- what is so of what is out, as it was before and stayed
+pub out_since : {W : Type 0} (Is : W → W → Type 0) (old start final last : W) → start ≡ old → last ≡ final → Is start final → Is old last
+out_since {W} Is old start final last begins ends is = subst (λ (o : W). Is o last) begins (subst (Is start) (sym ends) is)

@@ -1,6 +1,6 @@
 -- Nodes that are written, one after the other.
 use Rattle.jsonpath_lines.specs.Inside as lines
-use Rattle.jpq_program.proofs.Words.{◌≡◌, ℕ, ◌+◌, true, false, List, [], ◌∷◌, ◌++◌, Option, None, length, length-append, refl, sym, ap, subst, ◌∙◌, append_assoc, append-nil, arith, common_steps, nat_tests, string_bytes, Appends, Appends-trans, Bor, Some, Located, IsLine, IsLineOfEach, Output, up_to, is_reached, IsWithin, reached, within_further, all_below, AreEnough, take-append-le, Adds, WritesLines, WritesNode, KeepsRest, TookNodes, FilledNodes, Showing, Written, shows_lines, suc, ◌<◌, get_or, map, take, drop, map-append, map_push, take_more, take-append-drop, drop-cons}
+use Rattle.jpq_program.proofs.Words.{◌≡◌, ℕ, ◌+◌, true, false, List, [], ◌∷◌, ◌++◌, Option, None, length, length-append, refl, sym, ap, subst, ◌∙◌, append_assoc, append-nil, arith, common_steps, nat_tests, string_bytes, Appends, Appends-trans, Bor, Some, Located, IsLine, IsLineOfEach, Output, up_to, is_reached, IsWithin, reached, within_further, all_below, AreEnough, take-append-le, Adds, AppendsBeginning, BeginsFirst, BeginsNodes, IfSome, TookFirst, ◌≤◌, WritesLines, WritesNode, KeepsRest, TookNodes, FilledNodes, Showing, Written, shows_lines, suc, ◌<◌, get_or, map, take, drop, map-append, map_push, take_more, take-append-drop, drop-cons}
 
 -- ---- what goes out
 
@@ -18,6 +18,22 @@ adds_both out later last waiting then_waiting last_waiting text more first secon
   Appends-trans out later last first.0 second.0 first.1 second.1,
   sym (append_assoc waiting text more) ∙ ap (λ t. t ++ more) first.2 ∙ append_assoc first.0 then_waiting more
       ∙ ap (λ t. first.0 ++ t) second.2 ∙ sym (append_assoc first.0 second.0 last_waiting),
+)
+
+-- of what was added a beginning is out
+pub adds_begun : (out later : Option (List ℕ)) (waiting left text : List ℕ) → Adds out waiting later left text → AppendsBeginning out later (waiting ++ text)
+adds_begun out later waiting left text adds = (adds.0, left, adds.2, adds.1)
+
+pub none_begun : (out : Option (List ℕ)) (text : List ℕ) → AppendsBeginning out out text
+none_begun out text = ([], text, refl, appends_nothing out)
+
+-- the same of a text that was added, and another after it
+pub begun_after : (out later last : Option (List ℕ)) (waiting left text more : List ℕ) → Adds out waiting later left text → AppendsBeginning later last (left ++ more) → AppendsBeginning out last (waiting ++ (text ++ more))
+begun_after out later last waiting left text more adds begun = (
+  adds.0 ++ begun.0,
+  begun.1,
+  sym (append_assoc waiting text more) ∙ ap (λ t. t ++ more) adds.2 ∙ append_assoc adds.0 left more ∙ ap (λ t. adds.0 ++ t) begun.2 ∙ sym (append_assoc adds.0 begun.0 begun.1),
+  Appends-trans out later last adds.0 begun.0 adds.1 begun.3,
 )
 
 -- ---- lines
@@ -38,6 +54,12 @@ line_written output head n out later_out waiting pushed later line adds = (
   (adds.0, adds.1, ap (λ t. waiting ++ t) (append-nil line.0) ∙ sym line.2 ∙ sym (append-nil pushed) ∙ adds.2),
 )
 
+-- of a line that was pending a beginning went out
+pub line_begun : (output : Output) (head : List ℕ) (n : Located) (out later : Option (List ℕ)) (waiting pushed : List ℕ) → lines.Appends (IsLine output head n) waiting pushed
+    → AppendsBeginning out later pushed → (text : List ℕ) × IsLineOfEach output head (n ∷ []) text × AppendsBeginning out later (waiting ++ text)
+line_begun output head n out later waiting pushed line begun =
+    (line.0 ++ [], (line.0, [], line.1, refl, refl), subst (AppendsBeginning out later) (line.2 ∙ ap (λ t. waiting ++ t) (sym (append-nil line.0))) begun)
+
 -- ---- nodes that are written
 
 pub keeps_both : {W E : Type 0} (before old now : Written W E) → KeepsRest before old → KeepsRest old now → KeepsRest before now
@@ -50,15 +72,21 @@ keeps_both before old now first second = record {
   left = second.left ∙ first.left;
 }
 
+still_lines : {W E : Type 0} (before old : Written W E) → KeepsRest before old → shows_lines before.showing.now ≡ true → shows_lines old.showing.now ≡ true
+still_lines before old rest plain = subst (λ (s : Bor Showing). shows_lines s.now ≡ true) (sym rest.showing) plain
+
+-- lines that were shown since are lines as they were shown before
+lines_since : {W E : Type 0} (before old : Written W E) (nodes : List Located) (text : List ℕ) → KeepsRest before old → IsLineOfEach old.showing.now.output old.head.now nodes text → IsLineOfEach before.showing.now.output before.head.now nodes text
+lines_since before old nodes text rest are = subst (λ (h : Bor (List ℕ)). IsLineOfEach before.showing.now.output h.now nodes text) rest.head
+    (subst (λ (s : Bor Showing). IsLineOfEach s.now.output old.head.now nodes text) rest.showing are)
+
 pub writes_both : {W E : Type 0} (contents : W → Option (List ℕ)) (ns ms : List Located) (before old now : Written W E) → KeepsRest before old
     → WritesLines contents ns before old → WritesLines contents ms old now → WritesLines contents (ns ++ ms) before now
 writes_both contents ns ms before old now rest first second plain =
     let one = first plain in
-    let two = second (subst (λ (s : Bor Showing). shows_lines s.now ≡ true) (sym rest.showing) plain) in
-    let lines = subst (λ (h : Bor (List ℕ)). IsLineOfEach before.showing.now.output h.now ms two.0) rest.head
-    (subst (λ (s : Bor Showing). IsLineOfEach s.now.output old.head.now ms two.0) rest.showing two.1) in (
+    let two = second (still_lines before old rest plain) in (
       one.0 ++ two.0,
-      lines_both before.showing.now.output before.head.now ns ms one.0 two.0 one.1 lines,
+      lines_both before.showing.now.output before.head.now ns ms one.0 two.0 one.1 (lines_since before old ms two.0 rest two.1),
       adds_both (contents before.streams.now.out) (contents old.streams.now.out) (contents now.streams.now.out) (string_bytes before.streams.now.pending) (string_bytes old.streams.now.pending) (string_bytes now.streams.now.pending) one.0 two.0 one.2 two.2,
     )
 
@@ -132,23 +160,24 @@ filled_by_all contents before nodes now took = record {
     these : before.count ≡ 0 → nodes ≡ up_to before.limit nodes
     these none = all_below before.limit nodes now.count (counted none) below
 
+-- where none is counted, none was written
+pub took_nothing : {W E : Type 0} (contents : W → Option (List ℕ)) (before : Written W E) (nodes : List Located) (now : Written W E) → TookNodes contents before nodes now → before.count ≡ 0 → now.count ≡ 0 → nodes ≡ []
+took_nothing contents before nodes now took fresh still = empty nodes (grind (arith, took.count, fresh, still))
+  where
+    empty : (ns : List Located) → length ns ≡ 0 → ns ≡ []
+    empty [] is = refl
+    empty (n ∷ ns) is = absurd (omega (arith, is))
+
 -- the nodes of another query were, where of a query before it none was
 pub filled_again : {W E : Type 0} (contents : W → Option (List ℕ)) (before : Written W E) (none nodes : List Located) (old now : Written W E) → TookNodes contents before none old → before.count ≡ 0 → old.count ≡ 0
     → FilledNodes contents old nodes now → FilledNodes contents before nodes now
 filled_again contents before none nodes old now took fresh still filled = record {
   rest = keeps_both before old now took.rest filled.rest;
   count = λ _ stopped. filled.count still stopped ∙ ap (λ l. length (up_to l nodes)) took.rest.limit;
-  lines = λ _ stopped. subst (λ (ns : List Located). WritesLines contents (ns ++ up_to before.limit nodes) before now) (empty none is_empty)
+  lines = λ _ stopped. subst (λ (ns : List Located). WritesLines contents (ns ++ up_to before.limit nodes) before now) (took_nothing contents before none old took fresh still)
       (writes_both contents none (up_to before.limit nodes) before old now took.rest took.lines
       (subst (λ l. WritesLines contents (up_to l nodes) old now) took.rest.limit (filled.lines still stopped)));
 }
-  where
-    is_empty : length none ≡ 0
-    is_empty = grind (arith, took.count, fresh, still)
-
-    empty : (ns : List Located) → length ns ≡ 0 → ns ≡ []
-    empty [] is = refl
-    empty (n ∷ ns) is = absurd (omega (arith, is))
 
 -- those of the first places that were found are enough
 pub filled_by_enough : {W E : Type 0} (contents : W → Option (List ℕ)) (before : Written W E) (nodes found : List Located) (now : Written W E) → AreEnough before.limit nodes found
@@ -161,6 +190,120 @@ filled_by_enough contents before nodes found now enough filled = record {
   where
     same_beginning : (limit : Option ℕ) (nodes found : List Located) → AreEnough limit nodes found → up_to limit found ≡ up_to limit nodes
     same_beginning limit nodes found enough = grind (arith, nat_tests, common_steps, take-append-le, append-nil)
+
+-- ---- nodes of which a beginning is out
+
+pub begins_nothing : {W E : Type 0} (contents : W → Option (List ℕ)) (w : Written W E) → BeginsFirst contents w [] w
+begins_nothing contents w = record {
+  first = [];
+  others = [];
+  split = refl;
+  few = λ _. no_more w.limit;
+  begins = record {
+    rest = record { same = refl; showing = refl; head = refl; limit = refl; outcome = refl; left = refl };
+    lines = λ _. ([], refl, none_begun (contents w.streams.now.out) (string_bytes w.streams.now.pending ++ []));
+  };
+}
+  where
+    no_more : (limit : Option ℕ) → IfSome limit (λ most. 0 ≤ most)
+    no_more None = tt
+    no_more (Some most) = omega arith
+
+pub took_begun : {W E : Type 0} (contents : W → Option (List ℕ)) (before now : Written W E) (nodes : List Located) → TookNodes contents before nodes now → BeginsNodes contents nodes before now
+took_begun contents before now nodes took = record {
+  rest = took.rest;
+  lines = λ plain.
+      let written = took.lines plain in
+      (written.0, written.1, adds_begun (contents before.streams.now.out) (contents now.streams.now.out) (string_bytes before.streams.now.pending) (string_bytes now.streams.now.pending) written.0 written.2);
+}
+
+-- after nodes that were written
+begins_further : {W E : Type 0} (contents : W → Option (List ℕ)) (before old now : Written W E) (nodes more : List Located) → TookNodes contents before nodes old → BeginsNodes contents more old now → BeginsNodes contents (nodes ++ more) before now
+begins_further contents before old now nodes more took begins = record {
+  rest = keeps_both before old now took.rest begins.rest;
+  lines = λ plain.
+      let one = took.lines plain in
+      let two = begins.lines (still_lines before old took.rest plain) in (
+        one.0 ++ two.0,
+        lines_both before.showing.now.output before.head.now nodes more one.0 two.0 one.1 (lines_since before old more two.0 took.rest two.1),
+        begun_after (contents before.streams.now.out) (contents old.streams.now.out) (contents now.streams.now.out) (string_bytes before.streams.now.pending) (string_bytes old.streams.now.pending) one.0 two.0 one.2 two.2,
+      );
+}
+
+few_more : (limit : Option ℕ) (count n : ℕ) → is_reached limit count ≡ false → n ≤ count + 1 → IfSome limit (λ most. n ≤ most)
+few_more None count n below few = tt
+few_more (Some most) count n below few = grind (arith, nat_tests, common_steps)
+
+below_limit : {W E : Type 0} (contents : W → Option (List ℕ)) (before now : Written W E) (nodes : List Located) → TookNodes contents before nodes now → is_reached before.limit now.count ≡ false
+below_limit contents before now nodes took = ap (λ l. is_reached l now.count) (sym took.rest.limit) ∙ took.more
+
+-- of nodes that were written there are not more than are wanted
+pub took_few : {W E : Type 0} (contents : W → Option (List ℕ)) (before now : Written W E) (nodes : List Located) → TookNodes contents before nodes now → before.count ≡ 0 → IfSome before.limit (λ most. length nodes ≤ most)
+took_few contents before now nodes took none = few_more before.limit now.count (length nodes) (below_limit contents before now nodes took) (grind (arith, took.count, none))
+
+-- of some nodes the first were written, and a beginning of one more, or of none, is out
+pub begins_first : {W E : Type 0} (contents : W → Option (List ℕ)) (before old now : Written W E) (nodes done more others : List Located) → TookNodes contents before done old → BeginsNodes contents more old now → length more ≤ 1
+    → nodes ≡ done ++ (more ++ others) → BeginsFirst contents before nodes now
+begins_first contents before old now nodes done more others took begins one split = record {
+  first = done ++ more;
+  others = others;
+  split = split ∙ sym (append_assoc done more others);
+  few = λ none. few_more before.limit old.count (length (done ++ more)) (below_limit contents before old done took) (grind (arith, length-append, took.count, none, one));
+  begins = begins_further contents before old now done more took begins;
+}
+
+-- the first were written
+pub begins_done : {W E : Type 0} (contents : W → Option (List ℕ)) (before now : Written W E) (nodes done others : List Located) → TookNodes contents before done now → nodes ≡ done ++ others → BeginsFirst contents before nodes now
+begins_done contents before now nodes done others took split = record {
+  first = done;
+  others = others;
+  split = split;
+  few = took_few contents before now done took;
+  begins = took_begun contents before now done took;
+}
+
+-- the nodes of another query, where of a query before it none was written
+pub begins_again : {W E : Type 0} (contents : W → Option (List ℕ)) (before old now : Written W E) (none nodes : List Located) → TookNodes contents before none old → before.count ≡ 0 → old.count ≡ 0
+    → BeginsFirst contents old nodes now → BeginsFirst contents before nodes now
+begins_again contents before old now none nodes took fresh still begins = record {
+  first = begins.first;
+  others = begins.others;
+  split = begins.split;
+  few = λ _. subst (λ l. IfSome l (λ most. length begins.first ≤ most)) took.rest.limit (begins.few still);
+  begins = subst (λ (ns : List Located). BeginsNodes contents (ns ++ begins.first) before now) (took_nothing contents before none old took fresh still)
+      (begins_further contents before old now none begins.first took begins.begins);
+}
+
+pub took_again : {W E : Type 0} (contents : W → Option (List ℕ)) (before old now : Written W E) (none nodes : List Located) → TookNodes contents before none old → before.count ≡ 0 → old.count ≡ 0
+    → TookFirst contents old nodes now → TookFirst contents before nodes now
+took_again {W} {E} contents before old now none nodes took fresh still later = record {
+  first = later.first;
+  others = later.others;
+  split = later.split;
+  took = subst (λ (ns : List Located). TookNodes contents before (ns ++ later.first) now) (took_nothing contents before none old took fresh still) both;
+}
+  where
+    counted : (count : ℕ) (ns ms : List Located) → (count + length ns) + length ms ≡ count + length (ns ++ ms)
+    counted count ns ms = grind (arith, length-append)
+
+    both : TookNodes contents before (none ++ later.first) now
+    both = record {
+      rest = keeps_both before old now took.rest later.took.rest;
+      stop = later.took.stop;
+      count = later.took.count ∙ ap (λ c. c + length later.first) took.count ∙ counted before.count none later.first;
+      more = later.took.more;
+      lines = writes_both contents none later.first before old now took.rest took.lines later.took.lines;
+    }
+
+-- of the first places those that were found
+pub begins_found : {W E : Type 0} (contents : W → Option (List ℕ)) (before now : Written W E) (nodes found : List Located) → AreEnough before.limit nodes found → BeginsFirst contents before found now → BeginsFirst contents before nodes now
+begins_found contents before now nodes found enough begins = record {
+  first = begins.first;
+  others = begins.others ++ enough.0;
+  split = enough.1 ∙ ap (λ (ns : List Located). ns ++ enough.0) begins.split ∙ append_assoc begins.first begins.others enough.0;
+  few = begins.few;
+  begins = begins.begins;
+}
 
 -- ---- nodes of a list
 

@@ -87,3 +87,8 @@ opens_ended (Err e) binds quiet outcome status options before now is opens eithe
 pub opens_inputs : (options : Options) (before old now : Known) → options.check ≡ false → Opens before old (path_files_in options) → OpensFirst old now (names_in options) → OpensFirst before now (opened_in options)
 opens_inputs options before old now reads files inputs =
     subst (OpensFirst before now) (ap (λ (check : Bool). path_files_in options ++ (if check then [] else names_in options)) (sym reads)) (opens_then before old now (path_files_in options) (names_in options) files inputs)
+
+-- the files of paths were opened, and then all inputs
+pub opens_all_inputs : (options : Options) (before old now : Known) → options.check ≡ false → Opens before old (path_files_in options) → Opens old now (names_in options) → Opens before now (opened_in options)
+opens_all_inputs options before old now reads files inputs =
+    subst (Opens before now) (ap (λ (check : Bool). path_files_in options ++ (if check then [] else names_in options)) (sym reads)) (opens_both before old now (path_files_in options) (names_in options) files inputs)

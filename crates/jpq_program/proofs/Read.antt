@@ -81,17 +81,18 @@ same_shown _ output head ns ms text is shows same are = absurd cc
 -- ---- what was read
 
 shows_by_places : (output : Output) (bytes : List ℕ) (queries : List Query) (value : Data) (path : JsonPath) → shows_places output.form ≡ true → IsIn (path_tree path) queries → IsReadIn true bytes queries value → ShowsAs output bytes value path
-shows_by_places output bytes queries value path shows asked read = λ F head text any is.
+shows_by_places output bytes queries value path shows asked read = λ F most head text any is.
+    let up = record output { most = most } in
     let alike = read.1.2 (with_rule_of path F) (path_tree path) (places_of is.0) in
     let there = (alike asked).1 (is.0, is.1, refl) in
-    let same = same_chosen output is.0 there.0 (sym there.2) in (
+    let same = same_chosen up is.0 there.0 (sym there.2) in (
       read.1.0,
       (read.0, read.1.1),
-      (there.0, there.1, same_shown output.form output head (chosen output is.0) (chosen output there.0) text refl shows same is.2, is.3 ∙ ap (nat_lt 0) (same_length (chosen output is.0) (chosen output there.0) same)),
+      (there.0, there.1, same_shown output.form up head (chosen up is.0) (chosen up there.0) text refl shows same is.2, is.3 ∙ ap (nat_lt 0) (same_length (chosen up is.0) (chosen up there.0) same)),
     )
 
 shows_by_values : (output : Output) (bytes : List ℕ) (queries : List Query) (value : Data) (path : JsonPath) → IsIn (path_tree path) queries → IsReadIn false bytes queries value → ShowsAs output bytes value path
-shows_by_values output bytes queries value path asked read = λ F head text any is.
+shows_by_values output bytes queries value path asked read = λ F most head text any is.
     (read.1.0, (read.0, read.1.1), (is.0, (read.1.2 (with_rule_of path F) (path_tree path) is.0 asked).1 is.1, is.2, is.3))
 
 -- what a path shows of what was read for it, it shows of the document

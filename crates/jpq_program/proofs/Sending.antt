@@ -1,9 +1,10 @@
 -- What is sent of inputs, one after the other.
-use Rattle.jpq_program.proofs.Words.{◌≡◌, ◌∙◌, ◌+◌, ◌==◌, ◌<◌, ℕ, Bool, true, false, List, [], ◌∷◌, ◌++◌, None, Option, length, length-append, refl, sym, ap, subst, append-nil, append_assoc, arith, string_bytes, AreEach, AreKnown, Answered, Bor, IsInputShown, IsNamedShown, More, Next, get_or, get_or-map, length-map, map, suc, take, zero, IsLineShown, OnlyNotes, Sends, Shown, Streams, drop_through, Global, IfSome, Some, MatchBool, if◌then◌else◌, is_blank, lines_of, strip_last, take_through, with_byte, without_mark}
+use Rattle.jpq_program.proofs.Words.{◌≡◌, ◌∙◌, ◌+◌, ◌==◌, ◌<◌, ℕ, Bool, true, false, List, [], ◌∷◌, ◌++◌, None, Option, length, length-append, refl, sym, ap, subst, append-nil, append_assoc, arith, string_bytes, Answering, AreAnswersInPart, AskedPath, IsAnswerInPart, Output, JsonPath, builtin_functions, head_by, inl, shown_in_part_by, AreEach, AreInputsShown, AreKnown, Answered, Begins, Bor, IsInputShown, IsNamedShown, More, Next, get_or, get_or-map, length-map, map, suc, take, zero, IsLineShown, OnlyNotes, OnlyRefuses, Sends, Shown, Streams, drop_through, Global, IfSome, Some, MatchBool, if◌then◌else◌, is_blank, lines_of, strip_last, take_through, with_byte, without_mark}
 use Rattle.std.specs.Io.Buffered.{reader_buffer, reader_capacity, reader_inner, reader_remaining}
 use Rattle.std.specs.Io.KnownBytes.{prepend_known}
 use Rattle.std.specs.declared.io.buffered.BufReader.{BufReader}
-use Rattle.jpq_program.proofs.Shown.{answered_as, answered_further, answered_noted, mapped_further, none_answered}
+use Rattle.jpq_program.proofs.Nodes.{adds_nothing, split_mapped}
+use Rattle.jpq_program.proofs.Shown.{answered_as, answered_further, answered_noted, begun_as, begun_further, begun_still, answered_begun, answered_refused, each_nothing, each_rest, mapped_begun, mapped_further, none_answered, or_false}
 
 -- ---- the lines of a text
 
@@ -24,10 +25,37 @@ line_taken [] line later is drops some =
     absurd (omega (arith, none))
 line_taken (byte ∷ bytes) line later is drops some = first_line byte bytes ∙ ap (λ (l : List ℕ). l ∷ lines_of (drop_through 10 (byte ∷ bytes))) (sym is) ∙ ap (λ (l : List ℕ). line ∷ lines_of l) (sym drops)
 
+-- a blank line has none, so nothing is shown of it
+blank_shown : (Is : Shown) (name : List ℕ) (number : ℕ) (line text : List ℕ) (any : Bool) → is_blank line ≡ true → text ≡ [] → any ≡ false → IsLineShown Is name number line text any
+blank_shown Is name number line text any blank none not_any =
+    subst (λ (blank : Bool). MatchBool blank ((text ≡ []) × (any ≡ false)) (Is name number (without_mark (strip_last 10 line)) text any)) (sym blank) (none, not_any)
+
 -- a line that is not blank has a document
 pub line_shown : (Is : Shown) (name : List ℕ) (number : ℕ) (line bytes text : List ℕ) (any : Bool) → is_blank line ≡ false → bytes ≡ without_mark (strip_last 10 line) → Is name number bytes text any → IsLineShown Is name number line text any
 line_shown Is name number line bytes text any some same is =
     subst (λ (blank : Bool). MatchBool blank ((text ≡ []) × (any ≡ false)) (Is name number (without_mark (strip_last 10 line)) text any)) (sym some) (subst (λ (own : List ℕ). Is name number own text any) same is)
+
+-- ---- what may be shown of nothing
+
+-- of a document nothing may be shown, as where it is refused
+pub no_paths : (paths : List JsonPath) (output : Output) (head : ℕ → List ℕ) (bytes : List ℕ) → AreAnswersInPart builtin_functions paths output head bytes [] false
+no_paths paths output head bytes = each_nothing (λ number path. IsAnswerInPart builtin_functions path output (head number) bytes) paths (λ number path. inl (refl, refl)) 1
+
+pub no_answer : (answering : Answering) (name : List ℕ) (number : ℕ) (bytes : List ℕ) → shown_in_part_by answering name number bytes [] false
+no_answer answering name number bytes = no_paths (map (λ (path : AskedPath). path.path) answering.paths.now) answering.showing.output (head_by answering.heads name number) bytes
+
+-- of a blank line nothing is
+pub blank_sent : {W E : Type 0} (contents : W → Option (List ℕ)) (Is IsPart : Shown) (name : List ℕ) (number : ℕ) (line : List ℕ) (streams : Streams W E) → is_blank line ≡ true → streams.left ≡ None
+    → Answered contents (IsLineShown Is name number line) (IsLineShown IsPart name number line) streams streams
+blank_sent contents Is IsPart name number line streams blank left = record {
+  text = [];
+  any = false;
+  whole = λ right. (right, blank_shown Is name number line [] false blank refl refl);
+  part = blank_shown IsPart name number line [] false blank refl refl;
+  writes = adds_nothing (contents streams.out) (string_bytes streams.pending);
+  selected = or_false streams.outcome.selected;
+  left = left;
+}
 
 -- ---- what is known
 
@@ -49,32 +77,48 @@ starts_whole remaining reader input bytes inner empty capacity is =
 
 -- ---- lines that were sent
 
+-- of a line, an input or some inputs nothing may be shown
+pub no_line : (Is : Shown) (name : List ℕ) → ((number : ℕ) (bytes : List ℕ) → Is name number bytes [] false) → (number : ℕ) (line : List ℕ) → IsLineShown Is name number line [] false
+no_line Is name none number line = by_case (is_blank line) refl
+  where
+    by_case : (blank : Bool) → is_blank line ≡ blank → IsLineShown Is name number line [] false
+    by_case true is = blank_shown Is name number line [] false is refl refl
+    by_case false is = line_shown Is name number line (without_mark (strip_last 10 line)) [] false is refl (none number (without_mark (strip_last 10 line)))
+
+no_lines : (Is : Shown) (name : List ℕ) (lines : List (List ℕ)) → ((number : ℕ) (bytes : List ℕ) → Is name number bytes [] false) → (number : ℕ) → AreEach (IsLineShown Is name) number lines [] false
+no_lines Is name lines none = each_nothing (IsLineShown Is name) lines (no_line Is name none)
+
+pub no_input : (Is : Shown) (lines : Bool) (name bytes : List ℕ) → ((number : ℕ) (bytes : List ℕ) → Is name number bytes [] false) → IsInputShown Is lines name bytes [] false
+no_input Is true name bytes none = no_lines Is name (lines_of bytes) none 1
+no_input Is false name bytes none = none 1 (without_mark bytes)
+
 -- So many lines of a text were sent, and these bytes are left of it.
-pub record SentLines {W E : Type 0} (contents : W → Option (List ℕ)) (Is : Shown) (name bytes left : List ℕ) (count : ℕ) (before now : Streams W E) : Type 0 where
+pub record SentLines {W E : Type 0} (contents : W → Option (List ℕ)) (Is IsPart : Shown) (name bytes left : List ℕ) (count : ℕ) (before now : Streams W E) : Type 0 where
   pub done : List (List ℕ)
   pub many : length done ≡ count
   pub whole : lines_of bytes ≡ done ++ lines_of left
-  pub sent : Sends contents (AreEach (IsLineShown Is name) 1 done) before now
+  pub sent : Sends contents (AreEach (IsLineShown Is name) 1 done) (AreEach (IsLineShown IsPart name) 1 done) before now
 
 -- none was yet
-pub sent_none : {W E : Type 0} (contents : W → Option (List ℕ)) (Is : Shown) (name bytes : List ℕ) (streams : Streams W E) → streams.left ≡ None → streams.outcome.refused ≡ false → string_bytes streams.pending ≡ []
-    → SentLines contents Is name bytes bytes 0 streams streams
-sent_none contents Is name bytes streams left refused empty = record {
+pub sent_none : {W E : Type 0} (contents : W → Option (List ℕ)) (Is IsPart : Shown) (name bytes : List ℕ) (streams : Streams W E) → streams.left ≡ None → string_bytes streams.pending ≡ []
+    → SentLines contents Is IsPart name bytes bytes 0 streams streams
+sent_none contents Is IsPart name bytes streams left empty = record {
   done = [];
   many = refl;
   whole = refl;
-  sent = (none_answered contents (IsLineShown Is name) 1 streams left refused, empty);
+  sent = (none_answered contents (IsLineShown Is name) (IsLineShown IsPart name) 1 streams left, empty);
 }
 
 -- one more was
-pub sent_further : {W E : Type 0} (contents : W → Option (List ℕ)) (Is : Shown) (name bytes left line later : List ℕ) (count : ℕ) (before old now : Streams W E) → SentLines contents Is name bytes left count before old
-    → lines_of left ≡ line ∷ lines_of later → Sends contents (IsLineShown Is name (1 + count) line) old now → SentLines contents Is name bytes later (count + 1) before now
-sent_further contents Is name bytes left line later count before old now lines taken second = record {
+pub sent_further : {W E : Type 0} (contents : W → Option (List ℕ)) (Is IsPart : Shown) (name bytes left line later : List ℕ) (count : ℕ) (before old now : Streams W E) → SentLines contents Is IsPart name bytes left count before old
+    → lines_of left ≡ line ∷ lines_of later → Sends contents (IsLineShown Is name (1 + count) line) (IsLineShown IsPart name (1 + count) line) old now → SentLines contents Is IsPart name bytes later (count + 1) before now
+sent_further contents Is IsPart name bytes left line later count before old now lines taken second = record {
   done = lines.done ++ line ∷ [];
   many = length_more lines.done line ∙ ap (λ n. n + 1) lines.many;
   whole = lines.whole ∙ ap (λ (l : List (List ℕ)). lines.done ++ l) taken ∙ sym (append_assoc lines.done (line ∷ []) (lines_of later));
   sent = (
-    answered_further contents (IsLineShown Is name) 1 lines.done line before old now lines.sent.0 (subst (λ n. Answered contents (IsLineShown Is name n line) old now) (ap (λ n. 1 + n) (sym lines.many)) second.0),
+    answered_further contents (IsLineShown Is name) (IsLineShown IsPart name) 1 lines.done line before old now lines.sent.0
+        (subst (λ n. Answered contents (IsLineShown Is name n line) (IsLineShown IsPart name n line) old now) (ap (λ n. 1 + n) (sym lines.many)) second.0),
     second.1,
   );
 }
@@ -82,12 +126,46 @@ sent_further contents Is name bytes left line later count before old now lines t
     length_more : (lines : List (List ℕ)) (line : List ℕ) → length (lines ++ line ∷ []) ≡ length lines + 1
     length_more lines line = grind (arith, length-append)
 
+-- of one more a beginning is out
+pub sent_begun : {W E : Type 0} (contents : W → Option (List ℕ)) (Is IsPart : Shown) (name bytes left line later : List ℕ) (count : ℕ) (before old now : Streams W E) → ((number : ℕ) (bytes : List ℕ) → IsPart name number bytes [] false)
+    → SentLines contents Is IsPart name bytes left count before old → lines_of left ≡ line ∷ lines_of later → Begins contents (IsLineShown IsPart name (1 + count) line) old now
+    → Begins contents (AreEach (IsLineShown IsPart name) 1 (lines_of bytes)) before now
+sent_begun contents Is IsPart name bytes left line later count before old now none lines taken begun =
+    subst (λ (all : List (List ℕ)). Begins contents (AreEach (IsLineShown IsPart name) 1 all) before now) (sym (lines.whole ∙ ap (λ (l : List (List ℕ)). lines.done ++ l) taken))
+    (begun_further contents (IsLineShown Is name) (IsLineShown IsPart name) 1 lines.done line (lines_of later) before old now (no_lines IsPart name (lines_of later) none) lines.sent.0
+    (subst (λ n. Begins contents (IsLineShown IsPart name n line) old now) (ap (λ n. 1 + n) (sym lines.many)) begun))
+
+-- of those that are left nothing is shown
+pub sent_part : {W E : Type 0} (contents : W → Option (List ℕ)) (Is IsPart : Shown) (name bytes left : List ℕ) (count : ℕ) (before now : Streams W E) → ((number : ℕ) (bytes : List ℕ) → IsPart name number bytes [] false)
+    → (lines : SentLines contents Is IsPart name bytes left count before now) → Answered contents (AreEach (IsLineShown Is name) 1 lines.done) (AreEach (IsLineShown IsPart name) 1 (lines_of bytes)) before now
+sent_part contents Is IsPart name bytes left count before now none lines =
+    answered_as contents (AreEach (IsLineShown Is name) 1 lines.done) (AreEach (IsLineShown IsPart name) 1 lines.done) (AreEach (IsLineShown Is name) 1 lines.done) (AreEach (IsLineShown IsPart name) 1 (lines_of bytes)) before now (λ text any is. is)
+    (λ text any part. subst (λ (all : List (List ℕ)). AreEach (IsLineShown IsPart name) 1 all text any) (sym lines.whole) (each_rest (IsLineShown IsPart name) 1 lines.done (lines_of left) text any (no_lines IsPart name (lines_of left) none) part)) lines.sent.0
+
+-- of so many lines, and nothing after them, a beginning is out
+pub lines_begun : {W E : Type 0} (contents : W → Option (List ℕ)) (Is IsPart : Shown) (name bytes left : List ℕ) (count : ℕ) (before old now : Streams W E) → ((number : ℕ) (bytes : List ℕ) → IsPart name number bytes [] false)
+    → SentLines contents Is IsPart name bytes left count before old → now.out ≡ old.out → Begins contents (AreEach (IsLineShown IsPart name) 1 (lines_of bytes)) before now
+lines_begun contents Is IsPart name bytes left count before old now none lines same =
+    let all = AreEach (IsLineShown IsPart name) 1 (lines_of bytes) in
+    begun_still contents all before old now (answered_begun contents (AreEach (IsLineShown Is name) 1 lines.done) all before old (sent_part contents Is IsPart name bytes left count before old none lines)) same
+
+-- the rest was refused
+pub lines_refused : {W E : Type 0} (contents : W → Option (List ℕ)) (Is IsPart : Shown) (name bytes left : List ℕ) (count : ℕ) (before old now : Streams W E) → ((number : ℕ) (bytes : List ℕ) → IsPart name number bytes [] false)
+    → SentLines contents Is IsPart name bytes left count before old → OnlyRefuses old now → now.outcome.refused ≡ true
+    → Sends contents (AreEach (IsLineShown Is name) 1 (lines_of bytes)) (AreEach (IsLineShown IsPart name) 1 (lines_of bytes)) before now
+lines_refused {W} {E} contents Is IsPart name bytes left count before old now none lines kept refused = (
+  answered_refused contents (AreEach (IsLineShown Is name) 1 lines.done) (AreEach (IsLineShown IsPart name) 1 (lines_of bytes)) (AreEach (IsLineShown Is name) 1 (lines_of bytes)) before old now
+      (sent_part contents Is IsPart name bytes left count before old none lines) kept refused,
+  ap (λ (s : Streams W E). string_bytes s.pending) kept ∙ lines.sent.1,
+)
+
 -- all were, where no byte is left
-pub sent_all : {W E : Type 0} (contents : W → Option (List ℕ)) (Is : Shown) (name bytes left : List ℕ) (count : ℕ) (before old now : Streams W E) → SentLines contents Is name bytes left count before old → left ≡ [] → OnlyNotes old now
-    → Sends contents (AreEach (IsLineShown Is name) 1 (lines_of bytes)) before now
-sent_all {W} {E} contents Is name bytes left count before old now lines none kept =
+pub sent_all : {W E : Type 0} (contents : W → Option (List ℕ)) (Is IsPart : Shown) (name bytes left : List ℕ) (count : ℕ) (before old now : Streams W E) → SentLines contents Is IsPart name bytes left count before old → left ≡ [] → OnlyNotes old now
+    → Sends contents (AreEach (IsLineShown Is name) 1 (lines_of bytes)) (AreEach (IsLineShown IsPart name) 1 (lines_of bytes)) before now
+sent_all {W} {E} contents Is IsPart name bytes left count before old now lines none kept =
     let all : lines.done ≡ lines_of bytes = sym (lines.whole ∙ ap (λ (l : List ℕ). lines.done ++ lines_of l) none ∙ append-nil lines.done) in (
-      subst (λ (some : List (List ℕ)). Answered contents (AreEach (IsLineShown Is name) 1 some) before now) all (answered_noted contents (AreEach (IsLineShown Is name) 1 lines.done) before old now lines.sent.0 kept),
+      subst (λ (some : List (List ℕ)). Answered contents (AreEach (IsLineShown Is name) 1 some) (AreEach (IsLineShown IsPart name) 1 some) before now) all
+          (answered_noted contents (AreEach (IsLineShown Is name) 1 lines.done) (AreEach (IsLineShown IsPart name) 1 lines.done) before old now lines.sent.0 kept),
       ap (λ (s : Streams W E). string_bytes s.pending) kept ∙ lines.sent.1,
     )
 
@@ -98,18 +176,61 @@ same_item [] index one other within = absurd (omega (arith, within))
 same_item (item ∷ items) zero one other within = refl
 same_item (item ∷ items) (suc index) one other within = same_item items index one other (omega (arith, within))
 
--- another input was sent, of which the bytes are known
-pub input_sent : {W E : Type 0} (contents : W → Option (List ℕ)) (Is : Shown) (lines : Bool) (bytes_of bytes_now : List ℕ → Option (List ℕ)) (names : List (Bor (List ℕ))) (index : ℕ) (none : Bor (List ℕ)) (next : Next) (before old now : Streams W E)
-    → index < length names → ((name : List ℕ) → bytes_now name ≡ bytes_of name) → AreKnown bytes_of (map (λ (name : Bor (List ℕ)). name.now) names)
-    → IfSome (bytes_now (get_or names index none).now) (λ bytes. (next ≡ More) × Sends contents (IsInputShown Is lines (get_or names index none).now bytes) old now)
-    → Answered contents (AreEach (λ (number : ℕ) (name : List ℕ). IsNamedShown Is lines bytes_of name) 1 (map (λ (name : Bor (List ℕ)). name.now) (take index names))) before old
-    → (next ≡ More) × Sends contents (AreEach (λ (number : ℕ) (name : List ℕ). IsNamedShown Is lines bytes_of name) 1 (map (λ (name : Bor (List ℕ)). name.now) (take (index + 1) names))) before now
-input_sent contents Is lines bytes_of bytes_now names index none next before old now within same known shown first =
+-- an input of a list, of which the bytes are known
+pub known_input : (bytes_of bytes_now : List ℕ → Option (List ℕ)) (names : List (Bor (List ℕ))) (index : ℕ) (none : Bor (List ℕ)) → index < length names → ((name : List ℕ) → bytes_now name ≡ bytes_of name)
+    → AreKnown bytes_of (map (λ (name : Bor (List ℕ)). name.now) names) → (bytes : List ℕ) × (bytes_of (get_or names index none).now ≡ Some bytes) × (bytes_now (get_or names index none).now ≡ Some bytes)
+known_input bytes_of bytes_now names index none within same known =
     let name = (get_or names index none).now in
     let here = known index (subst (λ n. index < n) (sym (length-map names (λ (name : Bor (List ℕ)). name.now))) within) in
     let is : bytes_of name ≡ Some here.0 = ap bytes_of (sym (get_or-map (λ (name : Bor (List ℕ)). name.now) names index none [] within)) ∙ here.1 in
-    let sent = known_at (λ (bytes : List ℕ). (next ≡ More) × Sends contents (IsInputShown Is lines name bytes) old now) (bytes_now name) here.0 (same name ∙ is) shown in
-    let own = answered_as contents (IsInputShown Is lines name here.0) (IsNamedShown Is lines bytes_of name) old now (λ text any shown. (here.0, is, shown)) sent.1.0 in (
+    (here.0, is, same name ∙ is)
+
+-- of the inputs that are left nothing is shown
+pub no_named : (Is : Shown) (lines : Bool) (bytes_of : List ℕ → Option (List ℕ)) (names : List (List ℕ)) → ((name : List ℕ) (number : ℕ) (bytes : List ℕ) → Is name number bytes [] false) → AreKnown bytes_of names
+    → (number : ℕ) → AreEach (λ (number : ℕ) (name : List ℕ). IsNamedShown Is lines bytes_of name) number names [] false
+no_named Is lines bytes_of [] none known number = (refl, refl)
+no_named Is lines bytes_of (name ∷ names) none known number =
+    let here = known 0 (omega arith) in
+    ([], [], false, false, (here.0, here.1, no_input Is lines name here.0 (none name)), no_named Is lines bytes_of names none (λ i within. known (suc i) (omega (arith, within))) (number + 1), refl, refl)
+
+known_rest : (bytes_of : List ℕ → Option (List ℕ)) (first rest : List (List ℕ)) → AreKnown bytes_of (first ++ rest) → AreKnown bytes_of rest
+known_rest bytes_of [] rest known = known
+known_rest bytes_of (name ∷ names) rest known = known_rest bytes_of names rest (λ i within. known (suc i) (omega (arith, within)))
+
+-- of another input a beginning is out
+pub input_begun : {W E : Type 0} (contents : W → Option (List ℕ)) (Is IsPart : Shown) (lines : Bool) (bytes_of bytes_now : List ℕ → Option (List ℕ)) (names : List (Bor (List ℕ))) (index : ℕ) (none : Bor (List ℕ)) (before old now : Streams W E)
+    → ((name : List ℕ) (number : ℕ) (bytes : List ℕ) → IsPart name number bytes [] false)
+    → index < length names → ((name : List ℕ) → bytes_now name ≡ bytes_of name) → AreKnown bytes_of (map (λ (name : Bor (List ℕ)). name.now) names)
+    → IfSome (bytes_now (get_or names index none).now) (λ bytes. Begins contents (IsInputShown IsPart lines (get_or names index none).now bytes) old now)
+    → Answered contents (AreInputsShown Is lines bytes_of (map (λ (name : Bor (List ℕ)). name.now) (take index names))) (AreInputsShown IsPart lines bytes_of (map (λ (name : Bor (List ℕ)). name.now) (take index names))) before old
+    → Begins contents (AreInputsShown IsPart lines bytes_of (map (λ (name : Bor (List ℕ)). name.now) names)) before now
+input_begun contents Is IsPart lines bytes_of bytes_now names index none before old now nothing within same known begun first =
+    let name = get_or names index none in
+    let is = same_item names index none name within in
+    let here = known_input bytes_of bytes_now names index none within same known in
+    let own = begun_as contents (IsInputShown IsPart lines name.now here.0) (IsNamedShown IsPart lines bytes_of name.now) old now (λ text any shown. (here.0, here.1, shown))
+    (known_at (λ (bytes : List ℕ). Begins contents (IsInputShown IsPart lines name.now bytes) old now) (bytes_now name.now) here.0 here.2 begun) in
+    let split = split_mapped (λ (name : Bor (List ℕ)). name.now) names index name within is in
+    let rest = known_rest bytes_of (name.now ∷ []) _ (known_rest bytes_of (map (λ (name : Bor (List ℕ)). name.now) (take index names)) _ (subst (AreKnown bytes_of) split known)) in
+    mapped_begun contents (λ (number : ℕ) (name : List ℕ). IsNamedShown Is lines bytes_of name) (λ (number : ℕ) (name : List ℕ). IsNamedShown IsPart lines bytes_of name) (λ (name : Bor (List ℕ)). name.now)
+    names index name before old now (no_named IsPart lines bytes_of _ nothing rest) within is first own
+
+-- another input was sent
+pub input_sent : {W E : Type 0} (contents : W → Option (List ℕ)) (Is IsPart : Shown) (lines : Bool) (bytes_of bytes_now : List ℕ → Option (List ℕ)) (names : List (Bor (List ℕ))) (index : ℕ) (none : Bor (List ℕ)) (next : Next) (before old now : Streams W E)
+    → index < length names → ((name : List ℕ) → bytes_now name ≡ bytes_of name) → AreKnown bytes_of (map (λ (name : Bor (List ℕ)). name.now) names)
+    → IfSome (bytes_now (get_or names index none).now) (λ bytes. (next ≡ More) × Sends contents (IsInputShown Is lines (get_or names index none).now bytes) (IsInputShown IsPart lines (get_or names index none).now bytes) old now)
+    → Answered contents (AreInputsShown Is lines bytes_of (map (λ (name : Bor (List ℕ)). name.now) (take index names))) (AreInputsShown IsPart lines bytes_of (map (λ (name : Bor (List ℕ)). name.now) (take index names))) before old
+    → (next ≡ More) × Sends contents (AreInputsShown Is lines bytes_of (map (λ (name : Bor (List ℕ)). name.now) (take (index + 1) names))) (AreInputsShown IsPart lines bytes_of (map (λ (name : Bor (List ℕ)). name.now) (take (index + 1) names))) before now
+input_sent contents Is IsPart lines bytes_of bytes_now names index none next before old now within same known shown first =
+    let name = (get_or names index none).now in
+    let here = known_input bytes_of bytes_now names index none within same known in
+    let sent = known_at (λ (bytes : List ℕ). (next ≡ More) × Sends contents (IsInputShown Is lines name bytes) (IsInputShown IsPart lines name bytes) old now) (bytes_now name) here.0 here.2 shown in
+    let own = answered_as contents (IsInputShown Is lines name here.0) (IsInputShown IsPart lines name here.0) (IsNamedShown Is lines bytes_of name) (IsNamedShown IsPart lines bytes_of name) old now
+    (λ text any shown. (here.0, here.1, shown)) (λ text any shown. (here.0, here.1, shown)) sent.1.0 in (
       sent.0,
-      (mapped_further contents (λ (number : ℕ) (name : List ℕ). IsNamedShown Is lines bytes_of name) (λ (name : Bor (List ℕ)). name.now) names index (get_or names index none) before old now within (same_item names index none (get_or names index none) within) first own, sent.1.1),
+      (
+        mapped_further contents (λ (number : ℕ) (name : List ℕ). IsNamedShown Is lines bytes_of name) (λ (number : ℕ) (name : List ℕ). IsNamedShown IsPart lines bytes_of name) (λ (name : Bor (List ℕ)). name.now)
+            names index (get_or names index none) before old now within (same_item names index none (get_or names index none) within) first own,
+        sent.1.1,
+      ),
     )

@@ -1,6 +1,6 @@
 -- What was written of a document is what its paths show.
-use Rattle.jpq_program.proofs.Words.{◌≡◌, ◌∙◌, ◌&&◌, ◌||◌, ℕ, Bool, true, false, List, Option, None, length, nat_lt, refl, sym, ap, subst, inl, inr, arith, common_steps, nat_tests, string_bytes, Located, Data, JsonPath, Selects, builtin_functions, path_tree, with_rule_of, AreLinesIn, IsLineOfEach, Form, Json, Count, Nothing, Output, chosen, once, up_to, Adds, Answered, FilledNodes, KeepsRest, FunctionSet, IsAnswer, IsAnswerOn, IsAsked, IsCountIn, AreEach, Counts, OnlyNotes, OnlyWrites, Writes, IfErr, IfOk, Ok, Err, OnOk, Result, Outcome, ShowsAs, Showing, Streams, String, Global, Written, has_counts, has_lines, is_array, is_plain, shows_lines, zero, [], ◌∷◌, ◌++◌, ◌+◌, suc, append-nil, append_assoc, get_or, length-map, length-take-le, map, take, take_all, ◌<◌, ◌≤◌}
-use Rattle.jpq_program.proofs.Nodes.{adds_both, adds_nothing, appends_nothing, further_mapped}
+use Rattle.jpq_program.proofs.Words.{◌≡◌, ◌∙◌, ◌&&◌, ◌||◌, ℕ, Bool, true, false, List, Option, None, length, nat_lt, refl, sym, ap, subst, inl, inr, arith, common_steps, nat_tests, string_bytes, Located, Data, JsonPath, Selects, builtin_functions, path_tree, with_rule_of, AreLinesIn, IsLineOfEach, Form, Json, Count, Nothing, Output, chosen, once, up_to, Adds, Answered, FilledNodes, KeepsRest, IsAnswer, IsAnswerInPart, IsAnswerOn, IsAsked, Answering, AnswersPath, AppendsBeginning, is_plain_answer, is_table, not, AreSelected, Begins, BeginsFirst, IfSome, OnlyRefuses, Some, TookFirst, drop, map-append, take-append-drop, take-append-le, true≢false, IsCountIn, AreEach, Counts, OnlyNotes, OnlyWrites, Writes, IfErr, IfOk, Ok, Err, OnOk, Result, Outcome, ShowsAs, Showing, Streams, String, Global, Written, has_counts, has_lines, is_array, is_plain, shows_lines, zero, [], ◌∷◌, ◌++◌, ◌+◌, suc, append-nil, append_assoc, get_or, length-map, length-take-le, map, take, take_all, ◌<◌, ◌≤◌}
+use Rattle.jpq_program.proofs.Nodes.{adds_begun, adds_both, adds_nothing, appends_nothing, begun_after, further_mapped, none_begun, split_mapped, took_few}
 
 lines_in : (form : Form) (output : Output) (head : List ℕ) (ns : List Located) (text : List ℕ) → has_lines form ≡ true → IsLineOfEach output head ns text → AreLinesIn form output head ns text
 lines_in Json output head ns text has h = absurd cc
@@ -10,6 +10,9 @@ lines_in _ output head ns text has h = h
 
 second : (a b : Bool) → (a && b) ≡ true → b ≡ true
 second a b h = grind (arith, nat_tests, common_steps)
+
+pub or_false : (b : Bool) → b ≡ (b || false)
+or_false b = grind (arith, nat_tests, common_steps)
 
 -- where nothing is refused after it, nothing was before
 pub was_right : {W E : Type 0} (after : Written W E) (kept : Streams W E) (before : Written W E) → KeepsRest before after
@@ -22,10 +25,10 @@ pub was_right : {W E : Type 0} (after : Written W E) (kept : Streams W E) (befor
 was_right {W} {E} after kept before rest is refused = sym (ap (λ (o : Outcome). o.refused) rest.outcome) ∙ sym (ap (λ (s : Streams W E). s.outcome.refused) is) ∙ refused
 
 -- what a path shows of the value that is asked, it shows of the document
-pub shown_of_asked : (output : Output) (bytes : List ℕ) (value asked : Data) (path : JsonPath) (F : FunctionSet) (head text : List ℕ) (any : Bool) → ShowsAs output bytes value path → IsAsked bytes value asked
-    → IsAnswer F path output head asked text any → IsAnswerOn F path output head bytes text any
-shown_of_asked output bytes value asked path F head text any shows (inl same) is = shows F head text any (subst (λ (d : Data). IsAnswer F path output head d text any) same is)
-shown_of_asked output bytes value asked path F head text any shows (inr reads) is = (asked, reads, is)
+shown_of_asked : (output : Output) (bytes : List ℕ) (value asked : Data) (path : JsonPath) (most : Option ℕ) (head text : List ℕ) (any : Bool) → ShowsAs output bytes value path → IsAsked bytes value asked
+    → IsAnswer builtin_functions path (record output { most = most }) head asked text any → IsAnswerOn builtin_functions path (record output { most = most }) head bytes text any
+shown_of_asked output bytes value asked path most head text any shows (inl same) is = shows builtin_functions most head text any (subst (λ (d : Data). IsAnswer builtin_functions path (record output { most = most }) head d text any) same is)
+shown_of_asked output bytes value asked path most head text any shows (inr reads) is = (asked, reads, is)
 
 -- a path was answered: the lines of its result were written
 pub path_answered : {W E : Type 0} (contents : W → Option (List ℕ)) (path : JsonPath) (bytes : List ℕ) (value asked : Data) (before after : Written W E) (kept : Streams W E) (nodes : List Located)
@@ -37,27 +40,93 @@ pub path_answered : {W E : Type 0} (contents : W → Option (List ℕ)) (path : 
       left = kept.left;
       total = kept.total;
     }
-    → kept.left ≡ None → kept.outcome.refused ≡ false
-    → Answered contents (IsAnswerOn builtin_functions path before.showing.now.output before.head.now bytes) before.streams.now kept
-path_answered {W} {E} contents path bytes value asked before after kept nodes none stopped limit shows of selects filled plain is left refused =
+    → kept.left ≡ None
+    → AnswersPath contents path before.showing.now.output before.head.now bytes before.streams.now kept
+path_answered {W} {E} contents path bytes value asked before after kept nodes none stopped limit shows of selects filled plain is left =
     let output = before.showing.now.output in
     let shown = once output.unique nodes in
     let these : up_to before.limit shown ≡ chosen output nodes = ap (λ l. up_to l shown) limit in
     let lines = filled.lines none stopped plain in
     let line_of_each : IsLineOfEach output before.head.now (chosen output nodes) lines.0 = subst (λ ns. IsLineOfEach output before.head.now ns lines.0) these lines.1 in
     let any = nat_lt 0 (length (chosen output nodes)) in
+    let answer : IsAnswerOn builtin_functions path output before.head.now bytes lines.0 any = shown_of_asked output bytes value asked path output.most before.head.now lines.0 any shows of
+    (nodes, selects, lines_in output.form output before.head.now (chosen output nodes) lines.0 (second (is_plain before.showing.now) (has_lines output.form) plain) line_of_each, refl) in
     record {
       text = lines.0;
       any = any;
-      is = shown_of_asked output bytes value asked path builtin_functions before.head.now lines.0 any shows of (nodes, selects, lines_in output.form output before.head.now (chosen output nodes) lines.0 (second (is_plain before.showing.now) (has_lines output.form) plain) line_of_each, refl);
+      whole = λ refused. (was_right after kept before filled.rest is refused, answer);
+      part = inr (inl answer);
       writes = subst (λ out. Adds (contents before.streams.now.out) (string_bytes before.streams.now.pending) (contents out) (string_bytes kept.pending) lines.0) (sym (ap (λ (s : Streams W E). s.out) is))
           (subst (λ pending. Adds (contents before.streams.now.out) (string_bytes before.streams.now.pending) (contents after.streams.now.out) (string_bytes pending) lines.0) (sym (ap (λ (s : Streams W E). s.pending) is)) lines.2);
       selected = ap (λ (s : Streams W E). s.outcome.selected) is
           ∙ ap (λ (o : Outcome). o.selected || nat_lt 0 after.count) filled.rest.outcome
           ∙ ap (λ count. before.streams.now.outcome.selected || nat_lt 0 count) (filled.count none stopped ∙ ap (λ (ns : List Located). length ns) these);
-      right = was_right after kept before filled.rest is refused;
       left = left;
     }
+
+-- ---- what is shown of the first nodes
+
+lines_of_most : (output : Output) (most : Option ℕ) (head : List ℕ) (ns : List Located) (text : List ℕ) → IsLineOfEach output head ns text → IsLineOfEach (record output { most = most }) head ns text
+lines_of_most output most head [] text are = are
+lines_of_most output most head (n ∷ ns) text are = (are.0, are.1, are.2, lines_of_most output most head ns are.1 are.3, are.4)
+
+no_first : (first others : List Located) → first ++ others ≡ [] → first ≡ []
+no_first [] others none = refl
+no_first (n ∷ ns) others none = absurd cc
+
+part_of_first : (output : Output) (head bytes : List ℕ) (value asked : Data) (path : JsonPath) (shown first others : List Located) (text : List ℕ) → has_lines output.form ≡ true → IfSome output.most (λ most. length first ≤ most)
+    → ShowsAs output bytes value path → IsAsked bytes value asked → AreSelected builtin_functions path output.unique asked shown → shown ≡ first ++ others → IsLineOfEach output head first text
+    → IsAnswerInPart builtin_functions path output head bytes text (nat_lt 0 (length first))
+part_of_first output head bytes value asked path shown first others text has few shows of (inl none) split are =
+    let empty : first ≡ [] = no_first first others (sym split ∙ none) in
+    inl (subst (λ ns. IsLineOfEach output head ns text) empty are, ap (λ (ns : List Located). nat_lt 0 (length ns)) empty)
+part_of_first output head bytes value asked path shown first others text has few shows of (inr selected) split are =
+    let nodes = selected.0 in
+    let most = Some (length first) in
+    let these : take (length first) (once output.unique nodes) ≡ first = ap (take (length first)) (sym selected.2 ∙ split) ∙ take-append-le (length first) first others (omega arith) ∙ take_all (length first) first (omega arith) in
+    let lines = subst (λ ns. IsLineOfEach (record output { most = most }) head ns text) (sym these) (lines_of_most output most head first text are) in
+    inr (inr (has, length first, few, shown_of_asked output bytes value asked path most head text (nat_lt 0 (length first)) shows of
+    (nodes, selected.1, lines_in output.form (record output { most = most }) head (take (length first) (once output.unique nodes)) text has lines, ap (λ (ns : List Located). nat_lt 0 (length ns)) (sym these))))
+
+-- a query was refused: the lines of its first nodes were written
+pub path_refused : {W E : Type 0} (contents : W → Option (List ℕ)) (path : JsonPath) (bytes : List ℕ) (value asked : Data) (before after : Written W E) (final : Streams W E) (shown : List Located)
+    → before.count ≡ 0 → before.limit ≡ before.showing.now.output.most → ShowsAs before.showing.now.output bytes value path → IsAsked bytes value asked
+    → AreSelected builtin_functions path before.showing.now.output.unique asked shown → TookFirst contents before shown after → shows_lines before.showing.now ≡ true
+    → final.out ≡ after.streams.now.out → string_bytes final.pending ≡ string_bytes after.streams.now.pending → final.outcome.selected ≡ (after.streams.now.outcome.selected || nat_lt 0 after.count) → final.outcome.refused ≡ true → final.left ≡ None
+    → AnswersPath contents path before.showing.now.output before.head.now bytes before.streams.now final
+path_refused {W} {E} contents path bytes value asked before after final shown none limit shows of selected took plain out pending counted refused left =
+    let output = before.showing.now.output in
+    let lines = took.took.lines plain in
+    let few = subst (λ l. IfSome l (λ most. length took.first ≤ most)) limit (took_few contents before after took.first took.took none) in
+    record {
+      text = lines.0;
+      any = nat_lt 0 (length took.first);
+      whole = λ right. absurd (true≢false (sym refused ∙ right));
+      part = part_of_first output before.head.now bytes value asked path shown took.first took.others lines.0 (second (is_plain before.showing.now) (has_lines output.form) plain) few shows of selected took.split lines.1;
+      writes = subst (λ (o : W). Adds (contents before.streams.now.out) (string_bytes before.streams.now.pending) (contents o) (string_bytes final.pending) lines.0) (sym out)
+          (subst (λ (p : List ℕ). Adds (contents before.streams.now.out) (string_bytes before.streams.now.pending) (contents after.streams.now.out) p lines.0) (sym pending) lines.2);
+      selected = counted ∙ ap (λ (o : Outcome). o.selected || nat_lt 0 after.count) took.took.rest.outcome
+          ∙ ap (λ count. before.streams.now.outcome.selected || nat_lt 0 count) (many after.count before.count (length took.first) took.took.count none);
+      left = left;
+    }
+  where
+    many : (count before more : ℕ) → count ≡ before + more → before ≡ 0 → count ≡ more
+    many count before more is none = grind arith
+
+-- of the lines of a path a beginning is out
+pub path_begun : {W E : Type 0} (contents : W → Option (List ℕ)) (path : JsonPath) (bytes : List ℕ) (value asked : Data) (before after : Written W E) (final : Streams W E) (shown : List Located)
+    → before.count ≡ 0 → before.limit ≡ before.showing.now.output.most → ShowsAs before.showing.now.output bytes value path → IsAsked bytes value asked
+    → AreSelected builtin_functions path before.showing.now.output.unique asked shown → BeginsFirst contents before shown after → shows_lines before.showing.now ≡ true → final.out ≡ after.streams.now.out
+    → Begins contents (IsAnswerInPart builtin_functions path before.showing.now.output before.head.now bytes) before.streams.now final
+path_begun {W} contents path bytes value asked before after final shown none limit shows of selected begins plain out =
+    let output = before.showing.now.output in
+    let lines = begins.begins.lines plain in
+    let few = subst (λ l. IfSome l (λ most. length begins.first ≤ most)) limit (begins.few none) in (
+      lines.0,
+      nat_lt 0 (length begins.first),
+      part_of_first output before.head.now bytes value asked path shown begins.first begins.others lines.0 (second (is_plain before.showing.now) (has_lines output.form) plain) few shows of selected begins.split lines.1,
+      subst (λ (o : W). AppendsBeginning (contents before.streams.now.out) (contents o) (string_bytes before.streams.now.pending ++ lines.0)) (sym out) lines.2,
+    )
 
 -- ---- counts
 
@@ -78,39 +147,95 @@ says_any _ ns count is = ap (nat_lt 0) is
 pub path_counted : {W E : Type 0} (contents : W → Option (List ℕ)) (path : JsonPath) (output : Output) (head bytes : List ℕ) (value asked : Data) (limit : Option ℕ) (empty appended : List ℕ) (count : ℕ) (before now : Streams W E)
     → limit ≡ output.most → empty ≡ [] → IsAsked bytes value asked → Counts builtin_functions path (record output { most = limit }) head asked empty appended count → ShowsAs output bytes value path
     → now.out ≡ before.out → string_bytes now.pending ≡ string_bytes before.pending ++ appended → now.outcome ≡ record before.outcome { selected = before.outcome.selected || nat_lt 0 count }
-    → now.left ≡ None → now.outcome.refused ≡ false → Answered contents (IsAnswerOn builtin_functions path output head bytes) before now
-path_counted {W} {E} contents path output head bytes value asked limit empty appended count before now most none of counts shows out pending outcome left refused =
+    → now.left ≡ None → AnswersPath contents path output head bytes before now
+path_counted {W} {E} contents path output head bytes value asked limit empty appended count before now most none of counts shows out pending outcome left =
     let shown = counts.0 in
     let is : appended ≡ shown = counts.2 ∙ ap (λ (e : List ℕ). e ++ shown) none in
+    let answer : IsAnswerOn builtin_functions path output head bytes shown (nat_lt 0 count) = shown_of_asked output bytes value asked path output.most head shown (nat_lt 0 count) shows of
+    (subst (λ (l : Option ℕ). IsAnswer builtin_functions path (record output { most = l }) head asked shown (nat_lt 0 count)) most counts.1) in
     record {
       text = shown;
       any = nat_lt 0 count;
-      is = shown_of_asked output bytes value asked path builtin_functions head shown (nat_lt 0 count) shows of
-          (subst (λ (l : Option ℕ). IsAnswer builtin_functions path (record output { most = l }) head asked shown (nat_lt 0 count)) most counts.1);
+      whole = λ refused. (sym (ap (λ (o : Outcome). o.refused) outcome) ∙ refused, answer);
+      part = inr (inl answer);
       writes = subst (λ (o : W). Adds (contents before.out) (string_bytes before.pending) (contents o) (string_bytes now.pending) shown) (sym out)
           ([], appends_nothing (contents before.out), ap (λ (t : List ℕ). string_bytes before.pending ++ t) (sym is) ∙ sym pending);
       selected = ap (λ (o : Outcome). o.selected) outcome;
-      right = sym (ap (λ (o : Outcome). o.refused) outcome) ∙ refused;
       left = left;
     }
 
--- ---- what was written of paths, and of another after them
+-- ---- what was refused
 
-pub or_false : (b : Bool) → b ≡ (b || false)
-or_false b = grind (arith, nat_tests, common_steps)
+-- something was refused, and nothing was written
+pub nothing_answered : {W E : Type 0} (contents : W → Option (List ℕ)) (Is IsPart : List ℕ → Bool → Type 0) (before now : Streams W E) → IsPart [] false → OnlyRefuses before now → now.outcome.refused ≡ true → now.left ≡ None
+    → Answered contents Is IsPart before now
+nothing_answered {W} {E} contents Is IsPart before now part kept refused left = record {
+  text = [];
+  any = false;
+  whole = λ right. absurd (true≢false (sym refused ∙ right));
+  part = part;
+  writes = subst (λ (o : W). Adds (contents before.out) (string_bytes before.pending) (contents o) (string_bytes now.pending) []) (sym (ap (λ (s : Streams W E). s.out) kept))
+      (subst (λ (p : String Global). Adds (contents before.out) (string_bytes before.pending) (contents before.out) (string_bytes p) []) (sym (ap (λ (s : Streams W E). s.pending) kept)) (adds_nothing (contents before.out) (string_bytes before.pending)));
+  selected = ap (λ (s : Streams W E). s.outcome.selected) kept ∙ or_false before.outcome.selected;
+  left = left;
+}
+
+-- nothing is out that was not before
+pub nothing_begun : {W E : Type 0} (contents : W → Option (List ℕ)) (IsPart : List ℕ → Bool → Type 0) (before now : Streams W E) → IsPart [] false → now.out ≡ before.out → Begins contents IsPart before now
+nothing_begun {W} contents IsPart before now part same =
+    ([], false, part, subst (λ (o : W). AppendsBeginning (contents before.out) (contents o) (string_bytes before.pending ++ [])) (sym same) (none_begun (contents before.out) (string_bytes before.pending ++ [])))
+
+-- of what was added a beginning is out
+pub answered_begun : {W E : Type 0} (contents : W → Option (List ℕ)) (Is IsPart : List ℕ → Bool → Type 0) (before now : Streams W E) → Answered contents Is IsPart before now → Begins contents IsPart before now
+answered_begun contents Is IsPart before now answered =
+    (answered.text, answered.any, answered.part, adds_begun (contents before.out) (contents now.out) (string_bytes before.pending) (string_bytes now.pending) answered.text answered.writes)
+
+-- what is out stayed so
+pub begun_still : {W E : Type 0} (contents : W → Option (List ℕ)) (IsPart : List ℕ → Bool → Type 0) (before old now : Streams W E) → Begins contents IsPart before old → now.out ≡ old.out → Begins contents IsPart before now
+begun_still {W} contents IsPart before old now begun same =
+    (begun.0, begun.1, begun.2, subst (λ (o : W). AppendsBeginning (contents before.out) (contents o) (string_bytes before.pending ++ begun.0)) (sym same) begun.3)
+
+-- the same text is also something else
+pub begun_as : {W E : Type 0} (contents : W → Option (List ℕ)) (IsPart Also : List ℕ → Bool → Type 0) (before now : Streams W E) → ((text : List ℕ) (any : Bool) → IsPart text any → Also text any) → Begins contents IsPart before now
+    → Begins contents Also before now
+begun_as contents IsPart Also before now step begun = (begun.0, begun.1, step begun.0 begun.1 begun.2, begun.3)
+
+-- nothing changed before that counts
+pub begun_since : {W E : Type 0} (contents : W → Option (List ℕ)) (IsPart : List ℕ → Bool → Type 0) (before start now : Streams W E) → start.out ≡ before.out → start.pending ≡ before.pending → Begins contents IsPart start now → Begins contents IsPart before now
+begun_since {W} contents IsPart before start now out pending begun = (
+  begun.0,
+  begun.1,
+  begun.2,
+  subst (λ (o : W). AppendsBeginning (contents o) (contents now.out) (string_bytes before.pending ++ begun.0)) out
+      (subst (λ (p : String Global). AppendsBeginning (contents start.out) (contents now.out) (string_bytes p ++ begun.0)) pending begun.3),
+)
+
+-- of what was added, and then written, a beginning is out
+pub written_begun : {W E : Type 0} (contents : W → Option (List ℕ)) (Is IsPart : List ℕ → Bool → Type 0) (before old now : Streams W E) → Answered contents Is IsPart before old → AppendsBeginning (contents old.out) (contents now.out) (string_bytes old.pending)
+    → Begins contents IsPart before now
+written_begun contents Is IsPart before old now answered begun = (
+  answered.text,
+  answered.any,
+  answered.part,
+  subst (AppendsBeginning (contents before.out) (contents now.out)) (ap (λ (t : List ℕ). string_bytes before.pending ++ t) (append-nil answered.text))
+      (begun_after (contents before.out) (contents old.out) (contents now.out) (string_bytes before.pending) (string_bytes old.pending) answered.text [] answered.writes
+      (subst (AppendsBeginning (contents old.out) (contents now.out)) (sym (append-nil (string_bytes old.pending))) begun)),
+)
+
+-- ---- what was written of paths, and of another after them
 
 pub or_assoc : (a b c : Bool) → ((a || b) || c) ≡ (a || (b || c))
 or_assoc a b c = grind (arith, nat_tests, common_steps)
 
-pub none_answered : {W E A : Type 0} (contents : W → Option (List ℕ)) (Is : ℕ → A → List ℕ → Bool → Type 0) (number : ℕ) (streams : Streams W E) → streams.left ≡ None → streams.outcome.refused ≡ false
-    → Answered contents (AreEach Is number []) streams streams
-none_answered contents Is number streams left refused = record {
+pub none_answered : {W E A : Type 0} (contents : W → Option (List ℕ)) (Is IsPart : ℕ → A → List ℕ → Bool → Type 0) (number : ℕ) (streams : Streams W E) → streams.left ≡ None
+    → Answered contents (AreEach Is number []) (AreEach IsPart number []) streams streams
+none_answered contents Is IsPart number streams left = record {
   text = [];
   any = false;
-  is = (refl, refl);
+  whole = λ right. (right, (refl, refl));
+  part = (refl, refl);
   writes = adds_nothing (contents streams.out) (string_bytes streams.pending);
   selected = or_false streams.outcome.selected;
-  right = refused;
   left = left;
 }
 
@@ -147,91 +272,161 @@ each_both Is number (first ∷ items) item text own any one are is = (
     shifted : (n k : ℕ) → n + suc k ≡ (n + 1) + k
     shifted n k = grind arith
 
+-- of each item nothing may be shown
+pub each_nothing : {A : Type 0} (Is : ℕ → A → List ℕ → Bool → Type 0) (items : List A) → ((number : ℕ) (item : A) → Is number item [] false) → (number : ℕ) → AreEach Is number items [] false
+each_nothing Is [] none number = (refl, refl)
+each_nothing Is (item ∷ items) none number = ([], [], false, false, none number item, each_nothing Is items none (number + 1), refl, refl)
+
+-- of some items after others nothing is shown
+pub each_rest : {A : Type 0} (Is : ℕ → A → List ℕ → Bool → Type 0) (number : ℕ) (items rest : List A) (text : List ℕ) (any : Bool) → ((number : ℕ) → AreEach Is number rest [] false) → AreEach Is number items text any
+    → AreEach Is number (items ++ rest) text any
+each_rest Is number [] rest text any none are = subst (λ (t : List ℕ). AreEach Is number rest t any) (sym are.0) (subst (AreEach Is number rest []) (sym are.1) (none number))
+each_rest Is number (item ∷ items) rest text any none are = (are.0, are.1, are.2, are.3, are.4, each_rest Is (number + 1) items rest are.1 are.3 none are.5, are.6, are.7)
+
 -- one more item was answered
-pub answered_further : {W E A : Type 0} (contents : W → Option (List ℕ)) (Is : ℕ → A → List ℕ → Bool → Type 0) (number : ℕ) (items : List A) (item : A) (before old now : Streams W E) → Answered contents (AreEach Is number items) before old
-    → Answered contents (Is (number + length items) item) old now → Answered contents (AreEach Is number (items ++ item ∷ [])) before now
-answered_further contents Is number items item before old now first second = record {
+pub answered_further : {W E A : Type 0} (contents : W → Option (List ℕ)) (Is IsPart : ℕ → A → List ℕ → Bool → Type 0) (number : ℕ) (items : List A) (item : A) (before old now : Streams W E)
+    → Answered contents (AreEach Is number items) (AreEach IsPart number items) before old → Answered contents (Is (number + length items) item) (IsPart (number + length items) item) old now
+    → Answered contents (AreEach Is number (items ++ item ∷ [])) (AreEach IsPart number (items ++ item ∷ [])) before now
+answered_further contents Is IsPart number items item before old now first second = record {
   text = first.text ++ second.text;
   any = first.any || second.any;
-  is = each_both Is number items item first.text second.text first.any second.any first.is second.is;
+  whole = λ right.
+      let own = second.whole right in
+      let earlier = first.whole own.0 in
+      (earlier.0, each_both Is number items item first.text second.text first.any second.any earlier.1 own.1);
+  part = each_both IsPart number items item first.text second.text first.any second.any first.part second.part;
   writes = adds_both (contents before.out) (contents old.out) (contents now.out) (string_bytes before.pending) (string_bytes old.pending) (string_bytes now.pending) first.text second.text first.writes second.writes;
   selected = second.selected ∙ ap (λ (b : Bool). b || second.any) first.selected ∙ or_assoc before.outcome.selected first.any second.any;
-  right = first.right;
   left = second.left;
 }
 
--- one more of what a function makes of some items was answered
-pub mapped_further : {W E A B : Type 0} (contents : W → Option (List ℕ)) (Is : ℕ → B → List ℕ → Bool → Type 0) (f : A → B) (items : List A) (index : ℕ) (item : A) (before old now : Streams W E)
-    → index < length items → item ≡ get_or items index item → Answered contents (AreEach Is 1 (map f (take index items))) before old → Answered contents (Is (index + 1) (f item)) old now
-    → Answered contents (AreEach Is 1 (map f (take (index + 1) items))) before now
-mapped_further {B = B} contents Is f items index item before old now within is first second =
-    let done = map f (take index items) in
-    let many : length done ≡ index = length-map (take index items) f ∙ length-take-le index items (omega (arith, within)) in
-    let number : index + 1 ≡ 1 + length done = plus_one index ∙ ap (λ n. 1 + n) (sym many) in
-    subst (λ (made : List B). Answered contents (AreEach Is 1 made) before now) (sym (further_mapped f items index item within is))
-    (answered_further contents Is 1 done (f item) before old now first (subst (λ n. Answered contents (Is n (f item)) old now) number second))
+-- of an item after those that were answered a beginning is out, and of the rest nothing
+pub begun_further : {W E A : Type 0} (contents : W → Option (List ℕ)) (Is IsPart : ℕ → A → List ℕ → Bool → Type 0) (number : ℕ) (items : List A) (item : A) (rest : List A) (before old now : Streams W E) → ((number : ℕ) → AreEach IsPart number rest [] false)
+    → Answered contents (AreEach Is number items) (AreEach IsPart number items) before old → Begins contents (IsPart (number + length items) item) old now → Begins contents (AreEach IsPart number (items ++ (item ∷ rest))) before now
+begun_further {A = A} contents Is IsPart number items item rest before old now none answered begun = (
+  answered.text ++ begun.0,
+  answered.any || begun.1,
+  subst (λ (all : List A). AreEach IsPart number all (answered.text ++ begun.0) (answered.any || begun.1)) (append_assoc items (item ∷ []) rest)
+      (each_rest IsPart number (items ++ item ∷ []) rest (answered.text ++ begun.0) (answered.any || begun.1) none (each_both IsPart number items item answered.text begun.0 answered.any begun.1 answered.part begun.2)),
+  begun_after (contents before.out) (contents old.out) (contents now.out) (string_bytes before.pending) (string_bytes old.pending) answered.text begun.0 answered.writes begun.3,
+)
+
+number_of : {A B : Type 0} (f : A → B) (items : List A) (index : ℕ) → index < length items → index + 1 ≡ 1 + length (map f (take index items))
+number_of f items index within = plus_one index ∙ ap (λ n. 1 + n) (sym (length-map (take index items) f ∙ length-take-le index items (omega (arith, within))))
   where
     plus_one : (n : ℕ) → n + 1 ≡ 1 + n
     plus_one n = grind arith
 
+-- one more of what a function makes of some items was answered
+pub mapped_further : {W E A B : Type 0} (contents : W → Option (List ℕ)) (Is IsPart : ℕ → B → List ℕ → Bool → Type 0) (f : A → B) (items : List A) (index : ℕ) (item : A) (before old now : Streams W E)
+    → index < length items → item ≡ get_or items index item → Answered contents (AreEach Is 1 (map f (take index items))) (AreEach IsPart 1 (map f (take index items))) before old
+    → Answered contents (Is (index + 1) (f item)) (IsPart (index + 1) (f item)) old now
+    → Answered contents (AreEach Is 1 (map f (take (index + 1) items))) (AreEach IsPart 1 (map f (take (index + 1) items))) before now
+mapped_further {B = B} contents Is IsPart f items index item before old now within is first second =
+    subst (λ (made : List B). Answered contents (AreEach Is 1 made) (AreEach IsPart 1 made) before now) (sym (further_mapped f items index item within is))
+    (answered_further contents Is IsPart 1 (map f (take index items)) (f item) before old now first (subst (λ n. Answered contents (Is n (f item)) (IsPart n (f item)) old now) (number_of f items index within) second))
+
+-- of one more a beginning is out
+pub mapped_begun : {W E A B : Type 0} (contents : W → Option (List ℕ)) (Is IsPart : ℕ → B → List ℕ → Bool → Type 0) (f : A → B) (items : List A) (index : ℕ) (item : A) (before old now : Streams W E) → ((number : ℕ) → AreEach IsPart number (map f (drop (suc index) items)) [] false)
+    → index < length items → item ≡ get_or items index item → Answered contents (AreEach Is 1 (map f (take index items))) (AreEach IsPart 1 (map f (take index items))) before old
+    → Begins contents (IsPart (index + 1) (f item)) old now → Begins contents (AreEach IsPart 1 (map f items)) before now
+mapped_begun {B = B} contents Is IsPart f items index item before old now none within is first begun =
+    subst (λ (all : List B). Begins contents (AreEach IsPart 1 all) before now) (sym (split_mapped f items index item within is))
+    (begun_further contents Is IsPart 1 (map f (take index items)) (f item) (map f (drop (suc index) items)) before old now none first (subst (λ n. Begins contents (IsPart n (f item)) old now) (number_of f items index within) begun))
+
+-- of those that are left nothing is shown
+pub rest_begun : {W E A B : Type 0} (contents : W → Option (List ℕ)) (Is IsPart : ℕ → B → List ℕ → Bool → Type 0) (f : A → B) (items : List A) (index : ℕ) (before now : Streams W E) → ((number : ℕ) (item : B) → IsPart number item [] false)
+    → Answered contents (AreEach Is 1 (map f (take index items))) (AreEach IsPart 1 (map f (take index items))) before now → Begins contents (AreEach IsPart 1 (map f items)) before now
+rest_begun {B = B} contents Is IsPart f items index before now none answered =
+    let begun = answered_begun contents (AreEach Is 1 (map f (take index items))) (AreEach IsPart 1 (map f (take index items))) before now answered in (
+      begun.0,
+      begun.1,
+      subst (λ (all : List B). AreEach IsPart 1 all begun.0 begun.1) (sym (ap (map f) (sym (take-append-drop index items)) ∙ map-append f (take index items) (drop index items)))
+          (each_rest IsPart 1 (map f (take index items)) (map f (drop index items)) begun.0 begun.1 (each_nothing IsPart (map f (drop index items)) none) begun.2),
+      begun.3,
+    )
+
 -- all were answered
-pub all_answered : {W E A B : Type 0} (contents : W → Option (List ℕ)) (Is : ℕ → B → List ℕ → Bool → Type 0) (f : A → B) (items : List A) (index : ℕ) (before now : Streams W E)
-    → length items ≤ index → Answered contents (AreEach Is 1 (map f (take index items))) before now → Answered contents (AreEach Is 1 (map f items)) before now
-all_answered {A = A} contents Is f items index before now done answered = subst (λ (some : List A). Answered contents (AreEach Is 1 (map f some)) before now) (take_all index items done) answered
+pub all_answered : {W E A B : Type 0} (contents : W → Option (List ℕ)) (Is IsPart : ℕ → B → List ℕ → Bool → Type 0) (f : A → B) (items : List A) (index : ℕ) (before now : Streams W E)
+    → length items ≤ index → Answered contents (AreEach Is 1 (map f (take index items))) (AreEach IsPart 1 (map f (take index items))) before now → Answered contents (AreEach Is 1 (map f items)) (AreEach IsPart 1 (map f items)) before now
+all_answered {A = A} contents Is IsPart f items index before now done answered = subst (λ (some : List A). Answered contents (AreEach Is 1 (map f some)) (AreEach IsPart 1 (map f some)) before now) (take_all index items done) answered
 
 -- what was pending went out
-pub answered_sent : {W E : Type 0} (contents : W → Option (List ℕ)) (Is : List ℕ → Bool → Type 0) (before old now : Streams W E) → Answered contents Is before old → OnlyWrites old now → Writes contents old now []
-    → Answered contents Is before now
-answered_sent {W} {E} contents Is before old now answered kept sent = record {
+pub answered_sent : {W E : Type 0} (contents : W → Option (List ℕ)) (Is IsPart : List ℕ → Bool → Type 0) (before old now : Streams W E) → Answered contents Is IsPart before old → OnlyWrites old now → Writes contents old now []
+    → Answered contents Is IsPart before now
+answered_sent {W} {E} contents Is IsPart before old now answered kept sent = record {
   text = answered.text;
   any = answered.any;
-  is = answered.is;
+  whole = λ right. answered.whole (sym (ap (λ (s : Streams W E). s.outcome.refused) kept) ∙ right);
+  part = answered.part;
   writes = subst (Adds (contents before.out) (string_bytes before.pending) (contents now.out) (string_bytes now.pending)) (append-nil answered.text)
       (adds_both (contents before.out) (contents old.out) (contents now.out) (string_bytes before.pending) (string_bytes old.pending) (string_bytes now.pending) answered.text [] answered.writes sent);
   selected = ap (λ (s : Streams W E). s.outcome.selected) kept ∙ answered.selected;
-  right = answered.right;
   left = ap (λ (s : Streams W E). s.left) kept ∙ answered.left;
 }
 
 -- the same text is also something else
-pub answered_as : {W E : Type 0} (contents : W → Option (List ℕ)) (Is Also : List ℕ → Bool → Type 0) (before now : Streams W E) → ((text : List ℕ) (any : Bool) → Is text any → Also text any) → Answered contents Is before now
-    → Answered contents Also before now
-answered_as contents Is Also before now step answered = record {
+pub answered_as : {W E : Type 0} (contents : W → Option (List ℕ)) (Is IsPart Also AlsoPart : List ℕ → Bool → Type 0) (before now : Streams W E) → ((text : List ℕ) (any : Bool) → Is text any → Also text any)
+    → ((text : List ℕ) (any : Bool) → IsPart text any → AlsoPart text any) → Answered contents Is IsPart before now → Answered contents Also AlsoPart before now
+answered_as contents Is IsPart Also AlsoPart before now step part answered = record {
   text = answered.text;
   any = answered.any;
-  is = step answered.text answered.any answered.is;
+  whole = λ right. let own = answered.whole right in (own.0, step answered.text answered.any own.1);
+  part = part answered.text answered.any answered.part;
   writes = answered.writes;
   selected = answered.selected;
-  right = answered.right;
   left = answered.left;
 }
 
 -- nothing changed before that counts
-pub answered_since : {W E : Type 0} (contents : W → Option (List ℕ)) (Is : List ℕ → Bool → Type 0) (before start now : Streams W E) → start.out ≡ before.out → start.pending ≡ before.pending → start.outcome ≡ before.outcome
-    → Answered contents Is start now → Answered contents Is before now
-answered_since {W} {E} contents Is before start now out pending outcome answered = record {
+pub answered_since : {W E : Type 0} (contents : W → Option (List ℕ)) (Is IsPart : List ℕ → Bool → Type 0) (before start now : Streams W E) → start.out ≡ before.out → start.pending ≡ before.pending → start.outcome ≡ before.outcome
+    → Answered contents Is IsPart start now → Answered contents Is IsPart before now
+answered_since {W} {E} contents Is IsPart before start now out pending outcome answered = record {
   text = answered.text;
   any = answered.any;
-  is = answered.is;
+  whole = λ right. let own = answered.whole right in (sym (ap (λ (o : Outcome). o.refused) outcome) ∙ own.0, own.1);
+  part = answered.part;
   writes = subst (λ (o : W). Adds (contents o) (string_bytes before.pending) (contents now.out) (string_bytes now.pending) answered.text) out
       (subst (λ (p : String Global). Adds (contents start.out) (string_bytes p) (contents now.out) (string_bytes now.pending) answered.text) pending answered.writes);
   selected = answered.selected ∙ ap (λ (o : Outcome). o.selected || answered.any) outcome;
-  right = sym (ap (λ (o : Outcome). o.refused) outcome) ∙ answered.right;
   left = answered.left;
 }
 
--- something was noted
-pub answered_noted : {W E : Type 0} (contents : W → Option (List ℕ)) (Is : List ℕ → Bool → Type 0) (before old now : Streams W E) → Answered contents Is before old → OnlyNotes old now → Answered contents Is before now
-answered_noted {W} {E} contents Is before old now answered kept = record {
+-- nothing changed after it that counts, but that something may be refused
+pub answered_still : {W E : Type 0} (contents : W → Option (List ℕ)) (Is IsPart : List ℕ → Bool → Type 0) (before old now : Streams W E) → Answered contents Is IsPart before old → now.out ≡ old.out → now.pending ≡ old.pending
+    → now.outcome.selected ≡ old.outcome.selected → (now.outcome.refused ≡ false → old.outcome.refused ≡ false) → now.left ≡ old.left → Answered contents Is IsPart before now
+answered_still {W} {E} contents Is IsPart before old now answered out pending selected right left = record {
   text = answered.text;
   any = answered.any;
-  is = answered.is;
-  writes = subst (λ (o : W). Adds (contents before.out) (string_bytes before.pending) (contents o) (string_bytes now.pending) answered.text) (sym (ap (λ (s : Streams W E). s.out) kept))
-      (subst (λ (p : String Global). Adds (contents before.out) (string_bytes before.pending) (contents old.out) (string_bytes p) answered.text) (sym (ap (λ (s : Streams W E). s.pending) kept)) answered.writes);
-  selected = ap (λ (s : Streams W E). s.outcome.selected) kept ∙ answered.selected;
-  right = answered.right;
-  left = ap (λ (s : Streams W E). s.left) kept ∙ answered.left;
+  whole = λ still. answered.whole (right still);
+  part = answered.part;
+  writes = subst (λ (o : W). Adds (contents before.out) (string_bytes before.pending) (contents o) (string_bytes now.pending) answered.text) (sym out)
+      (subst (λ (p : String Global). Adds (contents before.out) (string_bytes before.pending) (contents old.out) (string_bytes p) answered.text) (sym pending) answered.writes);
+  selected = selected ∙ answered.selected;
+  left = left ∙ answered.left;
 }
+
+-- something was refused
+pub answered_refused : {W E : Type 0} (contents : W → Option (List ℕ)) (Is IsPart Other : List ℕ → Bool → Type 0) (before old now : Streams W E) → Answered contents Is IsPart before old → OnlyRefuses old now → now.outcome.refused ≡ true
+    → Answered contents Other IsPart before now
+answered_refused {W} {E} contents Is IsPart Other before old now answered kept refused = record {
+  text = still.text;
+  any = still.any;
+  whole = λ right. absurd (true≢false (sym refused ∙ right));
+  part = still.part;
+  writes = still.writes;
+  selected = still.selected;
+  left = still.left;
+}
+  where
+    still : Answered contents Is IsPart before now
+    still = answered_still contents Is IsPart before old now answered (ap (λ (s : Streams W E). s.out) kept) (ap (λ (s : Streams W E). s.pending) kept) (ap (λ (s : Streams W E). s.outcome.selected) kept)
+        (λ right. absurd (true≢false (sym refused ∙ right))) (ap (λ (s : Streams W E). s.left) kept)
+
+-- something was noted
+pub answered_noted : {W E : Type 0} (contents : W → Option (List ℕ)) (Is IsPart : List ℕ → Bool → Type 0) (before old now : Streams W E) → Answered contents Is IsPart before old → OnlyNotes old now → Answered contents Is IsPart before now
+answered_noted {W} {E} contents Is IsPart before old now answered kept = answered_still contents Is IsPart before old now answered (ap (λ (s : Streams W E). s.out) kept) (ap (λ (s : Streams W E). s.pending) kept)
+    (ap (λ (s : Streams W E). s.outcome.selected) kept) (λ right. sym (ap (λ (s : Streams W E). s.outcome.refused) kept) ∙ right) (ap (λ (s : Streams W E). s.left) kept)
 
 -- nodes that are shown in lines are shown in no array, and neither are those that are counted
 pub no_array : (showing : Showing) → shows_lines showing ≡ true → is_array showing.output.form ≡ false
@@ -245,10 +440,22 @@ pub counts_no_array : (form : Form) → has_counts form ≡ true → is_array fo
 counts_no_array Json has = absurd cc
 counts_no_array _ has = refl
 
+-- nodes that are not counted, in an answer that is plain, are shown in lines
+pub plain_lines : (answering : Answering) → is_plain_answer answering ≡ true → has_counts answering.showing.output.form ≡ false → shows_lines answering.showing ≡ true
+plain_lines answering plain none = first_of (not (is_table answering.shown)) (shows_lines answering.showing) (has_counts answering.showing.output.form) (not answering.total) plain none
+  where
+    first_of : (a b c d : Bool) → (a && (b || (c && d))) ≡ true → c ≡ false → b ≡ true
+    first_of a b c d h none = grind (arith, nat_tests, common_steps)
+
 -- two facts of a call that went well
 pub if_both : {A E : Type 0} (r : Result A E) (P Q R : Type 0) → OnOk r P → OnOk r Q → (P → Q → R) → OnOk r R
 if_both (Ok x) P Q R p q step = step p q
 if_both (Err e) P Q R p q step = tt
+
+-- what follows where a call goes well
+pub on_ok_then : {A E : Type 0} (r : Result A E) (P : Type 0) (Q : A → Type 0) → OnOk r P → (P → (x : A) → Q x) → IfOk r Q
+on_ok_then (Ok x) P Q p step = step p x
+on_ok_then (Err e) P Q p step = tt
 
 -- what is so of each error
 pub of_any_error : {A E : Type 0} (r : Result A E) (P : E → Type 0) → ((e : E) → P e) → IfErr r P

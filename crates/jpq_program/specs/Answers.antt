@@ -1,5 +1,5 @@
 -- What is shown of a document for paths.
-use Rattle.std.specs.Prelude.{◌≡◌, ◌+◌, ◌||◌, nat_lt, ℕ, Bool, false, List, [], ◌∷◌, ◌++◌, length}
+use Rattle.std.specs.Prelude.{◌≡◌, ◌≤◌, ◌⊎◌, ◌+◌, ◌||◌, nat_lt, ℕ, Bool, true, false, List, [], ◌∷◌, ◌++◌, length, IfSome, Some}
 use Rattle.serde_json.specs.Data.{Data}
 use Rattle.serde_json_path_nodes.specs.Location.{Located}
 use Rattle.serde_json_path_functions.specs.Functions.{FunctionSet}
@@ -8,6 +8,8 @@ use Rattle.serde_json_path.specs.Paths.{path_tree, with_rule_of}
 use Rattle.serde_json_path.specs.declared.path.JsonPath.{JsonPath}
 use Rattle.jsonpath_document.specs.Document.{ReadsAs}
 use Rattle.jsonpath_lines.specs.Output.{AreLines, chosen}
+use Rattle.jsonpath_lines.specs.declared.forms.Form.{Form}
+use Rattle.jsonpath_lines.specs.declared.forms.Form.TheVariants.{Json, Count, Nothing}
 use Rattle.jsonpath_lines.specs.declared.forms.Output.{Output}
 
 -- what is shown of the path's result on a document, after a head, and whether a node is
@@ -19,6 +21,19 @@ IsAnswer F path output head d text any = (nodes : List Located) × Selects (with
 abbrev pub IsAnswerOn : FunctionSet → JsonPath → Output → List ℕ → List ℕ → List ℕ → Bool → Type 0
 IsAnswerOn F path output head bytes text any = (d : Data) × ReadsAs bytes d × IsAnswer F path output head d text any
 
+-- each node has a line of its own
+abbrev pub has_lines : Form → Bool
+has_lines Json = false
+has_lines Count = false
+has_lines Nothing = false
+has_lines _ = true
+
+-- what is shown of a path whose query may be refused: nothing, or all, or in forms with lines the first nodes, not more than are wanted
+abbrev pub IsAnswerInPart : FunctionSet → JsonPath → Output → List ℕ → List ℕ → List ℕ → Bool → Type 0
+IsAnswerInPart F path output head bytes text any = ((text ≡ []) × (any ≡ false)) ⊎ (IsAnswerOn F path output head bytes text any
+    ⊎ ((has_lines output.form ≡ true) × (first : ℕ) × IfSome output.most (λ most. first ≤ most)
+    × IsAnswerOn F path (record output { most = Some first }) head bytes text any))
+
 -- what is shown of each of some items, in order, of which the first has this number, and whether a node is
 abbrev pub AreEach : {A : Type 0} → (ℕ → A → List ℕ → Bool → Type 0) → ℕ → List A → List ℕ → Bool → Type 0
 AreEach Is number [] text any = (text ≡ []) × (any ≡ false)
@@ -29,3 +44,7 @@ AreEach Is number (item ∷ items) text any =
 -- the same of several paths of a document, each after the head of its number, which is 1 for the first
 abbrev pub AreAnswersOn : FunctionSet → List JsonPath → Output → (ℕ → List ℕ) → List ℕ → List ℕ → Bool → Type 0
 AreAnswersOn F paths output head bytes text any = AreEach (λ number path. IsAnswerOn F path output (head number) bytes) 1 paths text any
+
+-- the same where queries may be refused, all of them where the document is
+abbrev pub AreAnswersInPart : FunctionSet → List JsonPath → Output → (ℕ → List ℕ) → List ℕ → List ℕ → Bool → Type 0
+AreAnswersInPart F paths output head bytes text any = AreEach (λ number path. IsAnswerInPart F path output (head number) bytes) 1 paths text any

@@ -1,15 +1,17 @@
 -- What contracts of private functions cite alone.
-use Rattle.std.specs.Prelude.{◌≡◌, ◌+◌, ◌<◌, get_or, ◌⊎◌, Err, Ok, Result, codes, if◌then◌else◌, ℕ, Bool, true, false, not, ◌&&◌, ◌||◌, List, [], ◌∷◌, ◌++◌, map, MatchBool, Option, None, IfSome, length, is_some, nat_lt, string_bytes}
+use Rattle.std.specs.Prelude.{◌≡◌, ◌+◌, ◌<◌, ◌≤◌, get_or, ◌⊎◌, Err, Ok, Result, codes, if◌then◌else◌, ℕ, Bool, true, false, not, ◌&&◌, ◌||◌, List, [], ◌∷◌, ◌++◌, map, MatchBool, Option, None, IfSome, length, is_some, nat_lt, string_bytes}
 use Rattle.std.specs.Io.KnownBytes.{Appends}
 use Rattle.serde_json_path_nodes.specs.Location.{Located}
-use Rattle.jsonpath_lines.specs.Inside.{is_reached}
+use Rattle.jsonpath_lines.specs.Inside.{is_reached, once}
 use Rattle.jsonpath_lines.specs.Inside as lines
 use Rattle.jsonpath_lines.specs.Output.{IsLine, IsLineOfEach, up_to}
 use Rattle.jsonpath_lines.specs.declared.forms.Form.{Form}
 use Rattle.jsonpath_lines.specs.declared.forms.Form.TheVariants.{Json, Count, Location, Nothing, Pointer}
+use Rattle.jsonpath_lines.specs.Sent.{AppendsBeginning}
 use Rattle.jsonpath_lines.specs.declared.forms.Output.{Output}
 use Rattle.serde_json.specs.Data.{Data}
-use Rattle.serde_json_path.specs.Paths.{path_tree}
+use Rattle.serde_json_path.specs.Paths.{path_tree, with_rule_of}
+use Rattle.serde_json_path_core.specs.Selects.{Selects}
 use Rattle.serde_json_path.specs.declared.path.JsonPath.{JsonPath}
 use Rattle.serde_json_path_reach.specs.Alike.{IsReadFor, IsReadForPlaces}
 use Rattle.serde_json_path_reach.specs.Readers.{Keeps}
@@ -18,10 +20,10 @@ use Rattle.serde_json_path_functions.specs.Functions.{FunctionSet, Numbers}
 use Rattle.serde_json_path_functions.specs.Patterns.{builtin_functions}
 use Rattle.jpq_options.specs.Options.{is_table}
 use Rattle.jsonpath_document.specs.Document.{ReadsAs}
-use Rattle.jpq_program.specs.Answers.{AreAnswersOn, IsAnswer, IsAnswerOn}
+use Rattle.jpq_program.specs.Answers.{AreAnswersInPart, AreAnswersOn, IsAnswer, IsAnswerInPart, IsAnswerOn, has_lines}
 use Rattle.jpq_program.specs.Heads.{head_text}
-use Rattle.jpq_program.specs.Inputs.{Shown}
-use Rattle.jpq_program.specs.Run.{ArePaths, has_names, has_numbers}
+use Rattle.jpq_program.specs.Inputs.{AreInputsShown, IsInputShown, IsLineShown, Shown}
+use Rattle.jpq_program.specs.Run.{ArePaths, IsShownFor, IsShownInPartFor, has_names, has_numbers, names_in}
 use Rattle.jpq_options.specs.declared.options.Options.{Options}
 use Rattle.jpq_program.specs.declared.documents.Documents.{Documents}
 use Rattle.jpq_program.specs.declared.answering.Answering.{Answering}
@@ -82,25 +84,47 @@ ReadsFurther rule texts before after = (read : List AskedPath) × (after ≡ bef
 abbrev pub Counts : FunctionSet → JsonPath → Output → List ℕ → Data → List ℕ → List ℕ → ℕ → Type 0
 Counts F path output head d old new count = (shown : List ℕ) × IsAnswer F path output head d shown (nat_lt 0 count) × (new ≡ old ++ shown)
 
--- a text was added, where nothing was refused; and what it is, and whether it shows a node
-pub record Answered {W E : Type 0} (contents : W → Option (List ℕ)) (Is : List ℕ → Bool → Type 0) (before after : Streams W E) : Type 0 where
+-- a text was added; what it is where nothing is refused, and where something may be; and whether it shows a node
+pub record Answered {W E : Type 0} (contents : W → Option (List ℕ)) (Is IsPart : List ℕ → Bool → Type 0) (before after : Streams W E) : Type 0 where
   pub text : List ℕ
   pub any : Bool
-  pub is : Is text any
+  pub whole : after.outcome.refused ≡ false → (before.outcome.refused ≡ false) × Is text any
+  pub part : IsPart text any
   pub writes : Writes contents before after text
   pub selected : after.outcome.selected ≡ (before.outcome.selected || any)
-  pub right : before.outcome.refused ≡ false
   pub left : after.left ≡ None
 
--- what a path shows of a value, it shows of the document that the bytes are
+-- what is shown of a path was added
+abbrev pub AnswersPath : {W E : Type 0} → (W → Option (List ℕ)) → JsonPath → Output → List ℕ → List ℕ → Streams W E → Streams W E → Type 0
+AnswersPath contents path output head bytes before after =
+    Answered contents (IsAnswerOn builtin_functions path output head bytes) (IsAnswerInPart builtin_functions path output head bytes) before after
+
+-- a text was sent, and nothing is pending after it
+abbrev pub Sends : {W E : Type 0} → (W → Option (List ℕ)) → (Is IsPart : List ℕ → Bool → Type 0) → Streams W E → Streams W E → Type 0
+Sends contents Is IsPart before after = Answered contents Is IsPart before after × (string_bytes after.pending ≡ [])
+
+-- a beginning of what was pending and of such a text is out
+abbrev pub Begins : {W E : Type 0} → (W → Option (List ℕ)) → (List ℕ → Bool → Type 0) → Streams W E → Streams W E → Type 0
+Begins contents IsPart before after = (text : List ℕ) × (any : Bool) × IsPart text any
+    × AppendsBeginning (contents before.out) (contents after.out) (string_bytes before.pending ++ text)
+
+-- what a path shows of a value, it shows of the document that the bytes are, however many nodes are wanted
 abbrev pub ShowsAs : Output → List ℕ → Data → JsonPath → Type 0
-ShowsAs output bytes value path = (F : FunctionSet) (head text : List ℕ) (any : Bool)
-    → IsAnswer F path output head value text any → IsAnswerOn F path output head bytes text any
+ShowsAs output bytes value path = (F : FunctionSet) (most : Option ℕ) (head text : List ℕ) (any : Bool)
+    → IsAnswer F path (record output { most = most }) head value text any → IsAnswerOn F path (record output { most = most }) head bytes text any
 
 -- the same of some paths
 abbrev pub AreShownAs : Output → List ℕ → Data → List AskedPath → Type 0
 AreShownAs output bytes value paths = (i : ℕ) (path : AskedPath) → i < length paths → path ≡ get_or paths i path
     → ShowsAs output bytes value path.path
+
+-- nothing changed but what was told, and that something was refused
+abbrev pub OnlyRefuses : {W E : Type 0} → Streams W E → Streams W E → Type 0
+OnlyRefuses before after = after ≡ record before {
+  err = after.err;
+  outcome = record before.outcome { refused = after.outcome.refused };
+  refused_documents = after.refused_documents;
+}
 
 -- the value that is asked: what was read of a document, or, where a pattern is refused there, the document that the bytes are
 abbrev pub IsAsked : List ℕ → Data → Data → Type 0
@@ -132,13 +156,6 @@ told_after (Err OutputFailed) = codes "jpq: the output failed\n"
 told_after _ = []
 
 -- ---- how nodes are shown
-
--- each node has a line of its own
-abbrev pub has_lines : Form → Bool
-has_lines Json = false
-has_lines Count = false
-has_lines Nothing = false
-has_lines _ = true
 
 -- of all nodes it is shown how many there are
 abbrev pub has_counts : Form → Bool
@@ -177,6 +194,20 @@ abbrev pub shown_by : Answering → Shown
 shown_by answering name number bytes text any = AreAnswersOn builtin_functions (map (λ (path : AskedPath). path.path) answering.paths.now)
     answering.showing.output (head_by answering.heads name number) bytes text any
 
+-- the same where it, or the query of a path, may be refused
+abbrev pub shown_in_part_by : Answering → Shown
+shown_in_part_by answering name number bytes text any = AreAnswersInPart builtin_functions (map (λ (path : AskedPath). path.path) answering.paths.now)
+    answering.showing.output (head_by answering.heads name number) bytes text any
+
+-- what is shown of a document was added so, or sent
+abbrev pub AnswersBy : {W E : Type 0} → (W → Option (List ℕ)) → Answering → List ℕ → ℕ → List ℕ → Streams W E → Streams W E → Type 0
+AnswersBy contents answering name number bytes before after =
+    Answered contents (shown_by answering name number bytes) (shown_in_part_by answering name number bytes) before after
+
+abbrev pub SendsBy : {W E : Type 0} → (W → Option (List ℕ)) → Answering → List ℕ → ℕ → List ℕ → Streams W E → Streams W E → Type 0
+SendsBy contents answering name number bytes before after =
+    Sends contents (shown_by answering name number bytes) (shown_in_part_by answering name number bytes) before after
+
 -- nodes are shown without their values
 abbrev pub shows_places : Form → Bool
 shows_places Location = true
@@ -195,19 +226,37 @@ pub record IsPlain (documents : Documents) : Type 0 where
   pub read : IfSome documents.reader (λ reader. Keeps reader (shows_places documents.answering.showing.output.form)
       (map (λ (path : AskedPath). path_tree path.path) documents.answering.paths.now))
 
--- a text was sent, and nothing is pending after it
-abbrev pub Sends : {W E : Type 0} → (W → Option (List ℕ)) → (List ℕ → Bool → Type 0) → Streams W E → Streams W E → Type 0
-Sends contents Is before after = Answered contents Is before after × (string_bytes after.pending ≡ [])
+-- what is shown of a line, an input or some inputs was sent
+abbrev pub SendsLine : {W E : Type 0} → (W → Option (List ℕ)) → Answering → List ℕ → ℕ → List ℕ → Streams W E → Streams W E → Type 0
+SendsLine contents answering name number line before after =
+    Sends contents (IsLineShown (shown_by answering) name number line) (IsLineShown (shown_in_part_by answering) name number line) before after
+
+abbrev pub SendsInput : {W E : Type 0} → (W → Option (List ℕ)) → Answering → Bool → List ℕ → List ℕ → Streams W E → Streams W E → Type 0
+SendsInput contents answering lines name bytes before after =
+    Sends contents (IsInputShown (shown_by answering) lines name bytes) (IsInputShown (shown_in_part_by answering) lines name bytes) before after
+
+abbrev pub SendsInputs : {W E : Type 0} → (W → Option (List ℕ)) → Answering → Bool → (List ℕ → Option (List ℕ)) → List (List ℕ) → Streams W E → Streams W E → Type 0
+SendsInputs contents answering lines bytes_of names before after =
+    Sends contents (AreInputsShown (shown_by answering) lines bytes_of names) (AreInputsShown (shown_in_part_by answering) lines bytes_of names) before after
+
+-- what options ask for was sent of the inputs for the paths
+abbrev pub SendsFor : {W E : Type 0} → (W → Option (List ℕ)) → Options → List JsonPath → (List ℕ → Option (List ℕ)) → Streams W E → Streams W E → Type 0
+SendsFor contents options paths bytes_of before after = Sends contents
+    (AreInputsShown (IsShownFor options paths) options.lines bytes_of (names_in options))
+    (AreInputsShown (IsShownInPartFor options paths) options.lines bytes_of (names_in options)) before after
 
 -- ---- nodes as they are written
 
--- a node's line is added to what is pending
-pub record Pends {W E : Type 0} (n : Located) (before after : Written W E) : Type 0 where
+-- nothing changed but what is pending, and whether a node was written before
+pub record OnlyPends {W E : Type 0} (before after : Written W E) : Type 0 where
   pub same : after.streams.ghost_name ≡ before.streams.ghost_name
   pub kept : after ≡ record before { streams = after.streams; is_later = after.is_later }
   pub streams : after.streams.now ≡ record before.streams.now { pending = after.streams.now.pending }
-  pub line : shows_lines before.showing.now ≡ true
-      → lines.Appends (IsLine before.showing.now.output before.head.now n) (string_bytes before.streams.now.pending) (string_bytes after.streams.now.pending)
+
+-- where nodes are shown in lines, a node's line is added to what is pending
+abbrev pub PendsLine : {W E : Type 0} → Located → Written W E → Written W E → Type 0
+PendsLine n before after = shows_lines before.showing.now ≡ true
+    → lines.Appends (IsLine before.showing.now.output before.head.now n) (string_bytes before.streams.now.pending) (string_bytes after.streams.now.pending)
 
 -- where nodes are shown in lines, these nodes' lines went out or are pending
 abbrev pub WritesLines : {W E : Type 0} → (W → Option (List ℕ)) → List Located → Written W E → Written W E → Type 0
@@ -245,3 +294,29 @@ pub record FilledNodes {W E : Type 0} (contents : W → Option (List ℕ)) (befo
   pub rest : KeepsRest before now
   pub count : before.count ≡ 0 → now.stop ≡ None → now.count ≡ length (up_to before.limit nodes)
   pub lines : before.count ≡ 0 → now.stop ≡ None → WritesLines contents (up_to before.limit nodes) before now
+
+-- where nodes are shown in lines, a beginning of what was pending and of these nodes' lines is out
+pub record BeginsNodes {W E : Type 0} (contents : W → Option (List ℕ)) (nodes : List Located) (before now : Written W E) : Type 0 where
+  pub rest : KeepsRest before now
+  pub lines : shows_lines before.showing.now ≡ true → (text : List ℕ) × IsLineOfEach before.showing.now.output before.head.now nodes text
+      × AppendsBeginning (contents before.streams.now.out) (contents now.streams.now.out) (string_bytes before.streams.now.pending ++ text)
+
+-- the same of the first of these nodes, not more than the limit, where there was none before
+pub record BeginsFirst {W E : Type 0} (contents : W → Option (List ℕ)) (before : Written W E) (nodes : List Located) (now : Written W E) : Type 0 where
+  pub first : List Located
+  pub others : List Located
+  pub split : nodes ≡ first ++ others
+  pub few : before.count ≡ 0 → IfSome before.limit (λ most. length first ≤ most)
+  pub begins : BeginsNodes contents first before now
+
+-- the first of these nodes were written, all below the limit, where there was none before
+pub record TookFirst {W E : Type 0} (contents : W → Option (List ℕ)) (before : Written W E) (nodes : List Located) (now : Written W E) : Type 0 where
+  pub first : List Located
+  pub others : List Located
+  pub split : nodes ≡ first ++ others
+  pub took : TookNodes contents before first now
+
+-- what the path selects of a value, each location once where that is asked for, or no node
+abbrev pub AreSelected : FunctionSet → JsonPath → Bool → Data → List Located → Type 0
+AreSelected F path unique d shown = (shown ≡ [])
+    ⊎ ((nodes : List Located) × Selects (with_rule_of path F) (path_tree path) d nodes × (shown ≡ once unique nodes))

@@ -20,9 +20,9 @@ use Rattle.jpq_options.specs.declared.options.Request.{Request}
 use Rattle.jpq_options.specs.declared.options.Request.TheVariants.{Run, Print, WrongUse}
 use Rattle.jpq_options.specs.declared.options.Shown.{Shown}
 use Rattle.jpq_options.specs.declared.options.Shown.TheVariants.{Nodes}
-use Rattle.jpq_program.specs.Answers.{AreAnswersOn}
+use Rattle.jpq_program.specs.Answers.{AreAnswersInPart, AreAnswersOn}
 use Rattle.jpq_program.specs.Heads.{head_text}
-use Rattle.jpq_program.specs.Inputs.{AreInputsShown, AreKnown, OpensFirst, without_mark}
+use Rattle.jpq_program.specs.Inputs.{AreInputsShown, AreKnown, Opens, OpensFirst, without_mark}
 use Rattle.jpq_program.specs.declared.streams.Streams.{Streams}
 
 -- the exit status of a run with options: 64 only where values are bound to names, as no path may have one; else 0 where something is
@@ -62,6 +62,11 @@ has_numbers options count = nat_lt 1 count && not options.no_path_number
 -- what is shown of a document for the paths: a name, the number of its line, its bytes, the text, and whether a node is shown
 abbrev pub IsShownFor : Options → List JsonPath → List ℕ → ℕ → List ℕ → List ℕ → Bool → Type 0
 IsShownFor options paths name number bytes text any = AreAnswersOn builtin_functions paths (output_in options)
+    (head_text (has_names options) options.line_number (has_numbers options (length paths)) name number) bytes text any
+
+-- the same where it, or the query of a path, may be refused
+abbrev pub IsShownInPartFor : Options → List JsonPath → List ℕ → ℕ → List ℕ → List ℕ → Bool → Type 0
+IsShownInPartFor options paths name number bytes text any = AreAnswersInPart builtin_functions paths (output_in options)
     (head_text (has_names options) options.line_number (has_numbers options (length paths)) name number) bytes text any
 
 -- the inputs' names, in order; `-` is standard input
@@ -140,6 +145,14 @@ pub record IsAnswered {W : Type 0} (contents : W → Option (List ℕ)) (bytes_o
   pub out : Appends (contents before) (contents after) text
   pub ends : status ≡ (if any then 0 else 1)
 
+-- What is out after such a run, however it ended: nothing, where no path is asked, as where one is refused; else a beginning of what is
+-- shown of the inputs for the paths, without what was refused.
+abbrev pub IsAnsweredInPart : {W : Type 0} → (W → Option (List ℕ)) → (List ℕ → Option (List ℕ)) → Options → W → W → Type 0
+IsAnsweredInPart contents bytes_of options before after = (after ≡ before)
+    ⊎ ((paths : List JsonPath) × ArePaths (rule_in options) (path_texts bytes_of options) paths
+    × (text : List ℕ) × (any : Bool) × AreInputsShown (IsShownInPartFor options paths) options.lines bytes_of (names_in options) text any
+    × AppendsBeginning (contents before) (contents after) text)
+
 -- ---- paths that are only checked
 
 -- The paths are only checked: no values are bound to names in them, and no form is asked for but lines of nodes, or counts.
@@ -162,6 +175,12 @@ pub record IsChecked {I W : Type 0} (contents : W → Option (List ℕ)) (bytes_
   pub unopened : options.paths_files.items ≡ [] → later ≡ inputs
   pub ends : status ≡ 0
 
+-- What is out after such a run, however it ended: nothing, where a path is refused, or a beginning of these lines.
+abbrev pub IsCheckedInPart : {W : Type 0} → (W → Option (List ℕ)) → (List ℕ → Option (List ℕ)) → Options → W → W → Type 0
+IsCheckedInPart contents bytes_of options before after = (after ≡ before)
+    ⊎ ((paths : List JsonPath) × ArePaths (rule_in options) (path_texts bytes_of options) paths
+    × AppendsBeginning (contents before) (contents after) (canonical_lines paths))
+
 -- ---- what is printed
 
 -- a text went out, and nothing was told; or the output failed: then a beginning of the text is out, and that may be told
@@ -172,15 +191,18 @@ IsPrinted out err text before after status =
     × AppendsBeginning (err before.err) (err after.err) (codes "jpq: the output failed\n"))
 
 -- What comes of a run whose words ask for this. `out` and `err` say what is known of the bytes of the two writers, and `bytes_of` of
--- the inputs, `opened` which of these are opened; the output takes colours or not. Of wrong use the message is told, or a beginning of it. Neither then, nor where a text is
--- printed, is an input opened.
+-- the inputs, `opened` which of these are opened; the output takes colours or not. Of wrong use the message is told, or a beginning of
+-- it. Neither then, nor where a text is printed, is an input opened.
 abbrev pub ComesOf : {I W E : Type 0} → (W → Option (List ℕ)) → (E → Option (List ℕ)) → (List ℕ → Option (List ℕ)) → (I → Option (List (List ℕ))) → Bool → Request → I → I → Streams W E → Streams W E → ℕ → Type 0
 ComesOf out err bytes_of opened taken (WrongUse kind text) inputs later before after status = (status ≡ 64) × (later ≡ inputs) × (after.out ≡ before.out)
     × AppendsBeginning (err before.err) (err after.err) (string_bytes text)
 ComesOf out err bytes_of opened taken (Print text) inputs later before after status = (later ≡ inputs) × IsPrinted out err (string_bytes text) before after status
 ComesOf out err bytes_of opened taken (Run options) inputs later before after status = IsStatusOf options status
-    × (IsPlainRun options taken → AreKnown bytes_of (path_files_in options) → AreKnown bytes_of (names_in options) → status ≤ 1 → IsAnswered out bytes_of options before.out after.out status)
-    × (IsCheckRun options → AreKnown bytes_of (path_files_in options) → status ≤ 1 → IsChecked out bytes_of options inputs later before.out after.out status)
+    × (IsPlainRun options taken → AreKnown bytes_of (path_files_in options) → AreKnown bytes_of (names_in options)
+    → (status ≤ 1 → IsAnswered out bytes_of options before.out after.out status × Opens (opened inputs) (opened later) (opened_in options))
+    × IsAnsweredInPart out bytes_of options before.out after.out)
+    × (IsCheckRun options → AreKnown bytes_of (path_files_in options)
+    → (status ≤ 1 → IsChecked out bytes_of options inputs later before.out after.out status) × IsCheckedInPart out bytes_of options before.out after.out)
     × OpensInOrder options status (opened inputs) (opened later)
 
 -- memory for the words was refused: no input is opened, nothing goes out, and that is told

@@ -1,14 +1,14 @@
 //! What is written of a document.
 
-ghost use Rattle.std.specs.Prelude.{◌≡◌, ◌||◌, [], List, None, IfErr, IfOk, OnOk, false, map, nat_lt, string_bytes, true};
+ghost use Rattle.std.specs.Prelude.{◌≡◌, ◌||◌, List, None, IfErr, IfOk, OnOk, false, map, nat_lt, string_bytes, true};
 ghost use Rattle.serde_json_path_nodes.specs.Views.{located};
 ghost use Rattle.serde_json_path_functions.specs.Patterns.{builtin_functions};
 ghost use Rattle.serde_json.specs.Data.{Data};
 ghost use Rattle.serde_json_path_core.specs.Inside.Words.{view, Located, OnlyMemoryOrPattern, Selects};
 ghost use Rattle.serde_json_path.specs.Paths.{path_tree, with_rule_of};
 ghost use Rattle.jsonpath_lines.specs.Inside.{once};
-ghost use Rattle.jpq_program.specs.Answers.{AreAnswersOn, IsAnswerOn};
-ghost use Rattle.jpq_program.specs.Inside.{Answered, AreShownAs, Counts, FilledNodes, IsAsked, OnlyNotes, Sends, ShowsAs, TookNodes, has_counts, head_by, is_array, is_plain_answer, shown_by, shows_lines};
+ghost use Rattle.jpq_program.specs.Answers.{IsAnswerInPart};
+ghost use Rattle.jpq_program.specs.Inside.{AnswersBy, AnswersPath, AreSelected, AreShownAs, Begins, BeginsFirst, Counts, FilledNodes, IsAsked, OnlyNotes, OnlyRefuses, SendsBy, ShowsAs, TookFirst, has_counts, head_by, is_array, is_plain_answer, shown_in_part_by, shows_lines};
 
 use crate::answers::push_answer;
 use crate::asked_path::AskedPath;
@@ -77,8 +77,12 @@ impl Answering<'_> {
             (view document.now) nodes
             × FilledNodes W.contents written.old (once self.now.showing.output.unique nodes)
             written.new) }
-        ensures before { IfErr result (λ e. e ≡ QueryError.Pattern → (nodes : List Located)
-            × TookNodes W.contents written.old nodes written.new) }
+        ensures before { IfErr result (λ e. e ≡ QueryError.Pattern → (shown : List Located)
+            × AreSelected builtin_functions path.now.path self.now.showing.output.unique
+            (view document.now) shown × TookFirst W.contents written.old shown written.new) }
+        ensures begun { (shown : List Located)
+            × AreSelected builtin_functions path.now.path self.now.showing.output.unique
+            (view document.now) shown × BeginsFirst W.contents written.old shown written.new }
         ensures refused { OnlyMemoryOrPattern (with_rule_of path.now.path builtin_functions)
             (path_tree path.now.path) (view document.now) result }
     {
@@ -103,12 +107,21 @@ impl Answering<'_> {
     ) -> Result<(), QueryError>
         requires none { written.old.count ≡ 0 }
         requires goes_on { written.old.stop ≡ None }
-        ensures { IfOk result (λ _. (d : Data) × (nodes : List Located)
+        ensures filled { IfOk result (λ _. (d : Data) × (nodes : List Located)
             × IsAsked document.entry.bytes.now (view document.entry.value.now) d
             × Selects (with_rule_of path.now.path builtin_functions) (path_tree path.now.path)
             d nodes
             × FilledNodes W.contents written.old (once self.now.showing.output.unique nodes)
             written.new) }
+        ensures before { IfErr result (λ e. e ≡ QueryError.Pattern
+            → (d : Data) × (shown : List Located)
+            × IsAsked document.entry.bytes.now (view document.entry.value.now) d
+            × AreSelected builtin_functions path.now.path self.now.showing.output.unique d shown
+            × TookFirst W.contents written.old shown written.new) }
+        ensures begun { (d : Data) × (shown : List Located)
+            × IsAsked document.entry.bytes.now (view document.entry.value.now) d
+            × AreSelected builtin_functions path.now.path self.now.showing.output.unique d shown
+            × BeginsFirst W.contents written.old shown written.new }
     {
         match self.write_nodes(path, document.value, written) {
             Err(QueryError::Pattern) if written.count == 0 && written.stop.is_none() => {
@@ -145,7 +158,8 @@ impl Answering<'_> {
         e: QueryError,
         streams: &mut Streams<W, E>,
     ) -> Result<(), Stop>
-        ensures { OnOk result (streams.new.outcome.refused ≡ true) }
+        ensures kept { OnlyRefuses streams.old streams.new }
+        ensures refused { OnOk result (streams.new.outcome.refused ≡ true) }
     {
         let name = shown_name(source.name);
         let message = match &path.name {
@@ -168,14 +182,16 @@ impl Answering<'_> {
         is_later: bool,
         streams: &mut Streams<W, E>,
     ) -> Result<bool, Stop>
-        ensures right { IfOk result (λ _.
-            streams.new.outcome.refused ≡ false → streams.old.outcome.refused ≡ false) }
         ensures answered { IfOk result (λ _. ShowsAs self.now.showing.output
             document.entry.bytes.now (view document.entry.value.now) path.now.path
             → shows_lines self.now.showing ≡ true → streams.old.left ≡ None
-            → streams.new.outcome.refused ≡ false
-            → Answered W.contents (IsAnswerOn builtin_functions path.now.path
-            self.now.showing.output head.now document.entry.bytes.now) streams.old streams.new) }
+            → AnswersPath W.contents path.now.path self.now.showing.output head.now
+            document.entry.bytes.now streams.old streams.new) }
+        ensures begun { ShowsAs self.now.showing.output
+            document.entry.bytes.now (view document.entry.value.now) path.now.path
+            → shows_lines self.now.showing ≡ true → streams.old.left ≡ None
+            → Begins W.contents (IsAnswerInPart builtin_functions path.now.path
+            self.now.showing.output head.now document.entry.bytes.now) streams.old streams.new }
     {
         let limit = least(self.showing.output.most, streams.left);
         let mut written = Written {
@@ -209,16 +225,16 @@ impl Answering<'_> {
         document: Document<'_>,
         streams: &mut Streams<W, E>,
     ) -> Result<(), Stop>
-        ensures right { IfOk result (λ _.
-            streams.new.outcome.refused ≡ false → streams.old.outcome.refused ≡ false) }
         ensures answered { IfOk result (λ _. AreShownAs self.now.showing.output
             document.entry.bytes.now (view document.entry.value.now) self.now.paths.now
             → shows_lines self.now.showing ≡ true → streams.old.left ≡ None
-            → streams.new.outcome.refused ≡ false
-            → Answered W.contents (AreAnswersOn builtin_functions
-            (map (λ path. path.path) self.now.paths.now) self.now.showing.output
-            (head_by self.now.heads document.entry.source.name.now document.entry.source.line)
-            document.entry.bytes.now) streams.old streams.new) }
+            → AnswersBy W.contents self.now document.entry.source.name.now
+            document.entry.source.line document.entry.bytes.now streams.old streams.new) }
+        ensures begun { AreShownAs self.now.showing.output
+            document.entry.bytes.now (view document.entry.value.now) self.now.paths.now
+            → shows_lines self.now.showing ≡ true → streams.old.left ≡ None
+            → Begins W.contents (shown_in_part_by self.now document.entry.source.name.now
+            document.entry.source.line document.entry.bytes.now) streams.old streams.new }
     {
         for (index, path) in self.paths.iter().enumerate() {
             let head = self.head(document.source, index.saturating_add(1))?;
@@ -313,14 +329,12 @@ impl Answering<'_> {
         head: &str,
         streams: &mut Streams<W, E>,
     ) -> Result<(), Stop>
-        ensures right { IfOk result (λ _.
-            streams.new.outcome.refused ≡ false → streams.old.outcome.refused ≡ false) }
         ensures answered { IfOk result (λ _. ShowsAs self.now.showing.output
             document.entry.bytes.now (view document.entry.value.now) path.now.path
             → self.now.total ≡ false → streams.old.left ≡ None
-            → streams.new.outcome.refused ≡ false
-            → Answered W.contents (IsAnswerOn builtin_functions path.now.path
-            self.now.showing.output head.now document.entry.bytes.now) streams.old streams.new) }
+            → AnswersPath W.contents path.now.path self.now.showing.output head.now
+            document.entry.bytes.now streams.old streams.new) }
+        ensures unwritten { streams.new.out ≡ streams.old.out }
     {
         let limit = least(self.showing.output.most, streams.left);
         let mut text = String::new(self.alloc);
@@ -342,16 +356,13 @@ impl Answering<'_> {
         document: Document<'_>,
         streams: &mut Streams<W, E>,
     ) -> Result<(), Stop>
-        ensures right { IfOk result (λ _.
-            streams.new.outcome.refused ≡ false → streams.old.outcome.refused ≡ false) }
         ensures answered { IfOk result (λ _. AreShownAs self.now.showing.output
             document.entry.bytes.now (view document.entry.value.now) self.now.paths.now
             → has_counts self.now.showing.output.form ≡ true → self.now.total ≡ false
-            → streams.old.left ≡ None → streams.new.outcome.refused ≡ false
-            → Answered W.contents (AreAnswersOn builtin_functions
-            (map (λ path. path.path) self.now.paths.now) self.now.showing.output
-            (head_by self.now.heads document.entry.source.name.now document.entry.source.line)
-            document.entry.bytes.now) streams.old streams.new) }
+            → streams.old.left ≡ None
+            → AnswersBy W.contents self.now document.entry.source.name.now
+            document.entry.source.line document.entry.bytes.now streams.old streams.new) }
+        ensures unwritten { streams.new.out ≡ streams.old.out }
     {
         for (index, path) in self.paths.iter().enumerate() {
             let head = self.head(document.source, index.saturating_add(1))?;
@@ -396,15 +407,16 @@ impl Answering<'_> {
         document: Document<'_>,
         streams: &mut Streams<W, E>,
     ) -> Result<Next, Stop>
-        ensures right { IfOk result (λ _. is_plain_answer self.now ≡ true
-            → streams.new.outcome.refused ≡ false → streams.old.outcome.refused ≡ false) }
         ensures answered { IfOk result (λ next. AreShownAs self.now.showing.output
             document.entry.bytes.now (view document.entry.value.now) self.now.paths.now
             → is_plain_answer self.now ≡ true → streams.old.left ≡ None
-            → streams.new.outcome.refused ≡ false
-            → (next ≡ Next.More) × Sends W.contents (shown_by self.now
-            document.entry.source.name.now document.entry.source.line document.entry.bytes.now)
-            streams.old streams.new) }
+            → (next ≡ Next.More) × SendsBy W.contents self.now document.entry.source.name.now
+            document.entry.source.line document.entry.bytes.now streams.old streams.new) }
+        ensures begun { AreShownAs self.now.showing.output
+            document.entry.bytes.now (view document.entry.value.now) self.now.paths.now
+            → is_plain_answer self.now ≡ true → streams.old.left ≡ None
+            → Begins W.contents (shown_in_part_by self.now document.entry.source.name.now
+            document.entry.source.line document.entry.bytes.now) streams.old streams.new }
     {
         self.write_answer(document, streams)?;
         self.tell_notes(document, streams)?;
@@ -423,14 +435,16 @@ impl Answering<'_> {
         document: Document<'_>,
         streams: &mut Streams<W, E>,
     ) -> Result<(), Stop>
-        ensures right { IfOk result (λ _. is_plain_answer self.now ≡ true
-            → streams.new.outcome.refused ≡ false → streams.old.outcome.refused ≡ false) }
         ensures answered { IfOk result (λ _. AreShownAs self.now.showing.output
             document.entry.bytes.now (view document.entry.value.now) self.now.paths.now
             → is_plain_answer self.now ≡ true → streams.old.left ≡ None
-            → streams.new.outcome.refused ≡ false
-            → Sends W.contents (shown_by self.now document.entry.source.name.now
-            document.entry.source.line document.entry.bytes.now) streams.old streams.new) }
+            → SendsBy W.contents self.now document.entry.source.name.now
+            document.entry.source.line document.entry.bytes.now streams.old streams.new) }
+        ensures begun { AreShownAs self.now.showing.output
+            document.entry.bytes.now (view document.entry.value.now) self.now.paths.now
+            → is_plain_answer self.now ≡ true → streams.old.left ≡ None
+            → Begins W.contents (shown_in_part_by self.now document.entry.source.name.now
+            document.entry.source.line document.entry.bytes.now) streams.old streams.new }
     {
         self.make_answer(document, streams)?;
         if streams.pending.is_empty() {
@@ -445,14 +459,16 @@ impl Answering<'_> {
         document: Document<'_>,
         streams: &mut Streams<W, E>,
     ) -> Result<(), Stop>
-        ensures right { IfOk result (λ _. is_plain_answer self.now ≡ true
-            → streams.new.outcome.refused ≡ false → streams.old.outcome.refused ≡ false) }
         ensures answered { IfOk result (λ _. AreShownAs self.now.showing.output
             document.entry.bytes.now (view document.entry.value.now) self.now.paths.now
             → is_plain_answer self.now ≡ true → streams.old.left ≡ None
-            → streams.new.outcome.refused ≡ false
-            → Answered W.contents (shown_by self.now document.entry.source.name.now
-            document.entry.source.line document.entry.bytes.now) streams.old streams.new) }
+            → AnswersBy W.contents self.now document.entry.source.name.now
+            document.entry.source.line document.entry.bytes.now streams.old streams.new) }
+        ensures begun { AreShownAs self.now.showing.output
+            document.entry.bytes.now (view document.entry.value.now) self.now.paths.now
+            → is_plain_answer self.now ≡ true → streams.old.left ≡ None
+            → Begins W.contents (shown_in_part_by self.now document.entry.source.name.now
+            document.entry.source.line document.entry.bytes.now) streams.old streams.new }
     {
         match (separator_of(self.shown), self.showing.output.form) {
             (Some(separator), _) => self.answer_row(separator, document, streams),

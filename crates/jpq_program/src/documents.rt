@@ -8,7 +8,7 @@ ghost use Rattle.serde_json.specs.View.{view};
 ghost use Rattle.serde_json_path_syntax.specs.Tree.{Query};
 ghost use Rattle.serde_json_path_reach.specs.Readers.{Keeps};
 ghost use Rattle.jpq_program.specs.Inputs.{AreInputsShown, AreKnown, IsInputShown, IsLineShown, Opens, OpensFirst, is_blank, without_mark};
-ghost use Rattle.jpq_program.specs.Inside.{IsPlain, IsReadIn, OnlyNotes, Sends, shown_by};
+ghost use Rattle.jpq_program.specs.Inside.{Begins, IsPlain, IsReadIn, OnlyNotes, OnlyRefuses, SendsBy, SendsInput, SendsInputs, SendsLine, shown_in_part_by};
 
 use crate::answering::{Answering, Document};
 use crate::encodings::{encoding_of, without_mark};
@@ -114,12 +114,13 @@ impl Documents<'_> {
         bytes: &[u8],
         streams: &mut Streams<W, E>,
     ) -> Result<Next, Stop>
-        ensures right { IfOk result (λ _. IsPlain self.now
-            → streams.new.outcome.refused ≡ false → streams.old.outcome.refused ≡ false) }
         ensures answered { IfOk result (λ next. IsPlain self.now → streams.old.left ≡ None
-            → streams.new.outcome.refused ≡ false
-            → (next ≡ Next.More) × Sends W.contents (shown_by self.now.answering source.entry.name.now
-            source.entry.line bytes.now) streams.old streams.new) }
+            → string_bytes streams.old.pending ≡ []
+            → (next ≡ Next.More) × SendsBy W.contents self.now.answering source.entry.name.now
+            source.entry.line bytes.now streams.old streams.new) }
+        ensures begun { IsPlain self.now → streams.old.left ≡ None
+            → Begins W.contents (shown_in_part_by self.now.answering source.entry.name.now
+            source.entry.line bytes.now) streams.old streams.new }
     {
         let e = match self.document(bytes) {
             Ok(document) => {
@@ -147,7 +148,9 @@ impl Documents<'_> {
         e: DocumentError,
         streams: &mut Streams<W, E>,
     ) -> Result<Next, Stop>
-        ensures { IfOk result (λ _. streams.new.outcome.refused ≡ true) }
+        ensures kept { OnlyRefuses streams.old streams.new }
+        ensures refused { IfOk result (λ next.
+            (next ≡ Next.More) × (streams.new.outcome.refused ≡ true)) }
     {
         streams.outcome.refused = true;
         streams.refused_documents = streams.refused_documents.saturating_add(1);
@@ -195,7 +198,9 @@ impl Documents<'_> {
         e: &io::Error,
         streams: &mut Streams<W, E>,
     ) -> Result<Next, Stop>
-        ensures { IfOk result (λ _. streams.new.outcome.refused ≡ true) }
+        ensures kept { OnlyRefuses streams.old streams.new }
+        ensures refused { IfOk result (λ next.
+            (next ≡ Next.More) × (streams.new.outcome.refused ≡ true)) }
     {
         let name = shown_name(name);
         streams.tell_refusal(format!(in self.alloc;
@@ -212,7 +217,9 @@ impl Documents<'_> {
         line: &[u8],
         streams: &mut Streams<W, E>,
     ) -> Result<Next, Stop>
-        ensures { IfOk result (λ _. streams.new.outcome.refused ≡ true) }
+        ensures kept { OnlyRefuses streams.old streams.new }
+        ensures refused { IfOk result (λ next.
+            (next ≡ Next.More) × (streams.new.outcome.refused ≡ true)) }
     {
         let name = shown_name(name);
         let fault = encoding_of(line).unwrap_or(ONLY_BEGUN);
@@ -230,12 +237,13 @@ impl Documents<'_> {
         mut input: I,
         streams: &mut Streams<W, E>,
     ) -> Result<Next, Stop>
-        ensures right { IfOk result (λ _. IsPlain self.now
-            → streams.new.outcome.refused ≡ false → streams.old.outcome.refused ≡ false) }
         ensures answered { IfOk result (λ next. IsPlain self.now → streams.old.left ≡ None
-            → streams.new.outcome.refused ≡ false → IfSome (I.remaining input) (λ bytes.
-            (next ≡ Next.More) × Sends W.contents (IsInputShown (shown_by self.now.answering) false name.now bytes)
+            → string_bytes streams.old.pending ≡ [] → IfSome (I.remaining input) (λ bytes.
+            (next ≡ Next.More) × SendsInput W.contents self.now.answering false name.now bytes
             streams.old streams.new)) }
+        ensures begun { IsPlain self.now → streams.old.left ≡ None
+            → IfSome (I.remaining input) (λ bytes. Begins W.contents (IsInputShown
+            (shown_in_part_by self.now.answering) false name.now bytes) streams.old streams.new) }
     {
         let mut bytes = Vec::new(self.alloc);
         match input.read_to_end(&mut bytes) {
@@ -251,12 +259,13 @@ impl Documents<'_> {
         line: &[u8],
         streams: &mut Streams<W, E>,
     ) -> Result<Next, Stop>
-        ensures right { IfOk result (λ _. IsPlain self.now
-            → streams.new.outcome.refused ≡ false → streams.old.outcome.refused ≡ false) }
         ensures answered { IfOk result (λ next. IsPlain self.now → streams.old.left ≡ None
-            → streams.new.outcome.refused ≡ false → string_bytes streams.old.pending ≡ []
-            → (next ≡ Next.More) × Sends W.contents (IsLineShown (shown_by self.now.answering) source.entry.name.now
-            source.entry.line line.now) streams.old streams.new) }
+            → string_bytes streams.old.pending ≡ []
+            → (next ≡ Next.More) × SendsLine W.contents self.now.answering source.entry.name.now
+            source.entry.line line.now streams.old streams.new) }
+        ensures begun { IsPlain self.now → streams.old.left ≡ None
+            → Begins W.contents (IsLineShown (shown_in_part_by self.now.answering)
+            source.entry.name.now source.entry.line line.now) streams.old streams.new }
     {
         if is_blank(line) {
             return Ok(Next::More);
@@ -271,13 +280,14 @@ impl Documents<'_> {
         input: I,
         streams: &mut Streams<W, E>,
     ) -> Result<Next, Stop>
-        ensures right { IfOk result (λ _. IsPlain self.now
-            → streams.new.outcome.refused ≡ false → streams.old.outcome.refused ≡ false) }
         ensures answered { IfOk result (λ next. IsPlain self.now → streams.old.left ≡ None
-            → streams.new.outcome.refused ≡ false → string_bytes streams.old.pending ≡ []
-            → IfSome (I.remaining input) (λ bytes. (next ≡ Next.More) × Sends W.contents
-            (IsInputShown (shown_by self.now.answering) true name.now bytes)
+            → string_bytes streams.old.pending ≡ [] → IfSome (I.remaining input) (λ bytes.
+            (next ≡ Next.More) × SendsInput W.contents self.now.answering true name.now bytes
             streams.old streams.new)) }
+        ensures begun { IsPlain self.now → streams.old.left ≡ None
+            → string_bytes streams.old.pending ≡ [] → IfSome (I.remaining input) (λ bytes.
+            Begins W.contents (IsInputShown (shown_in_part_by self.now.answering) true name.now
+            bytes) streams.old streams.new) }
     {
         let Ok(mut reader) = BufReader::new(self.alloc, input) else {
             return Err(Stop::Memory);
@@ -316,13 +326,16 @@ impl Documents<'_> {
     ) -> Result<Next, Stop>
         ensures same { (name : List ℕ) → I.bytes_of inputs.new name ≡ I.bytes_of inputs.old name }
         ensures opens { Opens (I.opened inputs.old) (I.opened inputs.new) (name.now ∷ []) }
-        ensures right { IfOk result (λ _. IsPlain self.now
-            → streams.new.outcome.refused ≡ false → streams.old.outcome.refused ≡ false) }
         ensures answered { IfOk result (λ next. IsPlain self.now → streams.old.left ≡ None
-            → streams.new.outcome.refused ≡ false → string_bytes streams.old.pending ≡ []
-            → IfSome (I.bytes_of inputs.old name.now) (λ bytes. (next ≡ Next.More) × Sends W.contents
-            (IsInputShown (shown_by self.now.answering) self.now.lines name.now bytes)
+            → string_bytes streams.old.pending ≡ []
+            → IfSome (I.bytes_of inputs.old name.now) (λ bytes. (next ≡ Next.More)
+            × SendsInput W.contents self.now.answering self.now.lines name.now bytes
             streams.old streams.new)) }
+        ensures begun { IsPlain self.now → streams.old.left ≡ None
+            → string_bytes streams.old.pending ≡ []
+            → IfSome (I.bytes_of inputs.old name.now) (λ bytes. Begins W.contents (IsInputShown
+            (shown_in_part_by self.now.answering) self.now.lines name.now bytes)
+            streams.old streams.new) }
     {
         streams.refused_documents = 0;
         let input = match inputs.open(name) {
@@ -345,12 +358,20 @@ impl Documents<'_> {
     ) -> Result<Next, Stop>
         ensures opens { OpensFirst (I.opened inputs.old) (I.opened inputs.new)
             (map (λ name. name.now) names.now) }
+        ensures all { IfOk result (λ next. next ≡ Next.More
+            → Opens (I.opened inputs.old) (I.opened inputs.new)
+            (map (λ name. name.now) names.now)) }
         ensures answered { IfOk result (λ next. IsPlain self.now → streams.old.left ≡ None
-            → streams.new.outcome.refused ≡ false → string_bytes streams.old.pending ≡ []
+            → string_bytes streams.old.pending ≡ []
             → AreKnown (I.bytes_of inputs.old) (map (λ name. name.now) names.now)
-            → (next ≡ Next.More) × Sends W.contents (AreInputsShown (shown_by self.now.answering) self.now.lines
-            (I.bytes_of inputs.old) (map (λ name. name.now) names.now))
-            streams.old streams.new) }
+            → (next ≡ Next.More) × SendsInputs W.contents self.now.answering self.now.lines
+            (I.bytes_of inputs.old) (map (λ name. name.now) names.now) streams.old streams.new) }
+        ensures begun { IsPlain self.now → streams.old.left ≡ None
+            → string_bytes streams.old.pending ≡ []
+            → AreKnown (I.bytes_of inputs.old) (map (λ name. name.now) names.now)
+            → Begins W.contents (AreInputsShown (shown_in_part_by self.now.answering)
+            self.now.lines (I.bytes_of inputs.old) (map (λ name. name.now) names.now))
+            streams.old streams.new }
     {
         for name in names {
             match self.answer_input(*name, inputs, streams)? {

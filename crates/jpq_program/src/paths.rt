@@ -110,7 +110,7 @@ impl PathReading<'_> {
         streams: &mut Streams<W, E>,
     ) -> Result<(), Stop>
         ensures kept { Reads self.old self.new }
-        ensures told { IfOk result (λ _. Tells streams.old streams.new) }
+        ensures told { Tells streams.old streams.new }
         ensures read { IfOk result (λ _. self.old.bindings.items ≡ [] → paths.old.items ≡ []
             → streams.new.outcome.refused ≡ false → ArePaths (numbers_view self.old.numbers)
             (map (λ text. text.now) texts.now) (map (λ path. path.path) paths.new.items)) }
@@ -137,7 +137,7 @@ impl PathReading<'_> {
         streams: &mut Streams<W, E>,
     ) -> Result<(), Stop>
         ensures kept { Reads self.old self.new }
-        ensures told { IfOk result (λ _. Tells streams.old streams.new) }
+        ensures told { Tells streams.old streams.new }
         ensures right { IfOk result (λ _. streams.new.outcome.refused ≡ false
             → streams.new ≡ streams.old) }
         ensures read { IfOk result (λ _. self.old.bindings.items ≡ []
@@ -186,6 +186,7 @@ fn paths_text<I: Inputs, W: Write, E: Write>(
     ensures same { (name : List ℕ) → I.bytes_of inputs.new name ≡ I.bytes_of inputs.old name }
     ensures opens { Opens (I.opened inputs.old) (I.opened inputs.new) (name.now ∷ []) }
     ensures told { IfOk result (λ _. streams.new ≡ streams.old) }
+    ensures tells { Tells streams.old streams.new }
     ensures read { IfOk result (λ text. IfSome (I.bytes_of inputs.old name.now)
         (λ bytes. string_bytes text ≡ bytes)) }
 {
@@ -228,8 +229,9 @@ fn tell_order<I: Inputs, W: Write, E: Write>(
     inputs: &mut I,
     streams: &mut Streams<W, E>,
 ) -> Result<(), Stop>
-    ensures { OpensFirst (I.opened inputs.old) (I.opened inputs.new)
+    ensures opens { OpensFirst (I.opened inputs.old) (I.opened inputs.new)
         (take 1 (map (λ text. text.now) texts.now)) }
+    ensures told { OnlyTells streams.old streams.new }
 {
     if silent {
         return Ok(());
@@ -271,6 +273,7 @@ pub(crate) fn asked_paths<I: Inputs, W: Write, E: Write>(
         (looked_at_in options.now) }
     ensures told { IfOk result (λ _. streams.old.outcome.refused ≡ false
         → OnlyTells streams.old streams.new) }
+    ensures tells { Tells streams.old streams.new }
     ensures read { IfOk result (λ paths. options.now.bindings.items ≡ []
         → AreKnown (I.bytes_of inputs.old) (path_files_in options.now)
         → ArePaths (rule_in options.now) (path_texts (I.bytes_of inputs.old) options.now)

@@ -8,9 +8,9 @@ ghost use Rattle.serde_json_path_reach.specs.Readers.{Keeps};
 ghost use Rattle.jsonpath_lines.specs.Sent.{AppendsBeginning};
 ghost use Rattle.jpq_options.specs.Options.{AsksFor};
 ghost use Rattle.jpq_options.specs.declared.options.Request as input;
-ghost use Rattle.jpq_program.specs.Inputs.{AreInputsShown, AreKnown, OpensFirst};
-ghost use Rattle.jpq_program.specs.Inside.{IsPlain, OnlyTells, Sends, heads_in, shown_by, shows_places, status_after, status_of, told_after};
-ghost use Rattle.jpq_program.specs.Run.{ComesOf, IsAnswered, IsChecked, IsCheckRun, IsPlainRun, IsPrinted, IsShownFor, LacksMemory, canonical_lines, is_colored, is_each, looked_at_in, names_in, opened_in, output_in, path_files_in};
+ghost use Rattle.jpq_program.specs.Inputs.{AreInputsShown, AreKnown, Opens, OpensFirst};
+ghost use Rattle.jpq_program.specs.Inside.{Begins, IsPlain, OnlyTells, SendsFor, SendsInputs, heads_in, shown_in_part_by, shows_places, status_after, status_of, told_after};
+ghost use Rattle.jpq_program.specs.Run.{ComesOf, IsAnswered, IsAnsweredInPart, IsChecked, IsCheckedInPart, IsCheckRun, IsPlainRun, IsPrinted, IsShownInPartFor, LacksMemory, canonical_lines, is_colored, is_each, looked_at_in, names_in, opened_in, output_in, path_files_in};
 
 use crate::answering::Answering;
 use crate::asked_path::AskedPath;
@@ -37,6 +37,9 @@ fn check<W: Write, E: Write>(paths: &[AskedPath], streams: &mut Streams<W, E>) -
     ensures out { string_bytes streams.old.pending ≡ [] → OnOk result
         (Appends (W.contents streams.old.out) (W.contents streams.new.out)
         (canonical_lines (map (λ path. path.path) paths.now))) }
+    ensures begun { string_bytes streams.old.pending ≡ []
+        → AppendsBeginning (W.contents streams.old.out) (W.contents streams.new.out)
+        (canonical_lines (map (λ path. path.path) paths.now)) }
     ensures selected { OnOk result (streams.new.outcome
         ≡ record streams.old.outcome { selected = true }) }
 {
@@ -239,12 +242,19 @@ fn answer_inputs<I: Inputs, W: Write, E: Write>(
     streams: &mut Streams<W, E>,
 ) -> Result<Next, Stop>
     ensures opens { OpensFirst (I.opened inputs.old) (I.opened inputs.new) (names_in options.now) }
+    ensures all { IfOk result (λ next. next ≡ Next.More
+        → Opens (I.opened inputs.old) (I.opened inputs.new) (names_in options.now)) }
     ensures answered { IfOk result (λ next. IsPlain documents.now → streams.old.left ≡ None
-        → streams.new.outcome.refused ≡ false → string_bytes streams.old.pending ≡ []
+        → string_bytes streams.old.pending ≡ []
         → AreKnown (I.bytes_of inputs.old) (names_in options.now)
-        → (next ≡ Next.More) × Sends W.contents (AreInputsShown
-        (shown_by documents.now.answering) documents.now.lines (I.bytes_of inputs.old)
-        (names_in options.now)) streams.old streams.new) }
+        → (next ≡ Next.More) × SendsInputs W.contents documents.now.answering documents.now.lines
+        (I.bytes_of inputs.old) (names_in options.now) streams.old streams.new) }
+    ensures begun { IsPlain documents.now → streams.old.left ≡ None
+        → string_bytes streams.old.pending ≡ []
+        → AreKnown (I.bytes_of inputs.old) (names_in options.now)
+        → Begins W.contents (AreInputsShown (shown_in_part_by documents.now.answering)
+        documents.now.lines (I.bytes_of inputs.old) (names_in options.now))
+        streams.old streams.new }
 {
     if options.files.is_empty() {
         documents.answer_all(&["-"], inputs, streams)
@@ -261,13 +271,21 @@ fn answer_documents<I: Inputs, W: Write, E: Write>(
     streams: &mut Streams<W, E>,
 ) -> Result<Next, Stop>
     ensures opens { OpensFirst (I.opened inputs.old) (I.opened inputs.new) (names_in options.now) }
+    ensures all { IfOk result (λ next. next ≡ Next.More
+        → Opens (I.opened inputs.old) (I.opened inputs.new) (names_in options.now)) }
     ensures answered { IfOk result (λ next. IsPlain documents.now → options.now.header ≡ false
         → options.now.total ≡ false → streams.old.left ≡ None
-        → streams.new.outcome.refused ≡ false → string_bytes streams.old.pending ≡ []
+        → string_bytes streams.old.pending ≡ []
         → AreKnown (I.bytes_of inputs.old) (names_in options.now)
-        → (next ≡ Next.More) × Sends W.contents (AreInputsShown
-        (shown_by documents.now.answering) documents.now.lines (I.bytes_of inputs.old)
-        (names_in options.now)) streams.old streams.new) }
+        → (next ≡ Next.More) × SendsInputs W.contents documents.now.answering documents.now.lines
+        (I.bytes_of inputs.old) (names_in options.now) streams.old streams.new) }
+    ensures begun { IsPlain documents.now → options.now.header ≡ false
+        → options.now.total ≡ false → streams.old.left ≡ None
+        → string_bytes streams.old.pending ≡ []
+        → AreKnown (I.bytes_of inputs.old) (names_in options.now)
+        → Begins W.contents (AreInputsShown (shown_in_part_by documents.now.answering)
+        documents.now.lines (I.bytes_of inputs.old) (names_in options.now))
+        streams.old streams.new }
 {
     if options.header {
         documents.answering.write_header(streams)?;
@@ -306,12 +324,19 @@ fn answer_paths<I: Inputs, W: Write, E: Write>(
     streams: &mut Streams<W, E>,
 ) -> Result<Next, Stop>
     ensures opens { OpensFirst (I.opened inputs.old) (I.opened inputs.new) (names_in options.now) }
+    ensures all { IfOk result (λ next. next ≡ Next.More
+        → Opens (I.opened inputs.old) (I.opened inputs.new) (names_in options.now)) }
     ensures answered { IfOk result (λ next. IsPlainRun options.now colours.entry.taken
-        → streams.new.outcome.refused ≡ false → string_bytes streams.old.pending ≡ []
+        → string_bytes streams.old.pending ≡ []
         → AreKnown (I.bytes_of inputs.old) (names_in options.now)
-        → (next ≡ Next.More) × Sends W.contents (AreInputsShown (IsShownFor options.now
+        → (next ≡ Next.More) × SendsFor W.contents options.now (map (λ path. path.path) paths.now)
+        (I.bytes_of inputs.old) streams.old streams.new) }
+    ensures begun { IsPlainRun options.now colours.entry.taken
+        → string_bytes streams.old.pending ≡ []
+        → AreKnown (I.bytes_of inputs.old) (names_in options.now)
+        → Begins W.contents (AreInputsShown (IsShownInPartFor options.now
         (map (λ path. path.path) paths.now)) options.now.lines (I.bytes_of inputs.old)
-        (names_in options.now)) streams.old streams.new) }
+        (names_in options.now)) streams.old streams.new }
 {
     let store = PatternStore::new();
     let trees = trees_of(alloc, paths)?;
@@ -357,15 +382,31 @@ fn run_with<I: Inputs, W: Write, E: Write>(
         → AreKnown (I.bytes_of inputs.old) (names_in options.now)
         → IsAnswered W.contents (I.bytes_of inputs.old) options.now
         streams.old.out streams.new.out (status_of streams.new.outcome)) }
+    ensures in_part { IsPlainRun options.now colours.entry.taken
+        → string_bytes streams.old.pending ≡ []
+        → AreKnown (I.bytes_of inputs.old) (path_files_in options.now)
+        → AreKnown (I.bytes_of inputs.old) (names_in options.now)
+        → IsAnsweredInPart W.contents (I.bytes_of inputs.old) options.now
+        streams.old.out streams.new.out }
     ensures checked { IfOk result (λ _. IsCheckRun options.now
         → streams.old.outcome ≡ record { selected = false; refused = false }
         → string_bytes streams.old.pending ≡ []
         → AreKnown (I.bytes_of inputs.old) (path_files_in options.now)
         → IsChecked W.contents (I.bytes_of inputs.old) options.now inputs.old inputs.new
         streams.old.out streams.new.out (status_of streams.new.outcome)) }
+    ensures checked_in_part { IsCheckRun options.now → string_bytes streams.old.pending ≡ []
+        → AreKnown (I.bytes_of inputs.old) (path_files_in options.now)
+        → IsCheckedInPart W.contents (I.bytes_of inputs.old) options.now
+        streams.old.out streams.new.out }
     ensures opens { IfOk result (λ _.
         OpensFirst (I.opened inputs.old) (I.opened inputs.new) (opened_in options.now)) }
-    ensures in_order { OpensFirst (I.opened inputs.old) (I.opened inputs.new) (opened_in options.now)
+    ensures all { IfOk result (λ _. IsPlainRun options.now colours.entry.taken
+        → string_bytes streams.old.pending ≡ []
+        → AreKnown (I.bytes_of inputs.old) (path_files_in options.now)
+        → AreKnown (I.bytes_of inputs.old) (names_in options.now)
+        → Opens (I.opened inputs.old) (I.opened inputs.new) (opened_in options.now)) }
+    ensures in_order {
+        OpensFirst (I.opened inputs.old) (I.opened inputs.new) (opened_in options.now)
         ⊎ OpensFirst (I.opened inputs.old) (I.opened inputs.new) (looked_at_in options.now) }
 {
     let paths = asked_paths(alloc, options, inputs, streams)?;

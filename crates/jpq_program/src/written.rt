@@ -1,13 +1,13 @@
 //! Nodes that are written as a walk gives them.
 
-ghost use Rattle.std.specs.Prelude.{◌≡◌, [], List, IfErr, IfOk, OnOk, map, string_bytes, true};
+ghost use Rattle.std.specs.Prelude.{◌≡◌, [], ◌∷◌, List, IfErr, IfOk, OnOk, map, string_bytes, true};
 ghost use Rattle.serde_json_path_nodes.specs.Location.{Located};
 ghost use Rattle.serde_json_path_nodes.specs.Views.{located};
 ghost use Rattle.serde_json_path_core.specs.Selects.{OnlyMemoryOrPattern};
 ghost use Rattle.serde_json_path_core.specs.Walks.{document_of, query_of, rest, set_of};
 ghost use Rattle.jsonpath_lines.specs.Inside.{Appends, is_reached};
 ghost use Rattle.jsonpath_lines.specs.Output.{IsLine};
-ghost use Rattle.jpq_program.specs.Inside.{FilledNodes, Pends, TookNodes, WritesNode, shows_lines};
+ghost use Rattle.jpq_program.specs.Inside.{BeginsFirst, BeginsNodes, FilledNodes, OnlyPends, PendsLine, TookFirst, TookNodes, WritesNode, shows_lines};
 
 use crate::inexact::may_be_inexact;
 use crate::showing::Showing;
@@ -38,7 +38,8 @@ impl<W: Write, E: Write> Written<'_, '_, '_, '_, W, E> {
     /// Appends what is shown of a node to what is pending.
     #[inline(always)]
     fn push_pending(&mut self, node: &LocatedNode<'_>) -> Result<(), AllocError>
-        ensures { OnOk result (Pends (located node.now) self.old self.new) }
+        ensures kept { OnlyPends self.old self.new }
+        ensures line { OnOk result (PendsLine (located node.now) self.old self.new) }
     {
         let text = &mut self.streams.pending;
         if self.showing.output.form == Form::Json {
@@ -65,6 +66,9 @@ impl<W: Write, E: Write> Written<'_, '_, '_, '_, W, E> {
     pub(crate) fn take_node(&mut self, node: &LocatedNode<'_>) -> Result<bool, QueryError>
         ensures taken { IfOk result (λ more.
             WritesNode W.contents (located node.now) more self.old self.new) }
+        ensures begun { IfOk result (λ _.
+            BeginsNodes W.contents (located node.now ∷ []) self.old self.new) }
+        ensures unwritten { IfErr result (λ _. BeginsNodes W.contents [] self.old self.new) }
         ensures refused { IfErr result (λ e. e ≡ QueryError.Memory) }
     {
         self.push_pending(node)?;
@@ -87,8 +91,9 @@ impl<W: Write, E: Write> Written<'_, '_, '_, '_, W, E> {
         requires { TookNodes W.contents self.old [] self.old }
         ensures filled { IfOk result (λ _.
             FilledNodes W.contents self.old (rest walk.entry) self.new) }
-        ensures before { IfErr result (λ e. e ≡ QueryError.Pattern → (nodes : List Located)
-            × TookNodes W.contents self.old nodes self.new) }
+        ensures before { IfErr result (λ e. e ≡ QueryError.Pattern →
+            TookFirst W.contents self.old (rest walk.entry) self.new) }
+        ensures begun { BeginsFirst W.contents self.old (rest walk.entry) self.new }
         ensures refused { OnlyMemoryOrPattern (set_of walk.entry) (query_of walk.entry)
             (document_of walk.entry) result }
     {
@@ -107,6 +112,7 @@ impl<W: Write, E: Write> Written<'_, '_, '_, '_, W, E> {
         requires { TookNodes W.contents self.old [] self.old }
         ensures filled { IfOk result (λ _.
             FilledNodes W.contents self.old (map located nodes.now) self.new) }
+        ensures begun { BeginsFirst W.contents self.old (map located nodes.now) self.new }
         ensures refused { IfErr result (λ e. e ≡ QueryError.Memory) }
     {
         for node in nodes {

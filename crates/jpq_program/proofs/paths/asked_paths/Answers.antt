@@ -85,12 +85,12 @@ returns-in_err-tell_unused-clause-looks g c = opens_alone (g.I.Inputs.opened c.a
 pub returns-in_err-tell_order-clause-looks : goal.returns-in_err-tell_order-clause-looks
 returns-in_err-tell_order-clause-looks g c = opens_then (g.I.Inputs.opened c.args.inputs.now) (g.I.Inputs.opened c.loop-file.inputs) (g.I.Inputs.opened c.tell_order.new.inputs) (path_files_in c.args.options.now) _
     (all_opened g.I.Inputs.opened c.args.inputs.now c.loop-file.inputs c.deref-file-items.result.now _ c.loop-file.file-index c.deref-file-items.ensures.value c.loop-file-test.false c.loop-file.invariant.opens)
-    (subst (λ (texts : List (Bor (List ℕ))). OpensFirst (g.I.Inputs.opened c.loop-file.inputs) (g.I.Inputs.opened c.tell_order.new.inputs) (take 1 (names_of texts))) c.deref-3.ensures.value c.tell_order.ensures)
+    (subst (λ (texts : List (Bor (List ℕ))). OpensFirst (g.I.Inputs.opened c.loop-file.inputs) (g.I.Inputs.opened c.tell_order.new.inputs) (take 1 (names_of texts))) c.deref-3.ensures.value c.tell_order.ensures.opens)
 
 pub returns-clause-looks : goal.returns-clause-looks
 returns-clause-looks g c = opens_then (g.I.Inputs.opened c.args.inputs.now) (g.I.Inputs.opened c.loop-file.inputs) (g.I.Inputs.opened c.tell_order.new.inputs) (path_files_in c.args.options.now) _
     (all_opened g.I.Inputs.opened c.args.inputs.now c.loop-file.inputs c.deref-file-items.result.now _ c.loop-file.file-index c.deref-file-items.ensures.value c.loop-file-test.false c.loop-file.invariant.opens)
-    (subst (λ (texts : List (Bor (List ℕ))). OpensFirst (g.I.Inputs.opened c.loop-file.inputs) (g.I.Inputs.opened c.tell_order.new.inputs) (take 1 (names_of texts))) c.deref-3.ensures.value c.tell_order.ensures)
+    (subst (λ (texts : List (Bor (List ℕ))). OpensFirst (g.I.Inputs.opened c.loop-file.inputs) (g.I.Inputs.opened c.tell_order.new.inputs) (take 1 (names_of texts))) c.deref-3.ensures.value c.tell_order.ensures.opens)
 
 pub returns-in_err-message-in-Err-clause-looks : goal.returns-in_err-message-in-Err-clause-looks
 returns-in_err-message-in-Err-clause-looks g c = opens_nothing (g.I.Inputs.opened c.args.inputs.now) (looked_at_in c.args.options.now)

@@ -1,5 +1,5 @@
-use Rattle.jpq_program.proofs.Words.{◌≡◌, ◌≤◌, ◌∙◌, Bool, inl, inr, refl, ap, subst, arith, common_steps, List, ℕ, string_bytes, AppendsBeginning, Streams, AreKnown, IsAnswered, IsCheckRun, IsChecked, IsPlainRun, IsStatusOf, names_in, not, path_files_in, status_after}
-use Rattle.jpq_program.proofs.Asked.{run_ended}
+use Rattle.jpq_program.proofs.Words.{◌≡◌, ◌≤◌, ◌∙◌, Bool, inl, inr, refl, ap, subst, arith, common_steps, List, ℕ, string_bytes, AppendsBeginning, Streams, AreKnown, IsAnswered, IsAnsweredInPart, IsCheckedInPart, IsCheckRun, IsChecked, IsPlainRun, IsStatusOf, Opens, names_in, not, opened_in, path_files_in, status_after}
+use Rattle.jpq_program.proofs.Asked.{out_since, run_ended}
 use Rattle.jpq_program.proofs.Checked.{check_ended}
 use Rattle.jpq_program.proofs.Ended.{ended_well, one_of_few, printed_since}
 use Rattle.jpq_program.proofs.Opened.{opens_ended}
@@ -17,18 +17,28 @@ returns-in-Ok-Run-clause-comes g c =
       | inr wrong ↦ inr (wrong.0, λ none. absurd (grind (arith, common_steps, none, wrong.1, c.is_empty.ensures)))
     ] in
     let answered : IsPlainRun options c.args.colours.taken → AreKnown (g.I.Inputs.bytes_of c.args.inputs.now) (path_files_in options) → AreKnown (g.I.Inputs.bytes_of c.args.inputs.now) (names_in options) → c.exit_status.result ≤ 1
-    → IsAnswered g.W.Write.contents (g.I.Inputs.bytes_of c.args.inputs.now) options c.args.streams.now.out c.exit_status.new.streams.out c.exit_status.result = λ run files known few.
-    let well = ended_well ended (not c.is_empty.result) outcome c.exit_status.result (subst (λ (quiet : Bool). c.exit_status.result ≡ status_after ended (not c.is_empty.result) quiet outcome) (c.is_quiet-quiet.ensures run.each) c.exit_status.ensures.status) few in
-    run_ended g.W.Write.contents (g.I.Inputs.bytes_of c.args.inputs.now) options c.args.streams.now.out c.restart.new.self.out c.run_with-ended.new.streams.out c.exit_status.new.streams.out outcome c.exit_status.result
-    c.restart.ensures.out c.exit_status.ensures.out well.3
-    (of_ok _ ended well.0 well.1 c.run_with-ended.ensures.answered run c.restart.ensures.outcome c.restart.ensures.pending well.2 files known) in
+    → IsAnswered g.W.Write.contents (g.I.Inputs.bytes_of c.args.inputs.now) options c.args.streams.now.out c.exit_status.new.streams.out c.exit_status.result
+    × Opens (g.I.Inputs.opened c.args.inputs.now) (g.I.Inputs.opened c.run_with-ended.new.inputs) (opened_in options) = λ run files known few.
+    let well = ended_well ended (not c.is_empty.result) outcome c.exit_status.result (subst (λ (quiet : Bool). c.exit_status.result ≡ status_after ended (not c.is_empty.result) quiet outcome) (c.is_quiet-quiet.ensures run.each) c.exit_status.ensures.status) few in (
+      run_ended g.W.Write.contents (g.I.Inputs.bytes_of c.args.inputs.now) options c.args.streams.now.out c.restart.new.self.out c.run_with-ended.new.streams.out c.exit_status.new.streams.out outcome c.exit_status.result
+          c.restart.ensures.out c.exit_status.ensures.out well.3
+          (of_ok _ ended well.0 well.1 c.run_with-ended.ensures.answered run c.restart.ensures.outcome c.restart.ensures.pending well.2 files known),
+      of_ok _ ended well.0 well.1 c.run_with-ended.ensures.all run c.restart.ensures.pending files known,
+    ) in
     let checked : IsCheckRun options → AreKnown (g.I.Inputs.bytes_of c.args.inputs.now) (path_files_in options) → c.exit_status.result ≤ 1 → IsChecked g.W.Write.contents (g.I.Inputs.bytes_of c.args.inputs.now) options c.args.inputs.now c.run_with-ended.new.inputs c.args.streams.now.out c.exit_status.new.streams.out c.exit_status.result = λ run known few.
     let well = ended_well ended (not c.is_empty.result) outcome c.exit_status.result (subst (λ (quiet : Bool). c.exit_status.result ≡ status_after ended (not c.is_empty.result) quiet outcome) (c.is_quiet-quiet.ensures run.each) c.exit_status.ensures.status) few in
     check_ended g.W.Write.contents (g.I.Inputs.bytes_of c.args.inputs.now) options c.args.inputs.now c.run_with-ended.new.inputs c.args.streams.now.out c.restart.new.self.out c.run_with-ended.new.streams.out c.exit_status.new.streams.out outcome c.exit_status.result
     c.restart.ensures.out c.exit_status.ensures.out well.3
     (of_ok _ ended well.0 well.1 c.run_with-ended.ensures.checked run c.restart.ensures.outcome c.restart.ensures.pending known) in
+    let in_part : IsPlainRun options c.args.colours.taken → AreKnown (g.I.Inputs.bytes_of c.args.inputs.now) (path_files_in options) → AreKnown (g.I.Inputs.bytes_of c.args.inputs.now) (names_in options)
+    → IsAnsweredInPart g.W.Write.contents (g.I.Inputs.bytes_of c.args.inputs.now) options c.args.streams.now.out c.exit_status.new.streams.out = λ run files known.
+    out_since (IsAnsweredInPart g.W.Write.contents (g.I.Inputs.bytes_of c.args.inputs.now) options) c.args.streams.now.out c.restart.new.self.out c.run_with-ended.new.streams.out c.exit_status.new.streams.out
+    c.restart.ensures.out c.exit_status.ensures.out (c.run_with-ended.ensures.in_part run c.restart.ensures.pending files known) in
+    let checked_in_part : IsCheckRun options → AreKnown (g.I.Inputs.bytes_of c.args.inputs.now) (path_files_in options) → IsCheckedInPart g.W.Write.contents (g.I.Inputs.bytes_of c.args.inputs.now) options c.args.streams.now.out c.exit_status.new.streams.out = λ run known.
+    out_since (IsCheckedInPart g.W.Write.contents (g.I.Inputs.bytes_of c.args.inputs.now) options) c.args.streams.now.out c.restart.new.self.out c.run_with-ended.new.streams.out c.exit_status.new.streams.out
+    c.restart.ensures.out c.exit_status.ensures.out (c.run_with-ended.ensures.checked_in_part run c.restart.ensures.pending known) in
     let opens = opens_ended ended _ _ outcome c.exit_status.result options (g.I.Inputs.opened c.args.inputs.now) (g.I.Inputs.opened c.run_with-ended.new.inputs) c.exit_status.ensures.status c.run_with-ended.ensures.opens c.run_with-ended.ensures.in_order in
-    inl (c.in-Ok-Run.field-0, rw c.in-Ok-Run.is at c.read.ensures, rw c.in-Ok-Run.field-0-is (status, answered, checked, opens))
+    inl (c.in-Ok-Run.field-0, rw c.in-Ok-Run.is at c.read.ensures, rw c.in-Ok-Run.field-0-is (status, (λ run files known. (answered run files known, in_part run files known)), (λ run known. (checked run known, checked_in_part run known)), opens))
 
 pub returns-in-Ok-Print-clause-comes : goal.returns-in-Ok-Print-clause-comes
 returns-in-Ok-Print-clause-comes g c =
