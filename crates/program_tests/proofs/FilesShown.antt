@@ -24,8 +24,8 @@ use Rattle.jpq_options.specs.declared.options.Options.{Options}
 use Rattle.jpq_options.specs.declared.options.Request.{Request}
 use Rattle.jpq_program.specs.Answers.{AreAnswersOn, IsAnswerOn}
 use Rattle.jpq_program.specs.Heads.{head_text}
-use Rattle.jpq_program.specs.Inputs.{AreInputsShown, AreKnown, IsInputShown, IsLineShown, IsNamedShown, Shown}
-use Rattle.jpq_program.specs.Run.{ArePaths, ComesOf, IsPathOf, IsPlainRun, IsShownFor, form_in, known_bytes, path_files_in, path_texts, texts_in_file, has_names, has_numbers, is_colored, is_each, names_in, output_in, rule_in}
+use Rattle.jpq_program.specs.Inputs.{AreInputsShown, AreKnown, IsInputShown, IsLineShown, IsNamedShown, Opens, Shown}
+use Rattle.jpq_program.specs.Run.{ArePaths, ComesOf, IsPathOf, IsPlainRun, IsShownFor, form_in, known_bytes, path_texts, texts_in_file, has_names, has_numbers, is_colored, is_each, names_in, opened_in, output_in, rule_in}
 use Rattle.jpq_program.specs.declared.streams.Streams.{Streams}
 use Rattle.std.specs.Io.KnownBytes.{Appends}
 use Rattle.program_tests.proofs.AskedWords.{OptionsAre, asks_for_run, words}
@@ -187,6 +187,20 @@ texts_are known o are =
     let words = map (λ (s : Bor (List ℕ)). s.now) o.paths.items in
     ap (λ (files : List (List ℕ)). words ++ flat_map (λ (name : List ℕ). texts_in_file (known_bytes known name)) files) are.paths_files ∙ append-nil words ∙ are.paths
 
+-- the files are opened
+opened_are : (o : Options) → OptionsAre o → opened_in o ≡ codes "one" ∷ codes "two" ∷ []
+opened_are o are = ap (λ (files : List (List ℕ)). files ++ (if o.check then [] else names_in o)) are.paths_files
+    ∙ ap (λ (check : Bool). if check then [] else names_in o) are.check ∙ names_are o are
+
+-- of names that are known those that were opened are these
+pub opened_named : (before now names : List (List ℕ)) (all : Bool) → before ≡ [] → all ≡ true → Opens (Some before) (if all then Some now else None) names → now ≡ names
+opened_named before now names all none are opens =
+    let known = subst (λ (all : Bool). Opens (Some before) (if all then Some now else None) names) are opens in
+    known.2 ∙ ap (λ (earlier : List (List ℕ)). earlier ++ names) (same known.0 known.1 ∙ none)
+  where
+    same : (earlier : List (List ℕ)) → Some before ≡ Some earlier → earlier ≡ before
+    same earlier is = cc
+
 -- ---- what comes of the run
 
 none_known : (known : List ℕ → Option (List ℕ)) → AreKnown known []
@@ -208,7 +222,7 @@ text_of_b = refl
 -- what comes of words that ask for the run
 pub run_comes : {I W E : Type 0} (out : W → Option (List ℕ)) (err : E → Option (List ℕ)) (known : List ℕ → Option (List ℕ)) (opened : I → Option (List (List ℕ))) (asked : Request) (inputs later : I) (before after : Streams W E) (status : ℕ) → Normal → ResultIsUnique
     → AsksFor words asked → ComesOf out err known opened false asked inputs later before after status → known (codes "one") ≡ Some one → known (codes "two") ≡ Some two → status ≤ 1
-    → (status ≡ 0) × Appends (out before.out) (out after.out) written
+    → (status ≡ 0) × Appends (out before.out) (out after.out) written × Opens (opened inputs) (opened later) (codes "one" ∷ codes "two" ∷ [])
 unfolding encode_utf8
 run_comes {I} {W} {E} out err known opened asked inputs later before after status normal_law unique asks comes is_one is_two few =
     let run = asks_for_run asked asks in
@@ -217,7 +231,8 @@ run_comes {I} {W} {E} out err known opened asked inputs later before after statu
     let came = subst (λ (a : Request). ComesOf out err known opened false a inputs later before after status) run.1 comes in
     let files_known = subst (λ (files : List (List ℕ)). AreKnown known files) (sym are.paths_files) (none_known known) in
     let are_known = subst (λ (names : List (List ℕ)). AreKnown known names) (sym (names_are o are)) (both_known known is_one is_two) in
-    let answered = came.1 (is_plain o are) files_known are_known few in
+    let ended = (came.1 (is_plain o are) files_known are_known).0 few in
+    let answered = ended.0 in
     let both = two_paths (rule_in o) (path_texts known o) answered.paths (codes "$['a']") (codes "$['b'][0]") (texts_are known o are) answered.are in
     let paths : ArePathsTo both.0 both.1 = record {
       rule = rule_in o;
@@ -231,4 +246,5 @@ run_comes {I} {W} {E} out err known opened asked inputs later before after statu
     (subst (λ (ps : List JsonPath). AreInputsShown (IsShownFor o ps) o.lines known (names_in o) answered.text answered.any) both.2 answered.shown) in (
       answered.ends ∙ ap (λ (any : Bool). if any then 0 else 1) shown.1,
       subst (λ (text : List ℕ). Appends (out before.out) (out after.out) text) shown.0 answered.out,
+      subst (Opens (opened inputs) (opened later)) (opened_are o are) ended.1,
     )
