@@ -85,8 +85,13 @@ part_of_first output head bytes value asked path shown first others text has few
     let most = Some (length first) in
     let these : take (length first) (once output.unique nodes) ≡ first = ap (take (length first)) (sym selected.2 ∙ split) ∙ take-append-le (length first) first others (omega arith) ∙ take_all (length first) first (omega arith) in
     let lines = subst (λ ns. IsLineOfEach (record output { most = most }) head ns text) (sym these) (lines_of_most output most head first text are) in
-    inr (inr (has, length first, few, shown_of_asked output bytes value asked path most head text (nat_lt 0 (length first)) shows of
-    (nodes, selected.1, lines_in output.form (record output { most = most }) head (take (length first) (once output.unique nodes)) text has lines, ap (λ (ns : List Located). nat_lt 0 (length ns)) (sym these))))
+    inr (inr (
+      has,
+      length first,
+      few,
+      shown_of_asked output bytes value asked path most head text (nat_lt 0 (length first)) shows of
+          (nodes, selected.1, lines_in output.form (record output { most = most }) head (take (length first) (once output.unique nodes)) text has lines, ap (λ (ns : List Located). nat_lt 0 (length ns)) (sym these)),
+    ))
 
 -- a query was refused: the lines of its first nodes were written
 pub path_refused : {W E : Type 0} (contents : W → Option (List ℕ)) (path : JsonPath) (bytes : List ℕ) (value asked : Data) (before after : Written W E) (final : Streams W E) (shown : List Located)

@@ -405,8 +405,7 @@ fn run_with<I: Inputs, W: Write, E: Write>(
         → AreKnown (I.bytes_of inputs.old) (path_files_in options.now)
         → AreKnown (I.bytes_of inputs.old) (names_in options.now)
         → Opens (I.opened inputs.old) (I.opened inputs.new) (opened_in options.now)) }
-    ensures in_order {
-        OpensFirst (I.opened inputs.old) (I.opened inputs.new) (opened_in options.now)
+    ensures in_order { OpensFirst (I.opened inputs.old) (I.opened inputs.new) (opened_in options.now)
         ⊎ OpensFirst (I.opened inputs.old) (I.opened inputs.new) (looked_at_in options.now) }
 {
     let paths = asked_paths(alloc, options, inputs, streams)?;

@@ -4,9 +4,11 @@ use Rattle.jpq_program.proofs.answering.Answering.answer_counts.Goals as goal
 
 pub loop-index-init : goal.loop-index-init
 loop-index-init g c =
-    let head = head_by c.args.self.now.heads c.args.document.source.name.now c.args.document.source.line in
-    (refl, λ are counts each left. none_answered g.W.Write.contents (λ (number : ℕ) (path : JsonPath). IsAnswerOn builtin_functions path c.args.self.now.showing.output (head number) c.args.document.bytes.now)
-    (λ (number : ℕ) (path : JsonPath). IsAnswerInPart builtin_functions path c.args.self.now.showing.output (head number) c.args.document.bytes.now) 1 c.args.streams.now left)
+    let head = head_by c.args.self.now.heads c.args.document.source.name.now c.args.document.source.line in (
+      refl,
+      λ are counts each left. none_answered g.W.Write.contents (λ (number : ℕ) (path : JsonPath). IsAnswerOn builtin_functions path c.args.self.now.showing.output (head number) c.args.document.bytes.now)
+          (λ (number : ℕ) (path : JsonPath). IsAnswerInPart builtin_functions path c.args.self.now.showing.output (head number) c.args.document.bytes.now) 1 c.args.streams.now left,
+    )
 
 pub loop-index-preserved : goal.loop-index-preserved
 loop-index-preserved g c =

@@ -39,12 +39,16 @@ returns-in_err-nodes-clause-begun g c = ([], inl refl, begins_nothing g.W.Write.
 
 pub returns-in_err-nodes-clause-before : goal.returns-in_err-nodes-clause-before
 returns-in_err-nodes-clause-before g c =
-    of_any_error c.from_residual-in_err-nodes.result _ (λ _ _. ([], inl refl, record {
-      first = [];
-      others = [];
-      split = refl;
-      took = took_none g.W.Write.contents c.args.written.now c.requires.goes_on (grind (arith, common_steps, c.is_reached.ensures, c.if-is_reached.false, c.requires.none));
-    }))
+    of_any_error c.from_residual-in_err-nodes.result _ (λ _ _. (
+      [],
+      inl refl,
+      record {
+        first = [];
+        others = [];
+        split = refl;
+        took = took_none g.W.Write.contents c.args.written.now c.requires.goes_on (grind (arith, common_steps, c.is_reached.ensures, c.if-is_reached.false, c.requires.none));
+      },
+    ))
 
 pub returns-then-self-clause-begun : goal.returns-then-self-clause-begun
 returns-then-self-clause-begun g c =
