@@ -39,58 +39,38 @@ pub returns-in-Some-clause-begun : goal.returns-in-Some-clause-begun
 returns-in-Some-clause-begun g c = λ shows plain left.
     let written = c.write_path-answered.ensures.begun in
     let ghost = sym written.4.begins.rest.same in
-    let kept : c.keep_count.new.streams ≡ record c.write_path-answered.new.written.streams.now {
-      outcome = record c.write_path-answered.new.written.streams.now.outcome { selected = c.write_path-answered.new.written.streams.now.outcome.selected || nat_lt 0 c.write_path-answered.new.written.count };
-      left = c.keep_count.new.streams.left;
-      total = c.keep_count.new.streams.total;
-    } = search (rules, ghost) in
+    let out : c.keep_count.new.streams.out ≡ c.write_path-answered.new.written.streams.now.out = search (rules, ghost) in
     path_begun g.W.Write.contents c.args.path.now.path c.args.document.bytes.now (view c.args.document.value.now) written.0 _ c.write_path-answered.new.written c.keep_count.new.streams written.1
-    refl (c.least-limit.ensures left) shows written.2 written.3 written.4 plain (ap (λ (s : Streams g.row.W.Denot g.row.E.Denot). s.out) kept)
+    refl (c.least-limit.ensures left) shows written.2 written.3 written.4 plain out
 
 pub returns-in_default-answered-clause-begun : goal.returns-in_default-answered-clause-begun
 returns-in_default-answered-clause-begun g c = λ shows plain left.
     let written = c.write_path-answered.ensures.begun in
     let ghost = sym written.4.begins.rest.same in
-    let kept : c.keep_count.new.streams ≡ record c.write_path-answered.new.written.streams.now {
-      outcome = record c.write_path-answered.new.written.streams.now.outcome { selected = c.write_path-answered.new.written.streams.now.outcome.selected || nat_lt 0 c.write_path-answered.new.written.count };
-      left = c.keep_count.new.streams.left;
-      total = c.keep_count.new.streams.total;
-    } = search (rules, ghost) in
+    let out : c.keep_count.new.streams.out ≡ c.write_path-answered.new.written.streams.now.out = search (rules, ghost) in
     path_begun g.W.Write.contents c.args.path.now.path c.args.document.bytes.now (view c.args.document.value.now) written.0 _ c.write_path-answered.new.written c.keep_count.new.streams written.1
-    refl (c.least-limit.ensures left) shows written.2 written.3 written.4 plain (ap (λ (s : Streams g.row.W.Denot g.row.E.Denot). s.out) kept)
+    refl (c.least-limit.ensures left) shows written.2 written.3 written.4 plain out
 
 pub returns-in_err-refuse_query-clause-begun : goal.returns-in_err-refuse_query-clause-begun
 returns-in_err-refuse_query-clause-begun g c = λ shows plain left.
     let written = c.write_path-answered.ensures.begun in
     let ghost = sym written.4.begins.rest.same in
-    let kept : c.keep_count.new.streams ≡ record c.write_path-answered.new.written.streams.now {
-      outcome = record c.write_path-answered.new.written.streams.now.outcome { selected = c.write_path-answered.new.written.streams.now.outcome.selected || nat_lt 0 c.write_path-answered.new.written.count };
-      left = c.keep_count.new.streams.left;
-      total = c.keep_count.new.streams.total;
-    } = search (rules, ghost) in
+    let out : c.keep_count.new.streams.out ≡ c.write_path-answered.new.written.streams.now.out = search (rules, ghost) in
     path_begun g.W.Write.contents c.args.path.now.path c.args.document.bytes.now (view c.args.document.value.now) written.0 _ c.write_path-answered.new.written c.refuse_query.new.streams written.1
-    refl (c.least-limit.ensures left) shows written.2 written.3 written.4 plain (ap (λ (s : Streams g.row.W.Denot g.row.E.Denot). s.out) c.refuse_query.ensures.kept ∙ ap (λ (s : Streams g.row.W.Denot g.row.E.Denot). s.out) kept)
+    refl (c.least-limit.ensures left) shows written.2 written.3 written.4 plain (ap (λ (s : Streams g.row.W.Denot g.row.E.Denot). s.out) c.refuse_query.ensures.kept ∙ out)
 
 pub returns-then-eq-clause-begun : goal.returns-then-eq-clause-begun
 returns-then-eq-clause-begun g c = λ shows plain left.
     let written = c.write_path-answered.ensures.begun in
     let ghost = sym written.4.begins.rest.same in
-    let kept : c.keep_count.new.streams ≡ record c.write_path-answered.new.written.streams.now {
-      outcome = record c.write_path-answered.new.written.streams.now.outcome { selected = c.write_path-answered.new.written.streams.now.outcome.selected || nat_lt 0 c.write_path-answered.new.written.count };
-      left = c.keep_count.new.streams.left;
-      total = c.keep_count.new.streams.total;
-    } = search (rules, ghost) in
+    let out : c.keep_count.new.streams.out ≡ c.write_path-answered.new.written.streams.now.out = search (rules, ghost) in
     path_begun g.W.Write.contents c.args.path.now.path c.args.document.bytes.now (view c.args.document.value.now) written.0 _ c.write_path-answered.new.written c.refuse_query.new.streams written.1
-    refl (c.least-limit.ensures left) shows written.2 written.3 written.4 plain (ap (λ (s : Streams g.row.W.Denot g.row.E.Denot). s.out) c.refuse_query.ensures.kept ∙ ap (λ (s : Streams g.row.W.Denot g.row.E.Denot). s.out) kept)
+    refl (c.least-limit.ensures left) shows written.2 written.3 written.4 plain (ap (λ (s : Streams g.row.W.Denot g.row.E.Denot). s.out) c.refuse_query.ensures.kept ∙ out)
 
 pub returns-else-eq-clause-begun : goal.returns-else-eq-clause-begun
 returns-else-eq-clause-begun g c = λ shows plain left.
     let written = c.write_path-answered.ensures.begun in
     let ghost = sym written.4.begins.rest.same in
-    let kept : c.keep_count.new.streams ≡ record c.write_path-answered.new.written.streams.now {
-      outcome = record c.write_path-answered.new.written.streams.now.outcome { selected = c.write_path-answered.new.written.streams.now.outcome.selected || nat_lt 0 c.write_path-answered.new.written.count };
-      left = c.keep_count.new.streams.left;
-      total = c.keep_count.new.streams.total;
-    } = search (rules, ghost) in
+    let out : c.keep_count.new.streams.out ≡ c.write_path-answered.new.written.streams.now.out = search (rules, ghost) in
     path_begun g.W.Write.contents c.args.path.now.path c.args.document.bytes.now (view c.args.document.value.now) written.0 _ c.write_path-answered.new.written c.refuse_query.new.streams written.1
-    refl (c.least-limit.ensures left) shows written.2 written.3 written.4 plain (ap (λ (s : Streams g.row.W.Denot g.row.E.Denot). s.out) c.refuse_query.ensures.kept ∙ ap (λ (s : Streams g.row.W.Denot g.row.E.Denot). s.out) kept)
+    refl (c.least-limit.ensures left) shows written.2 written.3 written.4 plain (ap (λ (s : Streams g.row.W.Denot g.row.E.Denot). s.out) c.refuse_query.ensures.kept ∙ out)
