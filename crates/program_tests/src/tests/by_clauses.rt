@@ -106,5 +106,6 @@ fn run_two_files(alloc: Global) -> Result<(u8, Vec<u8>, TwoFiles), AllocError>
 fn two_paths_over_the_lines_of_two_files(rt: HostRuntime) -> Result<(), Fail> {
     let (status, _, files) = run_two_files(rt.alloc())?;
     holds(status == 0, "the status is 0")?;
-    holds(files.opened.len() == 2, "both files are opened, each once")
+    let are_known = files.are_all && files.opened.len() == 2;
+    holds(are_known, "both files are opened, each once")
 }
