@@ -109,8 +109,7 @@ module _ (F : FunctionSet) (top : Data) where
     -- The query's result where `@` is v: the pairs that belong to its derivations, in their order, each derivation once
     -- and no other.
     pub IsResult : Query → Data → List Located → Type 0
-    IsResult (query kind segs) v ns =
-        (ds : List (List Triple)) × IsInOrder (Before segs) ds
+    IsResult (query kind segs) v ns = (ds : List (List Triple)) × IsInOrder (Before segs) ds
         × ((xs : List Triple) → IsIn xs ds ↔ Derives segs (start_of kind top v) xs)
         × AllZip (BelongsTo (start_of kind top v)) ds ns
 

@@ -14,24 +14,20 @@ from_end len bound = if int_lt bound (pos 0) then bound +ℤ len else bound
 abbrev pub bound_of : ℤ → Option ℤ → ℤ → ℤ → ℤ → ℤ
 bound_of len given default low high = int_min high (int_max low (from_end len (unwrap_or given default)))
 
--- p is some whole number of steps from start
-abbrev pub IsStepsFrom : ℤ → ℤ → ℤ → Type 0
-IsStepsFrom start step p = (n : ℕ) × (p ≡ (start +ℤ (pos n *ℤ step)))
-
--- a step above 0: from the start upwards, below the end
+-- a step above 0: from the start upwards, a whole number of steps, below the end
 abbrev pub SelectsRising : Slice → ℤ → ℤ → Type 0
 SelectsRising s len p =
     let start = bound_of len s.start (pos 0) (pos 0) len in
     let end = bound_of len s.end len (pos 0) len in
-    (pos 0 <ℤ step_of s) × (start ≤ℤ p) × (p <ℤ end) × IsStepsFrom start (step_of s) p
+    (pos 0 <ℤ step_of s) × (start ≤ℤ p) × (p <ℤ end) × (n : ℕ) × (p ≡ (start +ℤ (pos n *ℤ step_of s)))
 
--- a step below 0: from the start downwards, above the end
+-- a step below 0: from the start downwards, a whole number of steps, above the end
 abbrev pub SelectsFalling : Slice → ℤ → ℤ → Type 0
 SelectsFalling s len p =
     let last = len -ℤ pos 1 in
     let start = bound_of len s.start last (pos 0 -ℤ pos 1) last in
     let end = bound_of len s.end ((pos 0 -ℤ len) -ℤ pos 1) (pos 0 -ℤ pos 1) last in
-    (step_of s <ℤ pos 0) × (end <ℤ p) × (p ≤ℤ start) × IsStepsFrom start (step_of s) p
+    (step_of s <ℤ pos 0) × (end <ℤ p) × (p ≤ℤ start) × (n : ℕ) × (p ≡ (start +ℤ (pos n *ℤ step_of s)))
 
 -- the slice selects that position of an array of that length; step 0 selects none
 abbrev pub SelectsPosition : Slice → ℕ → ℕ → Type 0

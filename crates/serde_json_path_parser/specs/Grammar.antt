@@ -62,8 +62,7 @@ IsLiteral rule null t = t ≡ codes "null"
 
 -- in parentheses
 abbrev pub InParentheses : (List ℕ → Type 0) → List ℕ → Type 0
-InParentheses ReadsInside t =
-    (j a k : List ℕ) × IsBlank j × ReadsInside a × IsBlank k
+InParentheses ReadsInside t = (j a k : List ℕ) × IsBlank j × ReadsInside a × IsBlank k
     × (t ≡ codes "(" ++ (j ++ (a ++ (k ++ codes ")"))))
 
 -- where it is negated, after `!` and blanks

@@ -130,8 +130,7 @@ IsFraction text n =
 
 -- a decimal number and its fraction, in billionths
 abbrev pub IsAmount : List ℕ → ℕ → Type 0
-IsAmount text n =
-    (a b : List ℕ) × (whole fraction : ℕ) × IsDecimal a whole × IsFraction b fraction
+IsAmount text n = (a b : List ℕ) × (whole fraction : ℕ) × IsDecimal a whole × IsFraction b fraction
     × (text ≡ a ++ b) × (n ≡ (whole * 1000000000) + fraction)
 
 -- a number with or without `-`, of -2 ^ 63 to 2 ^ 64 - 1; `-0` is 0
@@ -139,8 +138,7 @@ abbrev pub IsNumber : List ℕ → ℤ → Type 0
 IsNumber text amount =
     ((n : ℕ) × ((IsAmount text n × (amount ≡ pos n))
     ⊎ ((digits : List ℕ) × IsAmount digits n × (text ≡ codes "-" ++ digits)
-    × (amount ≡ (pos 0 -ℤ pos n)))))
-    × IsLiteralAmount amount
+    × (amount ≡ (pos 0 -ℤ pos n))))) × IsLiteralAmount amount
 
 -- ---- numerals (section 2.3.5.1): a number as the RFC has it, without a sign
 
@@ -199,18 +197,10 @@ hexadecimal_of c =
 
 -- four hexadecimal digits
 abbrev pub IsHex4 : List ℕ → ℕ → Type 0
-IsHex4 text n =
-    (a b c d p q r s : ℕ) × (text ≡ a ∷ b ∷ c ∷ d ∷ [])
+IsHex4 text n = (a b c d p q r s : ℕ) × (text ≡ a ∷ b ∷ c ∷ d ∷ [])
     × (hexadecimal_of a ≡ Some p) × (hexadecimal_of b ≡ Some q)
     × (hexadecimal_of c ≡ Some r) × (hexadecimal_of d ≡ Some s)
     × (n ≡ (((4096 * p) + (256 * q)) + (16 * r)) + s)
-
--- D800 to DBFF, and DC00 to DFFF
-abbrev pub IsHighSurrogate : ℕ → Type 0
-IsHighSurrogate n = (0xd800 ≤ n) × (n ≤ 0xdbff)
-
-abbrev pub IsLowSurrogate : ℕ → Type 0
-IsLowSurrogate n = (0xdc00 ≤ n) × (n ≤ 0xdfff)
 
 -- the character of a pair of surrogates
 abbrev pub pair_of : ℕ → ℕ → ℕ
@@ -241,8 +231,9 @@ pub data IsPiece (quote : ℕ) : List ℕ → ℕ → Type 0 where
       → IsPiece quote (codes "\\" ++ letter ∷ []) c
   hex_escape : (digits : List ℕ) (c : ℕ) → IsHex4 digits c → (c < 0xd800) ⊎ (0xdfff < c)
       → IsPiece quote (codes "\\u" ++ digits) c
+  -- the surrogates of a pair: the high one is D800 to DBFF, the low one DC00 to DFFF
   pair_escape : (a b : List ℕ) (high low : ℕ) → IsHex4 a high → IsHex4 b low
-      → IsHighSurrogate high → IsLowSurrogate low
+      → (0xd800 ≤ high) × (high ≤ 0xdbff) → (0xdc00 ≤ low) × (low ≤ 0xdfff)
       → IsPiece quote ((codes "\\u" ++ a) ++ (codes "\\u" ++ b)) (pair_of high low)
 
 abbrev pub IsQuote : ℕ → Type 0

@@ -153,10 +153,10 @@ is_course (pos (suc k)) s len e =
     record {
       selects = λ p. (
         elim [
-          | inl (_, from, before, (n, is)) ↦ let h = (rising_at s len k p n e).0 (from, before, is) in (n, h.0, h.1)
+          | inl (_, from, before, n, is) ↦ let h = (rising_at s len k p n e).0 (from, before, is) in (n, h.0, h.1)
           | inr h ↦ absurd (let down = subst (λ z. z <ℤ pos 0) e h.0 in omega (arith, ints))
         ],
-        λ (n, less, is). let h = (rising_at s len k p n e).1 (less, is) in inl (up, h.0, h.1, (n, h.2)),
+        λ (n, less, is). let h = (rising_at s len k p n e).1 (less, is) in inl (up, h.0, h.1, n, h.2),
       );
       there = λ j h. let less = (counted_within j w k).0 h in omega (arith, place_up i (suc k) j);
       before = λ a b h g. inl (up, omega (arith, place_up i (suc k) a, place_up i (suc k) b, strides_less a b k h));
@@ -170,9 +170,9 @@ is_course (negsuc k) s len e =
       selects = λ p. (
         elim [
           | inl h ↦ absurd (let up = subst (λ z. pos 0 <ℤ z) e h.0 in omega (arith, ints))
-          | inr (_, after, upto, (n, is)) ↦ let h = (falling_at s len k p n e).0 (after, upto, is) in (n, h.0, h.1)
+          | inr (_, after, upto, n, is) ↦ let h = (falling_at s len k p n e).0 (after, upto, is) in (n, h.0, h.1)
         ],
-        λ (n, less, is). let h = (falling_at s len k p n e).1 (less, is) in inr (down, h.0, h.1, (n, h.2)),
+        λ (n, less, is). let h = (falling_at s len k p n e).1 (less, is) in inr (down, h.0, h.1, n, h.2),
       );
       there = λ j h. let less = (counted_within j w k).0 h in omega (arith, place_down (u - 1) (suc k) j);
       before = λ a b h g. let less = (counted_within b w k).0 g in
