@@ -7,6 +7,7 @@
 -- Sending: what is sent of inputs, one after the other.
 -- Opened: which inputs are opened, one after the other.
 -- Ended: how a run ends.
+-- Quiet: runs that show nothing, and answer whether there is a node.
 -- Checked: paths that are checked, one after the other.
 -- Words: the words of definitions and lemmas, from one place.
 mod Nodes
@@ -17,5 +18,6 @@ mod Asked
 mod Sending
 mod Opened
 mod Ended
+mod Quiet
 mod Checked
 mod Words

@@ -69,6 +69,7 @@ keeps_both before old now first second = record {
   head = second.head ∙ first.head;
   limit = second.limit ∙ first.limit;
   outcome = second.outcome ∙ first.outcome;
+  err = second.err ∙ first.err;
   left = second.left ∙ first.left;
 }
 
@@ -93,7 +94,7 @@ writes_both contents ns ms before old now rest first second plain =
 -- none was written
 pub took_none : {W E : Type 0} (contents : W → Option (List ℕ)) (w : Written W E) → w.stop ≡ None → is_reached w.limit w.count ≡ false → TookNodes contents w [] w
 took_none contents w stop more = record {
-  rest = record { same = refl; showing = refl; head = refl; limit = refl; outcome = refl; left = refl };
+  rest = record { same = refl; showing = refl; head = refl; limit = refl; outcome = refl; err = refl; left = refl };
   stop = stop;
   count = arith_zero w.count;
   more = more;
@@ -200,7 +201,7 @@ begins_nothing contents w = record {
   split = refl;
   few = λ _. no_more w.limit;
   begins = record {
-    rest = record { same = refl; showing = refl; head = refl; limit = refl; outcome = refl; left = refl };
+    rest = record { same = refl; showing = refl; head = refl; limit = refl; outcome = refl; err = refl; left = refl };
     lines = λ _. ([], refl, none_begun (contents w.streams.now.out) (string_bytes w.streams.now.pending ++ []));
   };
 }

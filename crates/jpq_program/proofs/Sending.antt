@@ -1,10 +1,14 @@
 -- What is sent of inputs, one after the other.
-use Rattle.jpq_program.proofs.Words.{◌≡◌, ◌∙◌, ◌+◌, ◌==◌, ◌<◌, ℕ, Bool, true, false, List, [], ◌∷◌, ◌++◌, None, Option, length, length-append, refl, sym, ap, subst, append-nil, append_assoc, arith, string_bytes, Answering, AreAnswersInPart, AskedPath, IsAnswerInPart, Output, JsonPath, builtin_functions, head_by, inl, shown_in_part_by, AreEach, AreInputsShown, AreKnown, Answered, Begins, Bor, IsInputShown, IsNamedShown, More, Next, get_or, get_or-map, length-map, map, suc, take, zero, IsLineShown, OnlyNotes, OnlyRefuses, Sends, Shown, Streams, drop_through, Global, IfSome, Some, MatchBool, if◌then◌else◌, is_blank, lines_of, strip_last, take_through, with_byte, without_mark}
+use Rattle.jpq_program.proofs.Words.{◌≡◌, ◌∙◌, ◌+◌, ◌==◌, ◌<◌, ℕ, Bool, true, false, List, [], ◌∷◌, ◌++◌, None, Option, length, length-append, refl, sym, ap, subst, append-nil, append_assoc, arith, string_bytes, Answering, AreAnswersInPart, AskedPath, IsAnswerInPart, Output, JsonPath, builtin_functions, head_by, inl, shown_in_part_by, AreEach, AreInputsShown, AreKnown, Answered, Begins, Bor, IsInputShown, IsNamedShown, More, Next, get_or, get_or-map, length-map, map, suc, take, zero, IsLineShown, OnlyNotes, OnlyRefuses, Sends, Shown, Streams, drop_through, Global, IfSome, Some, MatchBool, if◌then◌else◌, is_blank, lines_of, strip_last, take_through, with_byte, without_mark, Form, IfMore, SendsUntil, drop}
 use Rattle.std.specs.Io.Buffered.{reader_buffer, reader_capacity, reader_inner, reader_remaining}
 use Rattle.std.specs.Io.KnownBytes.{prepend_known}
 use Rattle.std.specs.declared.io.buffered.BufReader.{BufReader}
 use Rattle.jpq_program.proofs.Nodes.{adds_nothing, split_mapped}
-use Rattle.jpq_program.proofs.Shown.{answered_as, answered_further, answered_noted, begun_as, begun_further, begun_still, answered_begun, answered_refused, each_nothing, each_rest, mapped_begun, mapped_further, none_answered, or_false}
+use Rattle.jpq_program.proofs.Shown.{answered_as, answered_further, answered_noted, begun_as, begun_further, begun_still, answered_begun, answered_refused, each_nothing, each_rest, mapped_begun, mapped_further, none_answered, or_false, answered_until, mapped_until, if_more}
+
+-- a text was sent, and the run goes on
+pub goes_on : {W E : Type 0} {silent : Bool} (contents : W → Option (List ℕ)) (form : Form) (Is IsPart : List ℕ → Bool → Type 0) (next : Next) (before now : Streams W E) → next ≡ More → Sends silent contents Is IsPart before now → SendsUntil silent contents form next Is IsPart before now
+goes_on contents form Is IsPart next before now more sent = (inl more, (if_more contents Is IsPart next before now sent.0, sent.1))
 
 -- ---- the lines of a text
 
@@ -45,8 +49,8 @@ pub no_answer : (answering : Answering) (name : List ℕ) (number : ℕ) (bytes 
 no_answer answering name number bytes = no_paths (map (λ (path : AskedPath). path.path) answering.paths.now) answering.showing.output (head_by answering.heads name number) bytes
 
 -- of a blank line nothing is
-pub blank_sent : {W E : Type 0} (contents : W → Option (List ℕ)) (Is IsPart : Shown) (name : List ℕ) (number : ℕ) (line : List ℕ) (streams : Streams W E) → is_blank line ≡ true → streams.left ≡ None
-    → Answered contents (IsLineShown Is name number line) (IsLineShown IsPart name number line) streams streams
+pub blank_sent : {W E : Type 0} {silent : Bool} (contents : W → Option (List ℕ)) (Is IsPart : Shown) (name : List ℕ) (number : ℕ) (line : List ℕ) (streams : Streams W E) → is_blank line ≡ true → streams.left ≡ None
+    → Answered silent contents (IsLineShown Is name number line) (IsLineShown IsPart name number line) streams streams
 blank_sent contents Is IsPart name number line streams blank left = record {
   text = [];
   any = false;
@@ -55,6 +59,7 @@ blank_sent contents Is IsPart name number line streams blank left = record {
   writes = adds_nothing (contents streams.out) (string_bytes streams.pending);
   selected = or_false streams.outcome.selected;
   left = left;
+  told = λ silent right. refl;
 }
 
 -- ---- what is known
@@ -93,15 +98,15 @@ no_input Is true name bytes none = no_lines Is name (lines_of bytes) none 1
 no_input Is false name bytes none = none 1 (without_mark bytes)
 
 -- So many lines of a text were sent, and these bytes are left of it.
-pub record SentLines {W E : Type 0} (contents : W → Option (List ℕ)) (Is IsPart : Shown) (name bytes left : List ℕ) (count : ℕ) (before now : Streams W E) : Type 0 where
+pub record SentLines {W E : Type 0} (silent : Bool) (contents : W → Option (List ℕ)) (Is IsPart : Shown) (name bytes left : List ℕ) (count : ℕ) (before now : Streams W E) : Type 0 where
   pub done : List (List ℕ)
   pub many : length done ≡ count
   pub whole : lines_of bytes ≡ done ++ lines_of left
-  pub sent : Sends contents (AreEach (IsLineShown Is name) 1 done) (AreEach (IsLineShown IsPart name) 1 done) before now
+  pub sent : Sends silent contents (AreEach (IsLineShown Is name) 1 done) (AreEach (IsLineShown IsPart name) 1 done) before now
 
 -- none was yet
-pub sent_none : {W E : Type 0} (contents : W → Option (List ℕ)) (Is IsPart : Shown) (name bytes : List ℕ) (streams : Streams W E) → streams.left ≡ None → string_bytes streams.pending ≡ []
-    → SentLines contents Is IsPart name bytes bytes 0 streams streams
+pub sent_none : {W E : Type 0} {silent : Bool} (contents : W → Option (List ℕ)) (Is IsPart : Shown) (name bytes : List ℕ) (streams : Streams W E) → streams.left ≡ None → string_bytes streams.pending ≡ []
+    → SentLines silent contents Is IsPart name bytes bytes 0 streams streams
 sent_none contents Is IsPart name bytes streams left empty = record {
   done = [];
   many = refl;
@@ -110,15 +115,15 @@ sent_none contents Is IsPart name bytes streams left empty = record {
 }
 
 -- one more was
-pub sent_further : {W E : Type 0} (contents : W → Option (List ℕ)) (Is IsPart : Shown) (name bytes left line later : List ℕ) (count : ℕ) (before old now : Streams W E) → SentLines contents Is IsPart name bytes left count before old
-    → lines_of left ≡ line ∷ lines_of later → Sends contents (IsLineShown Is name (1 + count) line) (IsLineShown IsPart name (1 + count) line) old now → SentLines contents Is IsPart name bytes later (count + 1) before now
-sent_further contents Is IsPart name bytes left line later count before old now lines taken second = record {
+pub sent_further : {W E : Type 0} {silent : Bool} (contents : W → Option (List ℕ)) (Is IsPart : Shown) (name bytes left line later : List ℕ) (count : ℕ) (before old now : Streams W E) → SentLines silent contents Is IsPart name bytes left count before old
+    → lines_of left ≡ line ∷ lines_of later → Sends silent contents (IsLineShown Is name (1 + count) line) (IsLineShown IsPart name (1 + count) line) old now → SentLines silent contents Is IsPart name bytes later (count + 1) before now
+sent_further {silent = silent} contents Is IsPart name bytes left line later count before old now lines taken second = record {
   done = lines.done ++ line ∷ [];
   many = length_more lines.done line ∙ ap (λ n. n + 1) lines.many;
   whole = lines.whole ∙ ap (λ (l : List (List ℕ)). lines.done ++ l) taken ∙ sym (append_assoc lines.done (line ∷ []) (lines_of later));
   sent = (
     answered_further contents (IsLineShown Is name) (IsLineShown IsPart name) 1 lines.done line before old now lines.sent.0
-        (subst (λ n. Answered contents (IsLineShown Is name n line) (IsLineShown IsPart name n line) old now) (ap (λ n. 1 + n) (sym lines.many)) second.0),
+        (subst (λ n. Answered silent contents (IsLineShown Is name n line) (IsLineShown IsPart name n line) old now) (ap (λ n. 1 + n) (sym lines.many)) second.0),
     second.1,
   );
 }
@@ -127,32 +132,43 @@ sent_further contents Is IsPart name bytes left line later count before old now 
     length_more lines line = grind (arith, length-append)
 
 -- of one more a beginning is out
-pub sent_begun : {W E : Type 0} (contents : W → Option (List ℕ)) (Is IsPart : Shown) (name bytes left line later : List ℕ) (count : ℕ) (before old now : Streams W E) → ((number : ℕ) (bytes : List ℕ) → IsPart name number bytes [] false)
-    → SentLines contents Is IsPart name bytes left count before old → lines_of left ≡ line ∷ lines_of later → Begins contents (IsLineShown IsPart name (1 + count) line) old now
+pub sent_begun : {W E : Type 0} {silent : Bool} (contents : W → Option (List ℕ)) (Is IsPart : Shown) (name bytes left line later : List ℕ) (count : ℕ) (before old now : Streams W E) → ((number : ℕ) (bytes : List ℕ) → IsPart name number bytes [] false)
+    → SentLines silent contents Is IsPart name bytes left count before old → lines_of left ≡ line ∷ lines_of later → Begins contents (IsLineShown IsPart name (1 + count) line) old now
     → Begins contents (AreEach (IsLineShown IsPart name) 1 (lines_of bytes)) before now
 sent_begun contents Is IsPart name bytes left line later count before old now none lines taken begun =
     subst (λ (all : List (List ℕ)). Begins contents (AreEach (IsLineShown IsPart name) 1 all) before now) (sym (lines.whole ∙ ap (λ (l : List (List ℕ)). lines.done ++ l) taken))
     (begun_further contents (IsLineShown Is name) (IsLineShown IsPart name) 1 lines.done line (lines_of later) before old now (no_lines IsPart name (lines_of later) none) lines.sent.0
     (subst (λ n. Begins contents (IsLineShown IsPart name n line) old now) (ap (λ n. 1 + n) (sym lines.many)) begun))
 
+-- the run ended in one more
+pub lines_until : {W E : Type 0} {silent : Bool} (contents : W → Option (List ℕ)) (Is IsPart : Shown) (Own Other : List ℕ → Bool → Type 0) (next : Next) (name bytes left line later : List ℕ) (count : ℕ) (before old now : Streams W E) → (next ≡ More → ⊥)
+    → ((number : ℕ) (bytes : List ℕ) → IsPart name number bytes [] false) → SentLines silent contents Is IsPart name bytes left count before old → lines_of left ≡ line ∷ lines_of later → Sends silent contents Own (IsLineShown IsPart name (1 + count) line) old now
+    → Sends silent contents (IfMore next Other) (AreEach (IsLineShown IsPart name) 1 (lines_of bytes)) before now
+lines_until {silent = silent} contents Is IsPart Own Other next name bytes left line later count before old now ended none lines taken second = (
+  subst (λ (all : List (List ℕ)). Answered silent contents (IfMore next Other) (AreEach (IsLineShown IsPart name) 1 all) before now) (sym (lines.whole ∙ ap (λ (l : List (List ℕ)). lines.done ++ l) taken))
+      (answered_until contents (IsLineShown Is name) (IsLineShown IsPart name) Own Other next 1 lines.done line (lines_of later) before old now ended (no_lines IsPart name (lines_of later) none) lines.sent.0
+      (subst (λ n. Answered silent contents Own (IsLineShown IsPart name n line) old now) (ap (λ n. 1 + n) (sym lines.many)) second.0)),
+  second.1,
+)
+
 -- of those that are left nothing is shown
-pub sent_part : {W E : Type 0} (contents : W → Option (List ℕ)) (Is IsPart : Shown) (name bytes left : List ℕ) (count : ℕ) (before now : Streams W E) → ((number : ℕ) (bytes : List ℕ) → IsPart name number bytes [] false)
-    → (lines : SentLines contents Is IsPart name bytes left count before now) → Answered contents (AreEach (IsLineShown Is name) 1 lines.done) (AreEach (IsLineShown IsPart name) 1 (lines_of bytes)) before now
+pub sent_part : {W E : Type 0} {silent : Bool} (contents : W → Option (List ℕ)) (Is IsPart : Shown) (name bytes left : List ℕ) (count : ℕ) (before now : Streams W E) → ((number : ℕ) (bytes : List ℕ) → IsPart name number bytes [] false)
+    → (lines : SentLines silent contents Is IsPart name bytes left count before now) → Answered silent contents (AreEach (IsLineShown Is name) 1 lines.done) (AreEach (IsLineShown IsPart name) 1 (lines_of bytes)) before now
 sent_part contents Is IsPart name bytes left count before now none lines =
     answered_as contents (AreEach (IsLineShown Is name) 1 lines.done) (AreEach (IsLineShown IsPart name) 1 lines.done) (AreEach (IsLineShown Is name) 1 lines.done) (AreEach (IsLineShown IsPart name) 1 (lines_of bytes)) before now (λ text any is. is)
     (λ text any part. subst (λ (all : List (List ℕ)). AreEach (IsLineShown IsPart name) 1 all text any) (sym lines.whole) (each_rest (IsLineShown IsPart name) 1 lines.done (lines_of left) text any (no_lines IsPart name (lines_of left) none) part)) lines.sent.0
 
 -- of so many lines, and nothing after them, a beginning is out
-pub lines_begun : {W E : Type 0} (contents : W → Option (List ℕ)) (Is IsPart : Shown) (name bytes left : List ℕ) (count : ℕ) (before old now : Streams W E) → ((number : ℕ) (bytes : List ℕ) → IsPart name number bytes [] false)
-    → SentLines contents Is IsPart name bytes left count before old → now.out ≡ old.out → Begins contents (AreEach (IsLineShown IsPart name) 1 (lines_of bytes)) before now
+pub lines_begun : {W E : Type 0} {silent : Bool} (contents : W → Option (List ℕ)) (Is IsPart : Shown) (name bytes left : List ℕ) (count : ℕ) (before old now : Streams W E) → ((number : ℕ) (bytes : List ℕ) → IsPart name number bytes [] false)
+    → SentLines silent contents Is IsPart name bytes left count before old → now.out ≡ old.out → Begins contents (AreEach (IsLineShown IsPart name) 1 (lines_of bytes)) before now
 lines_begun contents Is IsPart name bytes left count before old now none lines same =
     let all = AreEach (IsLineShown IsPart name) 1 (lines_of bytes) in
     begun_still contents all before old now (answered_begun contents (AreEach (IsLineShown Is name) 1 lines.done) all before old (sent_part contents Is IsPart name bytes left count before old none lines)) same
 
 -- the rest was refused
-pub lines_refused : {W E : Type 0} (contents : W → Option (List ℕ)) (Is IsPart : Shown) (name bytes left : List ℕ) (count : ℕ) (before old now : Streams W E) → ((number : ℕ) (bytes : List ℕ) → IsPart name number bytes [] false)
-    → SentLines contents Is IsPart name bytes left count before old → OnlyRefuses old now → now.outcome.refused ≡ true
-    → Sends contents (AreEach (IsLineShown Is name) 1 (lines_of bytes)) (AreEach (IsLineShown IsPart name) 1 (lines_of bytes)) before now
+pub lines_refused : {W E : Type 0} {silent : Bool} (contents : W → Option (List ℕ)) (Is IsPart : Shown) (name bytes left : List ℕ) (count : ℕ) (before old now : Streams W E) → ((number : ℕ) (bytes : List ℕ) → IsPart name number bytes [] false)
+    → SentLines silent contents Is IsPart name bytes left count before old → OnlyRefuses old now → now.outcome.refused ≡ true
+    → Sends silent contents (AreEach (IsLineShown Is name) 1 (lines_of bytes)) (AreEach (IsLineShown IsPart name) 1 (lines_of bytes)) before now
 lines_refused {W} {E} contents Is IsPart name bytes left count before old now none lines kept refused = (
   answered_refused contents (AreEach (IsLineShown Is name) 1 lines.done) (AreEach (IsLineShown IsPart name) 1 (lines_of bytes)) (AreEach (IsLineShown Is name) 1 (lines_of bytes)) before old now
       (sent_part contents Is IsPart name bytes left count before old none lines) kept refused,
@@ -160,12 +176,12 @@ lines_refused {W} {E} contents Is IsPart name bytes left count before old now no
 )
 
 -- all were, where no byte is left
-pub sent_all : {W E : Type 0} (contents : W → Option (List ℕ)) (Is IsPart : Shown) (name bytes left : List ℕ) (count : ℕ) (before old now : Streams W E) → SentLines contents Is IsPart name bytes left count before old → left ≡ [] → OnlyNotes old now
-    → Sends contents (AreEach (IsLineShown Is name) 1 (lines_of bytes)) (AreEach (IsLineShown IsPart name) 1 (lines_of bytes)) before now
-sent_all {W} {E} contents Is IsPart name bytes left count before old now lines none kept =
+pub sent_all : {W E : Type 0} {silent : Bool} (contents : W → Option (List ℕ)) (Is IsPart : Shown) (name bytes left : List ℕ) (count : ℕ) (before old now : Streams W E) → SentLines silent contents Is IsPart name bytes left count before old → left ≡ [] → OnlyNotes old now → (old.outcome.refused ≡ false → now.err ≡ old.err)
+    → Sends silent contents (AreEach (IsLineShown Is name) 1 (lines_of bytes)) (AreEach (IsLineShown IsPart name) 1 (lines_of bytes)) before now
+sent_all {W} {E} {silent = silent} contents Is IsPart name bytes left count before old now lines none kept quiet =
     let all : lines.done ≡ lines_of bytes = sym (lines.whole ∙ ap (λ (l : List ℕ). lines.done ++ lines_of l) none ∙ append-nil lines.done) in (
-      subst (λ (some : List (List ℕ)). Answered contents (AreEach (IsLineShown Is name) 1 some) (AreEach (IsLineShown IsPart name) 1 some) before now) all
-          (answered_noted contents (AreEach (IsLineShown Is name) 1 lines.done) (AreEach (IsLineShown IsPart name) 1 lines.done) before old now lines.sent.0 kept),
+      subst (λ (some : List (List ℕ)). Answered silent contents (AreEach (IsLineShown Is name) 1 some) (AreEach (IsLineShown IsPart name) 1 some) before now) all
+          (answered_noted contents (AreEach (IsLineShown Is name) 1 lines.done) (AreEach (IsLineShown IsPart name) 1 lines.done) before old now lines.sent.0 kept (λ silent right. quiet (sym (ap (λ (s : Streams W E). s.outcome.refused) kept) ∙ right))),
       ap (λ (s : Streams W E). string_bytes s.pending) kept ∙ lines.sent.1,
     )
 
@@ -197,12 +213,18 @@ known_rest : (bytes_of : List ℕ → Option (List ℕ)) (first rest : List (Lis
 known_rest bytes_of [] rest known = known
 known_rest bytes_of (name ∷ names) rest known = known_rest bytes_of names rest (λ i within. known (suc i) (omega (arith, within)))
 
+-- so are those after one
+known_after : (bytes_of : List ℕ → Option (List ℕ)) (names : List (Bor (List ℕ))) (index : ℕ) (name : Bor (List ℕ)) → index < length names → name ≡ get_or names index name → AreKnown bytes_of (map (λ (name : Bor (List ℕ)). name.now) names)
+    → AreKnown bytes_of (map (λ (name : Bor (List ℕ)). name.now) (drop (suc index) names))
+known_after bytes_of names index name within is known =
+    known_rest bytes_of (name.now ∷ []) _ (known_rest bytes_of (map (λ (name : Bor (List ℕ)). name.now) (take index names)) _ (subst (AreKnown bytes_of) (split_mapped (λ (name : Bor (List ℕ)). name.now) names index name within is) known))
+
 -- of another input a beginning is out
-pub input_begun : {W E : Type 0} (contents : W → Option (List ℕ)) (Is IsPart : Shown) (lines : Bool) (bytes_of bytes_now : List ℕ → Option (List ℕ)) (names : List (Bor (List ℕ))) (index : ℕ) (none : Bor (List ℕ)) (before old now : Streams W E)
+pub input_begun : {W E : Type 0} {silent : Bool} (contents : W → Option (List ℕ)) (Is IsPart : Shown) (lines : Bool) (bytes_of bytes_now : List ℕ → Option (List ℕ)) (names : List (Bor (List ℕ))) (index : ℕ) (none : Bor (List ℕ)) (before old now : Streams W E)
     → ((name : List ℕ) (number : ℕ) (bytes : List ℕ) → IsPart name number bytes [] false)
     → index < length names → ((name : List ℕ) → bytes_now name ≡ bytes_of name) → AreKnown bytes_of (map (λ (name : Bor (List ℕ)). name.now) names)
     → IfSome (bytes_now (get_or names index none).now) (λ bytes. Begins contents (IsInputShown IsPart lines (get_or names index none).now bytes) old now)
-    → Answered contents (AreInputsShown Is lines bytes_of (map (λ (name : Bor (List ℕ)). name.now) (take index names))) (AreInputsShown IsPart lines bytes_of (map (λ (name : Bor (List ℕ)). name.now) (take index names))) before old
+    → Answered silent contents (AreInputsShown Is lines bytes_of (map (λ (name : Bor (List ℕ)). name.now) (take index names))) (AreInputsShown IsPart lines bytes_of (map (λ (name : Bor (List ℕ)). name.now) (take index names))) before old
     → Begins contents (AreInputsShown IsPart lines bytes_of (map (λ (name : Bor (List ℕ)). name.now) names)) before now
 input_begun contents Is IsPart lines bytes_of bytes_now names index none before old now nothing within same known begun first =
     let name = get_or names index none in
@@ -210,27 +232,44 @@ input_begun contents Is IsPart lines bytes_of bytes_now names index none before 
     let here = known_input bytes_of bytes_now names index none within same known in
     let own = begun_as contents (IsInputShown IsPart lines name.now here.0) (IsNamedShown IsPart lines bytes_of name.now) old now (λ text any shown. (here.0, here.1, shown))
     (known_at (λ (bytes : List ℕ). Begins contents (IsInputShown IsPart lines name.now bytes) old now) (bytes_now name.now) here.0 here.2 begun) in
-    let split = split_mapped (λ (name : Bor (List ℕ)). name.now) names index name within is in
-    let rest = known_rest bytes_of (name.now ∷ []) _ (known_rest bytes_of (map (λ (name : Bor (List ℕ)). name.now) (take index names)) _ (subst (AreKnown bytes_of) split known)) in
     mapped_begun contents (λ (number : ℕ) (name : List ℕ). IsNamedShown Is lines bytes_of name) (λ (number : ℕ) (name : List ℕ). IsNamedShown IsPart lines bytes_of name) (λ (name : Bor (List ℕ)). name.now)
-    names index name before old now (no_named IsPart lines bytes_of _ nothing rest) within is first own
+    names index name before old now (no_named IsPart lines bytes_of _ nothing (known_after bytes_of names index name within is known)) within is first own
 
 -- another input was sent
-pub input_sent : {W E : Type 0} (contents : W → Option (List ℕ)) (Is IsPart : Shown) (lines : Bool) (bytes_of bytes_now : List ℕ → Option (List ℕ)) (names : List (Bor (List ℕ))) (index : ℕ) (none : Bor (List ℕ)) (next : Next) (before old now : Streams W E)
-    → index < length names → ((name : List ℕ) → bytes_now name ≡ bytes_of name) → AreKnown bytes_of (map (λ (name : Bor (List ℕ)). name.now) names)
-    → IfSome (bytes_now (get_or names index none).now) (λ bytes. (next ≡ More) × Sends contents (IsInputShown Is lines (get_or names index none).now bytes) (IsInputShown IsPart lines (get_or names index none).now bytes) old now)
-    → Answered contents (AreInputsShown Is lines bytes_of (map (λ (name : Bor (List ℕ)). name.now) (take index names))) (AreInputsShown IsPart lines bytes_of (map (λ (name : Bor (List ℕ)). name.now) (take index names))) before old
-    → (next ≡ More) × Sends contents (AreInputsShown Is lines bytes_of (map (λ (name : Bor (List ℕ)). name.now) (take (index + 1) names))) (AreInputsShown IsPart lines bytes_of (map (λ (name : Bor (List ℕ)). name.now) (take (index + 1) names))) before now
-input_sent contents Is IsPart lines bytes_of bytes_now names index none next before old now within same known shown first =
+pub input_sent : {W E : Type 0} {silent : Bool} (contents : W → Option (List ℕ)) (form : Form) (Is IsPart : Shown) (lines : Bool) (bytes_of bytes_now : List ℕ → Option (List ℕ)) (names : List (Bor (List ℕ))) (index : ℕ) (none : Bor (List ℕ)) (next : Next) (before old now : Streams W E)
+    → next ≡ More → index < length names → ((name : List ℕ) → bytes_now name ≡ bytes_of name) → AreKnown bytes_of (map (λ (name : Bor (List ℕ)). name.now) names)
+    → IfSome (bytes_now (get_or names index none).now) (λ bytes. SendsUntil silent contents form next (IsInputShown Is lines (get_or names index none).now bytes) (IsInputShown IsPart lines (get_or names index none).now bytes) old now)
+    → Answered silent contents (AreInputsShown Is lines bytes_of (map (λ (name : Bor (List ℕ)). name.now) (take index names))) (AreInputsShown IsPart lines bytes_of (map (λ (name : Bor (List ℕ)). name.now) (take index names))) before old
+    → Sends silent contents (AreInputsShown Is lines bytes_of (map (λ (name : Bor (List ℕ)). name.now) (take (index + 1) names))) (AreInputsShown IsPart lines bytes_of (map (λ (name : Bor (List ℕ)). name.now) (take (index + 1) names))) before now
+input_sent {silent = silent} contents form Is IsPart lines bytes_of bytes_now names index none next before old now more within same known shown first =
     let name = (get_or names index none).now in
     let here = known_input bytes_of bytes_now names index none within same known in
-    let sent = known_at (λ (bytes : List ℕ). (next ≡ More) × Sends contents (IsInputShown Is lines name bytes) (IsInputShown IsPart lines name bytes) old now) (bytes_now name) here.0 here.2 shown in
-    let own = answered_as contents (IsInputShown Is lines name here.0) (IsInputShown IsPart lines name here.0) (IsNamedShown Is lines bytes_of name) (IsNamedShown IsPart lines bytes_of name) old now
-    (λ text any shown. (here.0, here.1, shown)) (λ text any shown. (here.0, here.1, shown)) sent.1.0 in (
+    let sent = known_at (λ (bytes : List ℕ). SendsUntil silent contents form next (IsInputShown Is lines name bytes) (IsInputShown IsPart lines name bytes) old now) (bytes_now name) here.0 here.2 shown in
+    let own = answered_as contents (IfMore next (IsInputShown Is lines name here.0)) (IsInputShown IsPart lines name here.0) (IsNamedShown Is lines bytes_of name) (IsNamedShown IsPart lines bytes_of name) old now
+    (λ text any shown. (here.0, here.1, shown more)) (λ text any shown. (here.0, here.1, shown)) sent.1.0 in (
+      mapped_further contents (λ (number : ℕ) (name : List ℕ). IsNamedShown Is lines bytes_of name) (λ (number : ℕ) (name : List ℕ). IsNamedShown IsPart lines bytes_of name) (λ (name : Bor (List ℕ)). name.now)
+          names index (get_or names index none) before old now within (same_item names index none (get_or names index none) within) first own,
+      sent.1.1,
+    )
+
+-- the run ended in another input
+pub input_until : {W E : Type 0} {silent : Bool} (contents : W → Option (List ℕ)) (form : Form) (Is IsPart : Shown) (Other : List ℕ → Bool → Type 0) (lines : Bool) (bytes_of bytes_now : List ℕ → Option (List ℕ)) (names : List (Bor (List ℕ))) (index : ℕ) (none : Bor (List ℕ)) (next : Next) (before old now : Streams W E)
+    → (next ≡ More → ⊥) → ((name : List ℕ) (number : ℕ) (bytes : List ℕ) → IsPart name number bytes [] false)
+    → index < length names → ((name : List ℕ) → bytes_now name ≡ bytes_of name) → AreKnown bytes_of (map (λ (name : Bor (List ℕ)). name.now) names)
+    → IfSome (bytes_now (get_or names index none).now) (λ bytes. SendsUntil silent contents form next (IsInputShown Is lines (get_or names index none).now bytes) (IsInputShown IsPart lines (get_or names index none).now bytes) old now)
+    → Answered silent contents (AreInputsShown Is lines bytes_of (map (λ (name : Bor (List ℕ)). name.now) (take index names))) (AreInputsShown IsPart lines bytes_of (map (λ (name : Bor (List ℕ)). name.now) (take index names))) before old
+    → SendsUntil silent contents form next Other (AreInputsShown IsPart lines bytes_of (map (λ (name : Bor (List ℕ)). name.now) names)) before now
+input_until {silent = silent} contents form Is IsPart Other lines bytes_of bytes_now names index none next before old now ended nothing within same known shown first =
+    let name = get_or names index none in
+    let is = same_item names index none name within in
+    let here = known_input bytes_of bytes_now names index none within same known in
+    let sent = known_at (λ (bytes : List ℕ). SendsUntil silent contents form next (IsInputShown Is lines name.now bytes) (IsInputShown IsPart lines name.now bytes) old now) (bytes_now name.now) here.0 here.2 shown in
+    let Own = IfMore next (IsInputShown Is lines name.now here.0) in
+    let own = answered_as contents Own (IsInputShown IsPart lines name.now here.0) Own (IsNamedShown IsPart lines bytes_of name.now) old now (λ text any is. is) (λ text any shown. (here.0, here.1, shown)) sent.1.0 in (
       sent.0,
       (
-        mapped_further contents (λ (number : ℕ) (name : List ℕ). IsNamedShown Is lines bytes_of name) (λ (number : ℕ) (name : List ℕ). IsNamedShown IsPart lines bytes_of name) (λ (name : Bor (List ℕ)). name.now)
-            names index (get_or names index none) before old now within (same_item names index none (get_or names index none) within) first own,
+        mapped_until contents (λ (number : ℕ) (name : List ℕ). IsNamedShown Is lines bytes_of name) (λ (number : ℕ) (name : List ℕ). IsNamedShown IsPart lines bytes_of name) Own Other next (λ (name : Bor (List ℕ)). name.now)
+            names index name before old now ended (no_named IsPart lines bytes_of _ nothing (known_after bytes_of names index name within is known)) within is first own,
         sent.1.1,
       ),
     )

@@ -1,5 +1,5 @@
 -- What was written of a document is what its paths show.
-use Rattle.jpq_program.proofs.Words.{◌≡◌, ◌∙◌, ◌&&◌, ◌||◌, ℕ, Bool, true, false, List, Option, None, length, nat_lt, refl, sym, ap, subst, inl, inr, arith, common_steps, nat_tests, string_bytes, Located, Data, JsonPath, Selects, builtin_functions, path_tree, with_rule_of, AreLinesIn, IsLineOfEach, Form, Json, Count, Nothing, Output, chosen, once, up_to, Adds, Answered, FilledNodes, KeepsRest, IsAnswer, IsAnswerInPart, IsAnswerOn, IsAsked, Answering, AnswersPath, AppendsBeginning, is_plain_answer, is_table, not, AreSelected, Begins, BeginsFirst, IfSome, OnlyRefuses, Some, TookFirst, drop, map-append, take-append-drop, take-append-le, true≢false, IsCountIn, AreEach, Counts, OnlyNotes, OnlyWrites, Writes, IfErr, IfOk, Ok, Err, OnOk, Result, Outcome, ShowsAs, Showing, Streams, String, Global, Written, has_counts, has_lines, is_array, is_plain, shows_lines, zero, [], ◌∷◌, ◌++◌, ◌+◌, suc, append-nil, append_assoc, get_or, length-map, length-take-le, map, take, take_all, ◌<◌, ◌≤◌}
+use Rattle.jpq_program.proofs.Words.{◌≡◌, ◌∙◌, ◌&&◌, ◌||◌, ℕ, Bool, true, false, List, Option, None, length, nat_lt, refl, sym, ap, subst, inl, inr, arith, common_steps, nat_tests, string_bytes, Located, Data, JsonPath, Selects, builtin_functions, path_tree, with_rule_of, AreLinesIn, IsLineOfEach, Form, Json, Count, Nothing, Output, chosen, once, up_to, Adds, Answered, FilledNodes, KeepsRest, IsAnswer, IsAnswerInPart, IsAnswerOn, IsAsked, Answering, AnswersPath, AppendsBeginning, is_plain_answer, is_table, not, AreSelected, Begins, BeginsFirst, IfSome, OnlyRefuses, Some, TookFirst, drop, map-append, take-append-drop, take-append-le, true≢false, IsCountIn, AreEach, Counts, OnlyNotes, OnlyWrites, Writes, IfErr, IfOk, Ok, Err, OnOk, Result, Outcome, ShowsAs, Showing, Streams, String, Global, Written, has_counts, has_lines, is_array, is_plain, shows_lines, zero, [], ◌∷◌, ◌++◌, ◌+◌, suc, append-nil, append_assoc, get_or, length-map, length-take-le, map, take, take_all, ◌<◌, ◌≤◌, IfMore, More, Next}
 use Rattle.jpq_program.proofs.Nodes.{adds_begun, adds_both, adds_nothing, appends_nothing, begun_after, further_mapped, none_begun, split_mapped, took_few}
 
 lines_in : (form : Form) (output : Output) (head : List ℕ) (ns : List Located) (text : List ℕ) → has_lines form ≡ true → IsLineOfEach output head ns text → AreLinesIn form output head ns text
@@ -31,7 +31,7 @@ shown_of_asked output bytes value asked path most head text any shows (inl same)
 shown_of_asked output bytes value asked path most head text any shows (inr reads) is = (asked, reads, is)
 
 -- a path was answered: the lines of its result were written
-pub path_answered : {W E : Type 0} (contents : W → Option (List ℕ)) (path : JsonPath) (bytes : List ℕ) (value asked : Data) (before after : Written W E) (kept : Streams W E) (nodes : List Located)
+pub path_answered : {W E : Type 0} {silent : Bool} (contents : W → Option (List ℕ)) (path : JsonPath) (bytes : List ℕ) (value asked : Data) (before after : Written W E) (kept : Streams W E) (nodes : List Located)
     → before.count ≡ 0 → after.stop ≡ None → before.limit ≡ before.showing.now.output.most → ShowsAs before.showing.now.output bytes value path → IsAsked bytes value asked
     → Selects (with_rule_of path builtin_functions) (path_tree path) asked nodes → FilledNodes contents before (once before.showing.now.output.unique nodes) after
     → shows_lines before.showing.now ≡ true
@@ -41,7 +41,7 @@ pub path_answered : {W E : Type 0} (contents : W → Option (List ℕ)) (path : 
       total = kept.total;
     }
     → kept.left ≡ None
-    → AnswersPath contents path before.showing.now.output before.head.now bytes before.streams.now kept
+    → AnswersPath silent contents path before.showing.now.output before.head.now bytes before.streams.now kept
 path_answered {W} {E} contents path bytes value asked before after kept nodes none stopped limit shows of selects filled plain is left =
     let output = before.showing.now.output in
     let shown = once output.unique nodes in
@@ -62,6 +62,7 @@ path_answered {W} {E} contents path bytes value asked before after kept nodes no
           ∙ ap (λ (o : Outcome). o.selected || nat_lt 0 after.count) filled.rest.outcome
           ∙ ap (λ count. before.streams.now.outcome.selected || nat_lt 0 count) (filled.count none stopped ∙ ap (λ (ns : List Located). length ns) these);
       left = left;
+      told = λ silent right. ap (λ (s : Streams W E). s.err) is ∙ filled.rest.err;
     }
 
 -- ---- what is shown of the first nodes
@@ -94,11 +95,11 @@ part_of_first output head bytes value asked path shown first others text has few
     ))
 
 -- a query was refused: the lines of its first nodes were written
-pub path_refused : {W E : Type 0} (contents : W → Option (List ℕ)) (path : JsonPath) (bytes : List ℕ) (value asked : Data) (before after : Written W E) (final : Streams W E) (shown : List Located)
+pub path_refused : {W E : Type 0} {silent : Bool} (contents : W → Option (List ℕ)) (path : JsonPath) (bytes : List ℕ) (value asked : Data) (before after : Written W E) (final : Streams W E) (shown : List Located)
     → before.count ≡ 0 → before.limit ≡ before.showing.now.output.most → ShowsAs before.showing.now.output bytes value path → IsAsked bytes value asked
     → AreSelected builtin_functions path before.showing.now.output.unique asked shown → TookFirst contents before shown after → shows_lines before.showing.now ≡ true
     → final.out ≡ after.streams.now.out → string_bytes final.pending ≡ string_bytes after.streams.now.pending → final.outcome.selected ≡ (after.streams.now.outcome.selected || nat_lt 0 after.count) → final.outcome.refused ≡ true → final.left ≡ None
-    → AnswersPath contents path before.showing.now.output before.head.now bytes before.streams.now final
+    → AnswersPath silent contents path before.showing.now.output before.head.now bytes before.streams.now final
 path_refused {W} {E} contents path bytes value asked before after final shown none limit shows of selected took plain out pending counted refused left =
     let output = before.showing.now.output in
     let lines = took.took.lines plain in
@@ -113,6 +114,7 @@ path_refused {W} {E} contents path bytes value asked before after final shown no
       selected = counted ∙ ap (λ (o : Outcome). o.selected || nat_lt 0 after.count) took.took.rest.outcome
           ∙ ap (λ count. before.streams.now.outcome.selected || nat_lt 0 count) (many after.count before.count (length took.first) took.took.count none);
       left = left;
+      told = λ silent right. absurd (true≢false (sym refused ∙ right));
     }
   where
     many : (count before more : ℕ) → count ≡ before + more → before ≡ 0 → count ≡ more
@@ -149,11 +151,11 @@ says_any Nothing (n ∷ ns) (suc count) is = some count ∙ sym (some (length ns
 says_any _ ns count is = ap (nat_lt 0) is
 
 -- a path was answered: what is shown of its result is pending
-pub path_counted : {W E : Type 0} (contents : W → Option (List ℕ)) (path : JsonPath) (output : Output) (head bytes : List ℕ) (value asked : Data) (limit : Option ℕ) (empty appended : List ℕ) (count : ℕ) (before now : Streams W E)
+pub path_counted : {W E : Type 0} {silent : Bool} (contents : W → Option (List ℕ)) (path : JsonPath) (output : Output) (head bytes : List ℕ) (value asked : Data) (limit : Option ℕ) (empty appended : List ℕ) (count : ℕ) (before now : Streams W E)
     → limit ≡ output.most → empty ≡ [] → IsAsked bytes value asked → Counts builtin_functions path (record output { most = limit }) head asked empty appended count → ShowsAs output bytes value path
     → now.out ≡ before.out → string_bytes now.pending ≡ string_bytes before.pending ++ appended → now.outcome ≡ record before.outcome { selected = before.outcome.selected || nat_lt 0 count }
-    → now.left ≡ None → AnswersPath contents path output head bytes before now
-path_counted {W} {E} contents path output head bytes value asked limit empty appended count before now most none of counts shows out pending outcome left =
+    → now.err ≡ before.err → now.left ≡ None → AnswersPath silent contents path output head bytes before now
+path_counted {W} {E} contents path output head bytes value asked limit empty appended count before now most none of counts shows out pending outcome err left =
     let shown = counts.0 in
     let is : appended ≡ shown = counts.2 ∙ ap (λ (e : List ℕ). e ++ shown) none in
     let answer : IsAnswerOn builtin_functions path output head bytes shown (nat_lt 0 count) = shown_of_asked output bytes value asked path output.most head shown (nat_lt 0 count) shows of
@@ -167,13 +169,14 @@ path_counted {W} {E} contents path output head bytes value asked limit empty app
           ([], appends_nothing (contents before.out), ap (λ (t : List ℕ). string_bytes before.pending ++ t) (sym is) ∙ sym pending);
       selected = ap (λ (o : Outcome). o.selected) outcome;
       left = left;
+      told = λ silent right. err;
     }
 
 -- ---- what was refused
 
 -- something was refused, and nothing was written
-pub nothing_answered : {W E : Type 0} (contents : W → Option (List ℕ)) (Is IsPart : List ℕ → Bool → Type 0) (before now : Streams W E) → IsPart [] false → OnlyRefuses before now → now.outcome.refused ≡ true → now.left ≡ None
-    → Answered contents Is IsPart before now
+pub nothing_answered : {W E : Type 0} {silent : Bool} (contents : W → Option (List ℕ)) (Is IsPart : List ℕ → Bool → Type 0) (before now : Streams W E) → IsPart [] false → OnlyRefuses before now → now.outcome.refused ≡ true → now.left ≡ None
+    → Answered silent contents Is IsPart before now
 nothing_answered {W} {E} contents Is IsPart before now part kept refused left = record {
   text = [];
   any = false;
@@ -183,6 +186,7 @@ nothing_answered {W} {E} contents Is IsPart before now part kept refused left = 
       (subst (λ (p : String Global). Adds (contents before.out) (string_bytes before.pending) (contents before.out) (string_bytes p) []) (sym (ap (λ (s : Streams W E). s.pending) kept)) (adds_nothing (contents before.out) (string_bytes before.pending)));
   selected = ap (λ (s : Streams W E). s.outcome.selected) kept ∙ or_false before.outcome.selected;
   left = left;
+  told = λ silent right. absurd (true≢false (sym refused ∙ right));
 }
 
 -- nothing is out that was not before
@@ -191,7 +195,7 @@ nothing_begun {W} contents IsPart before now part same =
     ([], false, part, subst (λ (o : W). AppendsBeginning (contents before.out) (contents o) (string_bytes before.pending ++ [])) (sym same) (none_begun (contents before.out) (string_bytes before.pending ++ [])))
 
 -- of what was added a beginning is out
-pub answered_begun : {W E : Type 0} (contents : W → Option (List ℕ)) (Is IsPart : List ℕ → Bool → Type 0) (before now : Streams W E) → Answered contents Is IsPart before now → Begins contents IsPart before now
+pub answered_begun : {W E : Type 0} {silent : Bool} (contents : W → Option (List ℕ)) (Is IsPart : List ℕ → Bool → Type 0) (before now : Streams W E) → Answered silent contents Is IsPart before now → Begins contents IsPart before now
 answered_begun contents Is IsPart before now answered =
     (answered.text, answered.any, answered.part, adds_begun (contents before.out) (contents now.out) (string_bytes before.pending) (string_bytes now.pending) answered.text answered.writes)
 
@@ -216,7 +220,7 @@ begun_since {W} contents IsPart before start now out pending begun = (
 )
 
 -- of what was added, and then written, a beginning is out
-pub written_begun : {W E : Type 0} (contents : W → Option (List ℕ)) (Is IsPart : List ℕ → Bool → Type 0) (before old now : Streams W E) → Answered contents Is IsPart before old → AppendsBeginning (contents old.out) (contents now.out) (string_bytes old.pending)
+pub written_begun : {W E : Type 0} {silent : Bool} (contents : W → Option (List ℕ)) (Is IsPart : List ℕ → Bool → Type 0) (before old now : Streams W E) → Answered silent contents Is IsPart before old → AppendsBeginning (contents old.out) (contents now.out) (string_bytes old.pending)
     → Begins contents IsPart before now
 written_begun contents Is IsPart before old now answered begun = (
   answered.text,
@@ -232,8 +236,8 @@ written_begun contents Is IsPart before old now answered begun = (
 pub or_assoc : (a b c : Bool) → ((a || b) || c) ≡ (a || (b || c))
 or_assoc a b c = grind (arith, nat_tests, common_steps)
 
-pub none_answered : {W E A : Type 0} (contents : W → Option (List ℕ)) (Is IsPart : ℕ → A → List ℕ → Bool → Type 0) (number : ℕ) (streams : Streams W E) → streams.left ≡ None
-    → Answered contents (AreEach Is number []) (AreEach IsPart number []) streams streams
+pub none_answered : {W E A : Type 0} {silent : Bool} (contents : W → Option (List ℕ)) (Is IsPart : ℕ → A → List ℕ → Bool → Type 0) (number : ℕ) (streams : Streams W E) → streams.left ≡ None
+    → Answered silent contents (AreEach Is number []) (AreEach IsPart number []) streams streams
 none_answered contents Is IsPart number streams left = record {
   text = [];
   any = false;
@@ -242,6 +246,7 @@ none_answered contents Is IsPart number streams left = record {
   writes = adds_nothing (contents streams.out) (string_bytes streams.pending);
   selected = or_false streams.outcome.selected;
   left = left;
+  told = λ silent right. refl;
 }
 
 -- what is shown of some items, and of another after them
@@ -288,31 +293,54 @@ pub each_rest : {A : Type 0} (Is : ℕ → A → List ℕ → Bool → Type 0) (
 each_rest Is number [] rest text any none are = subst (λ (t : List ℕ). AreEach Is number rest t any) (sym are.0) (subst (AreEach Is number rest []) (sym are.1) (none number))
 each_rest Is number (item ∷ items) rest text any none are = (are.0, are.1, are.2, are.3, are.4, each_rest Is (number + 1) items rest are.1 are.3 none are.5, are.6, are.7)
 
--- one more item was answered
-pub answered_further : {W E A : Type 0} (contents : W → Option (List ℕ)) (Is IsPart : ℕ → A → List ℕ → Bool → Type 0) (number : ℕ) (items : List A) (item : A) (before old now : Streams W E)
-    → Answered contents (AreEach Is number items) (AreEach IsPart number items) before old → Answered contents (Is (number + length items) item) (IsPart (number + length items) item) old now
-    → Answered contents (AreEach Is number (items ++ item ∷ [])) (AreEach IsPart number (items ++ item ∷ [])) before now
-answered_further contents Is IsPart number items item before old now first second = record {
+-- one text was added after another
+answered_both : {W E : Type 0} {silent : Bool} (contents : W → Option (List ℕ)) (Is IsPart Own OwnPart Both BothPart : List ℕ → Bool → Type 0) (before old now : Streams W E)
+    → ((text own : List ℕ) (any one : Bool) → Is text any → Own own one → Both (text ++ own) (any || one)) → ((text own : List ℕ) (any one : Bool) → IsPart text any → OwnPart own one → BothPart (text ++ own) (any || one))
+    → Answered silent contents Is IsPart before old → Answered silent contents Own OwnPart old now → Answered silent contents Both BothPart before now
+answered_both contents Is IsPart Own OwnPart Both BothPart before old now step part first second = record {
   text = first.text ++ second.text;
   any = first.any || second.any;
   whole = λ right.
       let own = second.whole right in
       let earlier = first.whole own.0 in
-      (earlier.0, each_both Is number items item first.text second.text first.any second.any earlier.1 own.1);
-  part = each_both IsPart number items item first.text second.text first.any second.any first.part second.part;
+      (earlier.0, step first.text second.text first.any second.any earlier.1 own.1);
+  part = part first.text second.text first.any second.any first.part second.part;
   writes = adds_both (contents before.out) (contents old.out) (contents now.out) (string_bytes before.pending) (string_bytes old.pending) (string_bytes now.pending) first.text second.text first.writes second.writes;
   selected = second.selected ∙ ap (λ (b : Bool). b || second.any) first.selected ∙ or_assoc before.outcome.selected first.any second.any;
   left = second.left;
+  told = λ silent right. second.told silent right ∙ first.told silent (second.whole right).0;
 }
 
+-- one more item was answered
+pub answered_further : {W E A : Type 0} {silent : Bool} (contents : W → Option (List ℕ)) (Is IsPart : ℕ → A → List ℕ → Bool → Type 0) (number : ℕ) (items : List A) (item : A) (before old now : Streams W E)
+    → Answered silent contents (AreEach Is number items) (AreEach IsPart number items) before old → Answered silent contents (Is (number + length items) item) (IsPart (number + length items) item) old now
+    → Answered silent contents (AreEach Is number (items ++ item ∷ [])) (AreEach IsPart number (items ++ item ∷ [])) before now
+answered_further contents Is IsPart number items item before old now first second =
+    answered_both contents (AreEach Is number items) (AreEach IsPart number items) (Is (number + length items) item) (IsPart (number + length items) item) (AreEach Is number (items ++ item ∷ [])) (AreEach IsPart number (items ++ item ∷ []))
+    before old now (each_both Is number items item) (each_both IsPart number items item) first second
+
+-- of an item after those that were answered something is shown, and of the rest nothing
+part_further : {A : Type 0} (IsPart : ℕ → A → List ℕ → Bool → Type 0) (number : ℕ) (items : List A) (item : A) (rest : List A) → ((number : ℕ) → AreEach IsPart number rest [] false)
+    → (text own : List ℕ) (any one : Bool) → AreEach IsPart number items text any → IsPart (number + length items) item own one → AreEach IsPart number (items ++ (item ∷ rest)) (text ++ own) (any || one)
+part_further {A} IsPart number items item rest none text own any one are is =
+    subst (λ (all : List A). AreEach IsPart number all (text ++ own) (any || one)) (append_assoc items (item ∷ []) rest)
+    (each_rest IsPart number (items ++ item ∷ []) rest (text ++ own) (any || one) none (each_both IsPart number items item text own any one are is))
+
+-- the run ended in an item after those that were answered
+pub answered_until : {W E A : Type 0} {silent : Bool} (contents : W → Option (List ℕ)) (Is IsPart : ℕ → A → List ℕ → Bool → Type 0) (Own Other : List ℕ → Bool → Type 0) (next : Next) (number : ℕ) (items : List A) (item : A) (rest : List A) (before old now : Streams W E)
+    → (next ≡ More → ⊥) → ((number : ℕ) → AreEach IsPart number rest [] false) → Answered silent contents (AreEach Is number items) (AreEach IsPart number items) before old
+    → Answered silent contents Own (IsPart (number + length items) item) old now → Answered silent contents (IfMore next Other) (AreEach IsPart number (items ++ (item ∷ rest))) before now
+answered_until contents Is IsPart Own Other next number items item rest before old now ended none first second =
+    answered_both contents (AreEach Is number items) (AreEach IsPart number items) Own (IsPart (number + length items) item) (IfMore next Other) (AreEach IsPart number (items ++ (item ∷ rest)))
+    before old now (λ text own any one are is more. absurd (ended more)) (part_further IsPart number items item rest none) first second
+
 -- of an item after those that were answered a beginning is out, and of the rest nothing
-pub begun_further : {W E A : Type 0} (contents : W → Option (List ℕ)) (Is IsPart : ℕ → A → List ℕ → Bool → Type 0) (number : ℕ) (items : List A) (item : A) (rest : List A) (before old now : Streams W E) → ((number : ℕ) → AreEach IsPart number rest [] false)
-    → Answered contents (AreEach Is number items) (AreEach IsPart number items) before old → Begins contents (IsPart (number + length items) item) old now → Begins contents (AreEach IsPart number (items ++ (item ∷ rest))) before now
-begun_further {A = A} contents Is IsPart number items item rest before old now none answered begun = (
+pub begun_further : {W E A : Type 0} {silent : Bool} (contents : W → Option (List ℕ)) (Is IsPart : ℕ → A → List ℕ → Bool → Type 0) (number : ℕ) (items : List A) (item : A) (rest : List A) (before old now : Streams W E) → ((number : ℕ) → AreEach IsPart number rest [] false)
+    → Answered silent contents (AreEach Is number items) (AreEach IsPart number items) before old → Begins contents (IsPart (number + length items) item) old now → Begins contents (AreEach IsPart number (items ++ (item ∷ rest))) before now
+begun_further contents Is IsPart number items item rest before old now none answered begun = (
   answered.text ++ begun.0,
   answered.any || begun.1,
-  subst (λ (all : List A). AreEach IsPart number all (answered.text ++ begun.0) (answered.any || begun.1)) (append_assoc items (item ∷ []) rest)
-      (each_rest IsPart number (items ++ item ∷ []) rest (answered.text ++ begun.0) (answered.any || begun.1) none (each_both IsPart number items item answered.text begun.0 answered.any begun.1 answered.part begun.2)),
+  part_further IsPart number items item rest none answered.text begun.0 answered.any begun.1 answered.part begun.2,
   begun_after (contents before.out) (contents old.out) (contents now.out) (string_bytes before.pending) (string_bytes old.pending) answered.text begun.0 answered.writes begun.3,
 )
 
@@ -323,25 +351,34 @@ number_of f items index within = plus_one index ∙ ap (λ n. 1 + n) (sym (lengt
     plus_one n = grind arith
 
 -- one more of what a function makes of some items was answered
-pub mapped_further : {W E A B : Type 0} (contents : W → Option (List ℕ)) (Is IsPart : ℕ → B → List ℕ → Bool → Type 0) (f : A → B) (items : List A) (index : ℕ) (item : A) (before old now : Streams W E)
-    → index < length items → item ≡ get_or items index item → Answered contents (AreEach Is 1 (map f (take index items))) (AreEach IsPart 1 (map f (take index items))) before old
-    → Answered contents (Is (index + 1) (f item)) (IsPart (index + 1) (f item)) old now
-    → Answered contents (AreEach Is 1 (map f (take (index + 1) items))) (AreEach IsPart 1 (map f (take (index + 1) items))) before now
-mapped_further {B = B} contents Is IsPart f items index item before old now within is first second =
-    subst (λ (made : List B). Answered contents (AreEach Is 1 made) (AreEach IsPart 1 made) before now) (sym (further_mapped f items index item within is))
-    (answered_further contents Is IsPart 1 (map f (take index items)) (f item) before old now first (subst (λ n. Answered contents (Is n (f item)) (IsPart n (f item)) old now) (number_of f items index within) second))
+pub mapped_further : {W E A B : Type 0} {silent : Bool} (contents : W → Option (List ℕ)) (Is IsPart : ℕ → B → List ℕ → Bool → Type 0) (f : A → B) (items : List A) (index : ℕ) (item : A) (before old now : Streams W E)
+    → index < length items → item ≡ get_or items index item → Answered silent contents (AreEach Is 1 (map f (take index items))) (AreEach IsPart 1 (map f (take index items))) before old
+    → Answered silent contents (Is (index + 1) (f item)) (IsPart (index + 1) (f item)) old now
+    → Answered silent contents (AreEach Is 1 (map f (take (index + 1) items))) (AreEach IsPart 1 (map f (take (index + 1) items))) before now
+mapped_further {B = B} {silent = silent} contents Is IsPart f items index item before old now within is first second =
+    subst (λ (made : List B). Answered silent contents (AreEach Is 1 made) (AreEach IsPart 1 made) before now) (sym (further_mapped f items index item within is))
+    (answered_further contents Is IsPart 1 (map f (take index items)) (f item) before old now first (subst (λ n. Answered silent contents (Is n (f item)) (IsPart n (f item)) old now) (number_of f items index within) second))
 
 -- of one more a beginning is out
-pub mapped_begun : {W E A B : Type 0} (contents : W → Option (List ℕ)) (Is IsPart : ℕ → B → List ℕ → Bool → Type 0) (f : A → B) (items : List A) (index : ℕ) (item : A) (before old now : Streams W E) → ((number : ℕ) → AreEach IsPart number (map f (drop (suc index) items)) [] false)
-    → index < length items → item ≡ get_or items index item → Answered contents (AreEach Is 1 (map f (take index items))) (AreEach IsPart 1 (map f (take index items))) before old
+pub mapped_begun : {W E A B : Type 0} {silent : Bool} (contents : W → Option (List ℕ)) (Is IsPart : ℕ → B → List ℕ → Bool → Type 0) (f : A → B) (items : List A) (index : ℕ) (item : A) (before old now : Streams W E) → ((number : ℕ) → AreEach IsPart number (map f (drop (suc index) items)) [] false)
+    → index < length items → item ≡ get_or items index item → Answered silent contents (AreEach Is 1 (map f (take index items))) (AreEach IsPart 1 (map f (take index items))) before old
     → Begins contents (IsPart (index + 1) (f item)) old now → Begins contents (AreEach IsPart 1 (map f items)) before now
 mapped_begun {B = B} contents Is IsPart f items index item before old now none within is first begun =
     subst (λ (all : List B). Begins contents (AreEach IsPart 1 all) before now) (sym (split_mapped f items index item within is))
     (begun_further contents Is IsPart 1 (map f (take index items)) (f item) (map f (drop (suc index) items)) before old now none first (subst (λ n. Begins contents (IsPart n (f item)) old now) (number_of f items index within) begun))
 
+-- the run ended in one more
+pub mapped_until : {W E A B : Type 0} {silent : Bool} (contents : W → Option (List ℕ)) (Is IsPart : ℕ → B → List ℕ → Bool → Type 0) (Own Other : List ℕ → Bool → Type 0) (next : Next) (f : A → B) (items : List A) (index : ℕ) (item : A) (before old now : Streams W E)
+    → (next ≡ More → ⊥) → ((number : ℕ) → AreEach IsPart number (map f (drop (suc index) items)) [] false) → index < length items → item ≡ get_or items index item
+    → Answered silent contents (AreEach Is 1 (map f (take index items))) (AreEach IsPart 1 (map f (take index items))) before old → Answered silent contents Own (IsPart (index + 1) (f item)) old now
+    → Answered silent contents (IfMore next Other) (AreEach IsPart 1 (map f items)) before now
+mapped_until {B = B} {silent = silent} contents Is IsPart Own Other next f items index item before old now ended none within is first second =
+    subst (λ (all : List B). Answered silent contents (IfMore next Other) (AreEach IsPart 1 all) before now) (sym (split_mapped f items index item within is))
+    (answered_until contents Is IsPart Own Other next 1 (map f (take index items)) (f item) (map f (drop (suc index) items)) before old now ended none first (subst (λ n. Answered silent contents Own (IsPart n (f item)) old now) (number_of f items index within) second))
+
 -- of those that are left nothing is shown
-pub rest_begun : {W E A B : Type 0} (contents : W → Option (List ℕ)) (Is IsPart : ℕ → B → List ℕ → Bool → Type 0) (f : A → B) (items : List A) (index : ℕ) (before now : Streams W E) → ((number : ℕ) (item : B) → IsPart number item [] false)
-    → Answered contents (AreEach Is 1 (map f (take index items))) (AreEach IsPart 1 (map f (take index items))) before now → Begins contents (AreEach IsPart 1 (map f items)) before now
+pub rest_begun : {W E A B : Type 0} {silent : Bool} (contents : W → Option (List ℕ)) (Is IsPart : ℕ → B → List ℕ → Bool → Type 0) (f : A → B) (items : List A) (index : ℕ) (before now : Streams W E) → ((number : ℕ) (item : B) → IsPart number item [] false)
+    → Answered silent contents (AreEach Is 1 (map f (take index items))) (AreEach IsPart 1 (map f (take index items))) before now → Begins contents (AreEach IsPart 1 (map f items)) before now
 rest_begun {B = B} contents Is IsPart f items index before now none answered =
     let begun = answered_begun contents (AreEach Is 1 (map f (take index items))) (AreEach IsPart 1 (map f (take index items))) before now answered in (
       begun.0,
@@ -352,13 +389,13 @@ rest_begun {B = B} contents Is IsPart f items index before now none answered =
     )
 
 -- all were answered
-pub all_answered : {W E A B : Type 0} (contents : W → Option (List ℕ)) (Is IsPart : ℕ → B → List ℕ → Bool → Type 0) (f : A → B) (items : List A) (index : ℕ) (before now : Streams W E)
-    → length items ≤ index → Answered contents (AreEach Is 1 (map f (take index items))) (AreEach IsPart 1 (map f (take index items))) before now → Answered contents (AreEach Is 1 (map f items)) (AreEach IsPart 1 (map f items)) before now
-all_answered {A = A} contents Is IsPart f items index before now done answered = subst (λ (some : List A). Answered contents (AreEach Is 1 (map f some)) (AreEach IsPart 1 (map f some)) before now) (take_all index items done) answered
+pub all_answered : {W E A B : Type 0} {silent : Bool} (contents : W → Option (List ℕ)) (Is IsPart : ℕ → B → List ℕ → Bool → Type 0) (f : A → B) (items : List A) (index : ℕ) (before now : Streams W E)
+    → length items ≤ index → Answered silent contents (AreEach Is 1 (map f (take index items))) (AreEach IsPart 1 (map f (take index items))) before now → Answered silent contents (AreEach Is 1 (map f items)) (AreEach IsPart 1 (map f items)) before now
+all_answered {A = A} {silent = silent} contents Is IsPart f items index before now done answered = subst (λ (some : List A). Answered silent contents (AreEach Is 1 (map f some)) (AreEach IsPart 1 (map f some)) before now) (take_all index items done) answered
 
 -- what was pending went out
-pub answered_sent : {W E : Type 0} (contents : W → Option (List ℕ)) (Is IsPart : List ℕ → Bool → Type 0) (before old now : Streams W E) → Answered contents Is IsPart before old → OnlyWrites old now → Writes contents old now []
-    → Answered contents Is IsPart before now
+pub answered_sent : {W E : Type 0} {silent : Bool} (contents : W → Option (List ℕ)) (Is IsPart : List ℕ → Bool → Type 0) (before old now : Streams W E) → Answered silent contents Is IsPart before old → OnlyWrites old now → Writes contents old now []
+    → Answered silent contents Is IsPart before now
 answered_sent {W} {E} contents Is IsPart before old now answered kept sent = record {
   text = answered.text;
   any = answered.any;
@@ -368,11 +405,12 @@ answered_sent {W} {E} contents Is IsPart before old now answered kept sent = rec
       (adds_both (contents before.out) (contents old.out) (contents now.out) (string_bytes before.pending) (string_bytes old.pending) (string_bytes now.pending) answered.text [] answered.writes sent);
   selected = ap (λ (s : Streams W E). s.outcome.selected) kept ∙ answered.selected;
   left = ap (λ (s : Streams W E). s.left) kept ∙ answered.left;
+  told = λ silent right. ap (λ (s : Streams W E). s.err) kept ∙ answered.told silent (sym (ap (λ (s : Streams W E). s.outcome.refused) kept) ∙ right);
 }
 
 -- the same text is also something else
-pub answered_as : {W E : Type 0} (contents : W → Option (List ℕ)) (Is IsPart Also AlsoPart : List ℕ → Bool → Type 0) (before now : Streams W E) → ((text : List ℕ) (any : Bool) → Is text any → Also text any)
-    → ((text : List ℕ) (any : Bool) → IsPart text any → AlsoPart text any) → Answered contents Is IsPart before now → Answered contents Also AlsoPart before now
+pub answered_as : {W E : Type 0} {silent : Bool} (contents : W → Option (List ℕ)) (Is IsPart Also AlsoPart : List ℕ → Bool → Type 0) (before now : Streams W E) → ((text : List ℕ) (any : Bool) → Is text any → Also text any)
+    → ((text : List ℕ) (any : Bool) → IsPart text any → AlsoPart text any) → Answered silent contents Is IsPart before now → Answered silent contents Also AlsoPart before now
 answered_as contents Is IsPart Also AlsoPart before now step part answered = record {
   text = answered.text;
   any = answered.any;
@@ -381,12 +419,20 @@ answered_as contents Is IsPart Also AlsoPart before now step part answered = rec
   writes = answered.writes;
   selected = answered.selected;
   left = answered.left;
+  told = answered.told;
 }
 
+-- what was added is so where the run goes on, and where it goes on it is so
+pub if_more : {W E : Type 0} {silent : Bool} (contents : W → Option (List ℕ)) (Is IsPart : List ℕ → Bool → Type 0) (next : Next) (before now : Streams W E) → Answered silent contents Is IsPart before now → Answered silent contents (IfMore next Is) IsPart before now
+if_more contents Is IsPart next before now answered = answered_as contents Is IsPart (IfMore next Is) IsPart before now (λ text any is more. is) (λ text any part. part) answered
+
+pub of_more : {W E : Type 0} {silent : Bool} (contents : W → Option (List ℕ)) (Is IsPart : List ℕ → Bool → Type 0) (next : Next) (before now : Streams W E) → next ≡ More → Answered silent contents (IfMore next Is) IsPart before now → Answered silent contents Is IsPart before now
+of_more contents Is IsPart next before now more answered = answered_as contents (IfMore next Is) IsPart Is IsPart before now (λ text any is. is more) (λ text any part. part) answered
+
 -- nothing changed before that counts
-pub answered_since : {W E : Type 0} (contents : W → Option (List ℕ)) (Is IsPart : List ℕ → Bool → Type 0) (before start now : Streams W E) → start.out ≡ before.out → start.pending ≡ before.pending → start.outcome ≡ before.outcome
-    → Answered contents Is IsPart start now → Answered contents Is IsPart before now
-answered_since {W} {E} contents Is IsPart before start now out pending outcome answered = record {
+pub answered_since : {W E : Type 0} {silent : Bool} (contents : W → Option (List ℕ)) (Is IsPart : List ℕ → Bool → Type 0) (before start now : Streams W E) → start.out ≡ before.out → start.pending ≡ before.pending → start.outcome ≡ before.outcome → (silent ≡ true → start.err ≡ before.err)
+    → Answered silent contents Is IsPart start now → Answered silent contents Is IsPart before now
+answered_since {W} {E} contents Is IsPart before start now out pending outcome err answered = record {
   text = answered.text;
   any = answered.any;
   whole = λ right. let own = answered.whole right in (sym (ap (λ (o : Outcome). o.refused) outcome) ∙ own.0, own.1);
@@ -395,12 +441,13 @@ answered_since {W} {E} contents Is IsPart before start now out pending outcome a
       (subst (λ (p : String Global). Adds (contents start.out) (string_bytes p) (contents now.out) (string_bytes now.pending) answered.text) pending answered.writes);
   selected = answered.selected ∙ ap (λ (o : Outcome). o.selected || answered.any) outcome;
   left = answered.left;
+  told = λ silent right. answered.told silent right ∙ err silent;
 }
 
 -- nothing changed after it that counts, but that something may be refused
-pub answered_still : {W E : Type 0} (contents : W → Option (List ℕ)) (Is IsPart : List ℕ → Bool → Type 0) (before old now : Streams W E) → Answered contents Is IsPart before old → now.out ≡ old.out → now.pending ≡ old.pending
-    → now.outcome.selected ≡ old.outcome.selected → (now.outcome.refused ≡ false → old.outcome.refused ≡ false) → now.left ≡ old.left → Answered contents Is IsPart before now
-answered_still {W} {E} contents Is IsPart before old now answered out pending selected right left = record {
+pub answered_still : {W E : Type 0} {silent : Bool} (contents : W → Option (List ℕ)) (Is IsPart : List ℕ → Bool → Type 0) (before old now : Streams W E) → Answered silent contents Is IsPart before old → now.out ≡ old.out → now.pending ≡ old.pending
+    → now.outcome.selected ≡ old.outcome.selected → (now.outcome.refused ≡ false → old.outcome.refused ≡ false) → now.left ≡ old.left → (silent ≡ true → now.outcome.refused ≡ false → now.err ≡ old.err) → Answered silent contents Is IsPart before now
+answered_still {W} {E} contents Is IsPart before old now answered out pending selected right left err = record {
   text = answered.text;
   any = answered.any;
   whole = λ still. answered.whole (right still);
@@ -409,12 +456,13 @@ answered_still {W} {E} contents Is IsPart before old now answered out pending se
       (subst (λ (p : String Global). Adds (contents before.out) (string_bytes before.pending) (contents old.out) (string_bytes p) answered.text) (sym pending) answered.writes);
   selected = selected ∙ answered.selected;
   left = left ∙ answered.left;
+  told = λ silent still. err silent still ∙ answered.told silent (right still);
 }
 
 -- something was refused
-pub answered_refused : {W E : Type 0} (contents : W → Option (List ℕ)) (Is IsPart Other : List ℕ → Bool → Type 0) (before old now : Streams W E) → Answered contents Is IsPart before old → OnlyRefuses old now → now.outcome.refused ≡ true
-    → Answered contents Other IsPart before now
-answered_refused {W} {E} contents Is IsPart Other before old now answered kept refused = record {
+pub answered_refused : {W E : Type 0} {silent : Bool} (contents : W → Option (List ℕ)) (Is IsPart Other : List ℕ → Bool → Type 0) (before old now : Streams W E) → Answered silent contents Is IsPart before old → OnlyRefuses old now → now.outcome.refused ≡ true
+    → Answered silent contents Other IsPart before now
+answered_refused {W} {E} {silent = silent} contents Is IsPart Other before old now answered kept refused = record {
   text = still.text;
   any = still.any;
   whole = λ right. absurd (true≢false (sym refused ∙ right));
@@ -422,16 +470,17 @@ answered_refused {W} {E} contents Is IsPart Other before old now answered kept r
   writes = still.writes;
   selected = still.selected;
   left = still.left;
+  told = still.told;
 }
   where
-    still : Answered contents Is IsPart before now
+    still : Answered silent contents Is IsPart before now
     still = answered_still contents Is IsPart before old now answered (ap (λ (s : Streams W E). s.out) kept) (ap (λ (s : Streams W E). s.pending) kept) (ap (λ (s : Streams W E). s.outcome.selected) kept)
-        (λ right. absurd (true≢false (sym refused ∙ right))) (ap (λ (s : Streams W E). s.left) kept)
+        (λ right. absurd (true≢false (sym refused ∙ right))) (ap (λ (s : Streams W E). s.left) kept) (λ silent right. absurd (true≢false (sym refused ∙ right)))
 
 -- something was noted
-pub answered_noted : {W E : Type 0} (contents : W → Option (List ℕ)) (Is IsPart : List ℕ → Bool → Type 0) (before old now : Streams W E) → Answered contents Is IsPart before old → OnlyNotes old now → Answered contents Is IsPart before now
-answered_noted {W} {E} contents Is IsPart before old now answered kept = answered_still contents Is IsPart before old now answered (ap (λ (s : Streams W E). s.out) kept) (ap (λ (s : Streams W E). s.pending) kept)
-    (ap (λ (s : Streams W E). s.outcome.selected) kept) (λ right. sym (ap (λ (s : Streams W E). s.outcome.refused) kept) ∙ right) (ap (λ (s : Streams W E). s.left) kept)
+pub answered_noted : {W E : Type 0} {silent : Bool} (contents : W → Option (List ℕ)) (Is IsPart : List ℕ → Bool → Type 0) (before old now : Streams W E) → Answered silent contents Is IsPart before old → OnlyNotes old now → (silent ≡ true → now.outcome.refused ≡ false → now.err ≡ old.err) → Answered silent contents Is IsPart before now
+answered_noted {W} {E} contents Is IsPart before old now answered kept err = answered_still contents Is IsPart before old now answered (ap (λ (s : Streams W E). s.out) kept) (ap (λ (s : Streams W E). s.pending) kept)
+    (ap (λ (s : Streams W E). s.outcome.selected) kept) (λ right. sym (ap (λ (s : Streams W E). s.outcome.refused) kept) ∙ right) (ap (λ (s : Streams W E). s.left) kept) err
 
 -- nodes that are shown in lines are shown in no array, and neither are those that are counted
 pub no_array : (showing : Showing) → shows_lines showing ≡ true → is_array showing.output.form ≡ false

@@ -3,8 +3,8 @@ pub use Rattle.jpq_program.specs.Answers.{AreAnswersInPart, AreAnswersOn, AreEac
 pub use Rattle.jpq_program.specs.Heads.{head_text}
 pub use Rattle.jpq_program.specs.Inputs.{AreInputsShown, AreKnown, Opens, OpensFirst, IsInputShown, IsLineShown, IsNamedShown, Shown, lines_of, is_blank, with_byte, without_mark}
 pub use Rattle.jpq_program.specs.declared.asked_path.AskedPath.{AskedPath}
-pub use Rattle.jpq_program.specs.Inside.{Adds, Answered, AnswersBy, AnswersPath, AreSelected, AreShownAs, Begins, BeginsFirst, BeginsNodes, OnlyPends, OnlyRefuses, PendsLine, SendsBy, SendsFor, SendsInput, SendsInputs, SendsLine, TookFirst, shown_in_part_by, Counts, FilledNodes, IsAsked, IsFailure, IsPlain, IsReadIn, KeepsRest, OnlyNotes, OnlyTells, OnlyWrites, Reads, ReadsFurther, Sends, ShowsAs, Tells, TookNodes, Writes, WritesLines, WritesNode, has_counts, head_by, heads_in, is_array, is_plain, is_plain_answer, shown_by, shows_lines, shows_places, status_after, status_of, told_after}
-pub use Rattle.jpq_program.specs.Run.{ArePaths, IsCheckRun, IsChecked, canonical_lines, ComesOf, IsAnswered, IsAnsweredInPart, IsCheckedInPart, IsShownInPartFor, IsPathOf, OpensInOrder, IsPlainRun, IsPrinted, IsShownFor, IsStatusOf, LacksMemory, form_in, has_text, is_each, known_bytes, looked_at_in, names_in, opened_in, output_in, path_files_in, path_texts, rule_in, texts_in_file}
+pub use Rattle.jpq_program.specs.Inside.{Adds, Answered, AnswersBy, AnswersPath, AreSelected, AreShownAs, Begins, BeginsFirst, BeginsNodes, OnlyPends, OnlyRefuses, PendsLine, SendsBy, SendsFor, SendsInput, SendsInputs, SendsLine, TookFirst, shown_in_part_by, Counts, FilledNodes, IsAsked, IsFailure, IsPlain, IsReadIn, KeepsRest, OnlyNotes, OnlyTells, OnlyWrites, Reads, ReadsFurther, Sends, ShowsAs, Tells, TookNodes, Writes, WritesLines, WritesNode, has_counts, head_by, heads_in, is_array, is_plain, is_plain_answer, shown_by, shows_lines, shows_places, status_after, status_of, told_after, AnswersRun, Ends, IfMore, IsKnownRun, SendsDocument, SendsUntil, is_by_path, is_quiet}
+pub use Rattle.jpq_program.specs.Run.{ArePaths, IsCheckRun, IsChecked, canonical_lines, ComesOf, IsAnswered, IsAnsweredInPart, IsCheckedInPart, IsShownInPartFor, IsPathOf, OpensInOrder, IsPlainRun, IsPrinted, IsShownFor, IsStatusOf, LacksMemory, form_in, has_text, is_each, known_bytes, looked_at_in, names_in, opened_in, output_in, path_files_in, path_texts, rule_in, texts_in_file, IsFound, IsQuietRun, IsUsualRun, TellsNothing}
 pub use Rattle.jpq_options.specs.Options.{is_table}
 pub use Rattle.jpq_options.specs.Paths.{path_lines}
 pub use Rattle.jpq_options.specs.declared.options.Shown.{Shown as OptionShown}

@@ -23,8 +23,10 @@ use Rattle.jsonpath_document.specs.Document.{ReadsAs}
 use Rattle.jpq_program.specs.Answers.{AreAnswersInPart, AreAnswersOn, IsAnswer, IsAnswerInPart, IsAnswerOn, has_lines}
 use Rattle.jpq_program.specs.Heads.{head_text}
 use Rattle.jpq_program.specs.Inputs.{AreInputsShown, IsInputShown, IsLineShown, Shown}
-use Rattle.jpq_program.specs.Run.{ArePaths, IsShownFor, IsShownInPartFor, has_names, has_numbers, names_in}
+use Rattle.jpq_program.specs.Run.{ArePaths, IsPlainRun, IsQuietRun, IsShownFor, IsShownInPartFor, form_in, has_names, has_numbers, names_in, path_texts, rule_in}
 use Rattle.jpq_options.specs.declared.options.Options.{Options}
+use Rattle.jpq_options.specs.declared.options.Shown.{Shown as OptionShown}
+use Rattle.jpq_options.specs.declared.options.Shown.TheVariants.{Nodes}
 use Rattle.jpq_program.specs.declared.documents.Documents.{Documents}
 use Rattle.jpq_program.specs.declared.answering.Answering.{Answering}
 use Rattle.jpq_program.specs.declared.asked_path.AskedPath.{AskedPath}
@@ -34,6 +36,7 @@ use Rattle.jpq_program.specs.declared.source.Heads.{Heads}
 use Rattle.jpq_program.specs.declared.streams.Outcome.{Outcome}
 use Rattle.jpq_program.specs.declared.streams.Stop.{Stop}
 use Rattle.jpq_program.specs.declared.streams.Next.{Next}
+use Rattle.jpq_program.specs.declared.streams.Next.TheVariants.{More}
 use Rattle.jpq_program.specs.declared.streams.Stop.TheVariants.{Memory, OutputFailed, ReaderGone, Refused, WrongUse}
 use Rattle.jpq_program.specs.declared.streams.Streams.{Streams}
 use Rattle.jpq_program.specs.declared.written.Written.{Written}
@@ -84,8 +87,9 @@ ReadsFurther rule texts before after = (read : List AskedPath) × (after ≡ bef
 abbrev pub Counts : FunctionSet → JsonPath → Output → List ℕ → Data → List ℕ → List ℕ → ℕ → Type 0
 Counts F path output head d old new count = (shown : List ℕ) × IsAnswer F path output head d shown (nat_lt 0 count) × (new ≡ old ++ shown)
 
--- a text was added; what it is where nothing is refused, and where something may be; and whether it shows a node
-pub record Answered {W E : Type 0} (contents : W → Option (List ℕ)) (Is IsPart : List ℕ → Bool → Type 0) (before after : Streams W E) : Type 0 where
+-- a text was added; what it is where nothing is refused, and where something may be; and whether it shows a node. Without notes nothing
+-- is told where nothing is refused.
+pub record Answered {W E : Type 0} (silent : Bool) (contents : W → Option (List ℕ)) (Is IsPart : List ℕ → Bool → Type 0) (before after : Streams W E) : Type 0 where
   pub text : List ℕ
   pub any : Bool
   pub whole : after.outcome.refused ≡ false → (before.outcome.refused ≡ false) × Is text any
@@ -93,15 +97,28 @@ pub record Answered {W E : Type 0} (contents : W → Option (List ℕ)) (Is IsPa
   pub writes : Writes contents before after text
   pub selected : after.outcome.selected ≡ (before.outcome.selected || any)
   pub left : after.left ≡ None
+  pub told : silent ≡ true → after.outcome.refused ≡ false → after.err ≡ before.err
 
 -- what is shown of a path was added
-abbrev pub AnswersPath : {W E : Type 0} → (W → Option (List ℕ)) → JsonPath → Output → List ℕ → List ℕ → Streams W E → Streams W E → Type 0
-AnswersPath contents path output head bytes before after =
-    Answered contents (IsAnswerOn builtin_functions path output head bytes) (IsAnswerInPart builtin_functions path output head bytes) before after
+abbrev pub AnswersPath : {W E : Type 0} → Bool → (W → Option (List ℕ)) → JsonPath → Output → List ℕ → List ℕ → Streams W E → Streams W E → Type 0
+AnswersPath silent contents path output head bytes before after =
+    Answered silent contents (IsAnswerOn builtin_functions path output head bytes) (IsAnswerInPart builtin_functions path output head bytes) before after
 
 -- a text was sent, and nothing is pending after it
-abbrev pub Sends : {W E : Type 0} → (W → Option (List ℕ)) → (Is IsPart : List ℕ → Bool → Type 0) → Streams W E → Streams W E → Type 0
-Sends contents Is IsPart before after = Answered contents Is IsPart before after × (string_bytes after.pending ≡ [])
+abbrev pub Sends : {W E : Type 0} → Bool → (W → Option (List ℕ)) → (Is IsPart : List ℕ → Bool → Type 0) → Streams W E → Streams W E → Type 0
+Sends silent contents Is IsPart before after = Answered silent contents Is IsPart before after × (string_bytes after.pending ≡ [])
+
+-- after a document the run goes on, or it ends, as a node was found and none is shown
+abbrev pub Ends : {W E : Type 0} → Form → Next → Streams W E → Type 0
+Ends form next after = (next ≡ More) ⊎ ((form ≡ Nothing) × (after.outcome.selected ≡ true))
+
+-- what is said of a text where the run goes on
+abbrev pub IfMore : Next → (List ℕ → Bool → Type 0) → List ℕ → Bool → Type 0
+IfMore next Is text any = next ≡ More → Is text any
+
+-- a text was sent; what it is where the run goes on, and where it may end
+abbrev pub SendsUntil : {W E : Type 0} → Bool → (W → Option (List ℕ)) → Form → Next → (Is IsPart : List ℕ → Bool → Type 0) → Streams W E → Streams W E → Type 0
+SendsUntil silent contents form next Is IsPart before after = Ends form next after × Sends silent contents (IfMore next Is) IsPart before after
 
 -- a beginning of what was pending and of such a text is out
 abbrev pub Begins : {W E : Type 0} → (W → Option (List ℕ)) → (List ℕ → Bool → Type 0) → Streams W E → Streams W E → Type 0
@@ -157,9 +174,10 @@ told_after _ = []
 
 -- ---- how nodes are shown
 
--- of all nodes it is shown how many there are
+-- of all nodes it is shown how many there are, or nothing
 abbrev pub has_counts : Form → Bool
 has_counts Count = true
+has_counts Nothing = true
 has_counts _ = false
 
 -- all nodes are shown in one array
@@ -202,11 +220,16 @@ shown_in_part_by answering name number bytes text any = AreAnswersInPart builtin
 -- what is shown of a document was added so, or sent
 abbrev pub AnswersBy : {W E : Type 0} → (W → Option (List ℕ)) → Answering → List ℕ → ℕ → List ℕ → Streams W E → Streams W E → Type 0
 AnswersBy contents answering name number bytes before after =
-    Answered contents (shown_by answering name number bytes) (shown_in_part_by answering name number bytes) before after
+    Answered answering.silent contents (shown_by answering name number bytes) (shown_in_part_by answering name number bytes) before after
 
 abbrev pub SendsBy : {W E : Type 0} → (W → Option (List ℕ)) → Answering → List ℕ → ℕ → List ℕ → Streams W E → Streams W E → Type 0
 SendsBy contents answering name number bytes before after =
-    Sends contents (shown_by answering name number bytes) (shown_in_part_by answering name number bytes) before after
+    Sends answering.silent contents (shown_by answering name number bytes) (shown_in_part_by answering name number bytes) before after
+
+-- it was sent, and the run goes on or ends
+abbrev pub SendsDocument : {W E : Type 0} → (W → Option (List ℕ)) → Answering → Next → List ℕ → ℕ → List ℕ → Streams W E → Streams W E → Type 0
+SendsDocument contents answering next name number bytes before after = SendsUntil answering.silent contents answering.showing.output.form next
+    (shown_by answering name number bytes) (shown_in_part_by answering name number bytes) before after
 
 -- nodes are shown without their values
 abbrev pub shows_places : Form → Bool
@@ -226,24 +249,53 @@ pub record IsPlain (documents : Documents) : Type 0 where
   pub read : IfSome documents.reader (λ reader. Keeps reader (shows_places documents.answering.showing.output.form)
       (map (λ (path : AskedPath). path_tree path.path) documents.answering.paths.now))
 
--- what is shown of a line, an input or some inputs was sent
-abbrev pub SendsLine : {W E : Type 0} → (W → Option (List ℕ)) → Answering → List ℕ → ℕ → List ℕ → Streams W E → Streams W E → Type 0
-SendsLine contents answering name number line before after =
-    Sends contents (IsLineShown (shown_by answering) name number line) (IsLineShown (shown_in_part_by answering) name number line) before after
+-- the same of what is shown of a line, an input or some inputs
+abbrev pub SendsLine : {W E : Type 0} → (W → Option (List ℕ)) → Answering → Next → List ℕ → ℕ → List ℕ → Streams W E → Streams W E → Type 0
+SendsLine contents answering next name number line before after = SendsUntil answering.silent contents answering.showing.output.form next
+    (IsLineShown (shown_by answering) name number line) (IsLineShown (shown_in_part_by answering) name number line) before after
 
-abbrev pub SendsInput : {W E : Type 0} → (W → Option (List ℕ)) → Answering → Bool → List ℕ → List ℕ → Streams W E → Streams W E → Type 0
-SendsInput contents answering lines name bytes before after =
-    Sends contents (IsInputShown (shown_by answering) lines name bytes) (IsInputShown (shown_in_part_by answering) lines name bytes) before after
+abbrev pub SendsInput : {W E : Type 0} → (W → Option (List ℕ)) → Answering → Next → Bool → List ℕ → List ℕ → Streams W E → Streams W E → Type 0
+SendsInput contents answering next lines name bytes before after = SendsUntil answering.silent contents answering.showing.output.form next
+    (IsInputShown (shown_by answering) lines name bytes) (IsInputShown (shown_in_part_by answering) lines name bytes) before after
 
-abbrev pub SendsInputs : {W E : Type 0} → (W → Option (List ℕ)) → Answering → Bool → (List ℕ → Option (List ℕ)) → List (List ℕ) → Streams W E → Streams W E → Type 0
-SendsInputs contents answering lines bytes_of names before after =
-    Sends contents (AreInputsShown (shown_by answering) lines bytes_of names) (AreInputsShown (shown_in_part_by answering) lines bytes_of names) before after
+abbrev pub SendsInputs : {W E : Type 0} → (W → Option (List ℕ)) → Answering → Next → Bool → (List ℕ → Option (List ℕ)) → List (List ℕ) → Streams W E → Streams W E → Type 0
+SendsInputs contents answering next lines bytes_of names before after = SendsUntil answering.silent contents answering.showing.output.form next
+    (AreInputsShown (shown_by answering) lines bytes_of names) (AreInputsShown (shown_in_part_by answering) lines bytes_of names) before after
 
--- what options ask for was sent of the inputs for the paths
-abbrev pub SendsFor : {W E : Type 0} → (W → Option (List ℕ)) → Options → List JsonPath → (List ℕ → Option (List ℕ)) → Streams W E → Streams W E → Type 0
-SendsFor contents options paths bytes_of before after = Sends contents
+-- the same of what options ask for
+abbrev pub SendsFor : {W E : Type 0} → (W → Option (List ℕ)) → Options → Next → List JsonPath → (List ℕ → Option (List ℕ)) → Streams W E → Streams W E → Type 0
+SendsFor contents options next paths bytes_of before after = SendsUntil options.silent contents (form_in options.shown) next
     (AreInputsShown (IsShownFor options paths) options.lines bytes_of (names_in options))
     (AreInputsShown (IsShownInPartFor options paths) options.lines bytes_of (names_in options)) before after
+
+-- nodes are shown by path, each in a line of its own or all by their number, or not at all
+abbrev pub is_by_path : OptionShown → Bool
+is_by_path (Nodes Json) = false
+is_by_path (Nodes _) = true
+is_by_path _ = false
+
+-- nothing is shown of nodes
+abbrev pub is_quiet : OptionShown → Bool
+is_quiet (Nodes Nothing) = true
+is_quiet _ = false
+
+-- contracts say what comes of such a run
+abbrev pub IsKnownRun : Options → Bool → Type 0
+IsKnownRun options taken = IsPlainRun options taken ⊎ IsQuietRun options
+
+-- Such a run was answered, and more was wanted or not: what went out since it began, whether a node is shown by that, and that nothing
+-- was told where that is so.
+pub record AnswersRun {W E : Type 0} (contents : W → Option (List ℕ)) (bytes_of : List ℕ → Option (List ℕ)) (options : Options) (next : Next) (before after : Streams W E) : Type 0 where
+  pub paths : List JsonPath
+  pub are : ArePaths (rule_in options) (path_texts bytes_of options) paths
+  pub text : List ℕ
+  pub any : Bool
+  pub ends : Ends (form_in options.shown) next after
+  pub whole : after.outcome.refused ≡ false → next ≡ More → AreInputsShown (IsShownFor options paths) options.lines bytes_of (names_in options) text any
+  pub part : AreInputsShown (IsShownInPartFor options paths) options.lines bytes_of (names_in options) text any
+  pub out : Appends (contents before.out) (contents after.out) text
+  pub selected : after.outcome.selected ≡ any
+  pub told : options.silent ≡ true → after.outcome.refused ≡ false → after.err ≡ before.err
 
 -- ---- nodes as they are written
 
@@ -271,6 +323,7 @@ pub record KeepsRest {W E : Type 0} (before after : Written W E) : Type 0 where
   pub head : after.head ≡ before.head
   pub limit : after.limit ≡ before.limit
   pub outcome : after.streams.now.outcome ≡ before.streams.now.outcome
+  pub err : after.streams.now.err ≡ before.streams.now.err
   pub left : after.streams.now.left ≡ before.streams.now.left
 
 -- a node was taken, and more are wanted or not; it was written, unless writing failed

@@ -120,19 +120,23 @@ is_each (Nodes Nothing) = false
 is_each (Nodes _) = true
 is_each _ = false
 
--- Nodes are shown so, neither indented by another unit than two spaces, nor escaped, nor in colours, and neither summed up nor bounded
--- over all documents. In the paths no values are bound to names, and they are not only checked.
-pub record IsPlainRun (options : Options) (taken : Bool) : Type 0 where
-  pub each : is_each options.shown ≡ true
+-- Nodes are neither summed up nor bounded over all documents, and no row of names stands before them. In the paths no values are bound to
+-- names, and they are not only checked.
+pub record IsUsualRun (options : Options) : Type 0 where
   pub header : options.header ≡ false
-  pub indent : options.indent ≡ None
-  pub tab : options.tab ≡ false
-  pub ascii : options.ascii ≡ false
-  pub colored : is_colored options.color taken ≡ false
   pub total : options.total ≡ false
   pub most_of_all : options.most_of_all ≡ None
   pub bindings : options.bindings.items ≡ []
   pub check : options.check ≡ false
+
+-- In such a run nodes are shown so, neither indented by another unit than two spaces, nor escaped, nor in colours.
+pub record IsPlainRun (options : Options) (taken : Bool) : Type 0 where
+  pub usual : IsUsualRun options
+  pub each : is_each options.shown ≡ true
+  pub indent : options.indent ≡ None
+  pub tab : options.tab ≡ false
+  pub ascii : options.ascii ≡ false
+  pub colored : is_colored options.color taken ≡ false
 
 -- What comes of such a run in which nothing is refused and no writing fails, where the bytes of the inputs are known: what is shown of
 -- them for the paths went out, and nothing else, and the status says whether a node is shown.
@@ -152,6 +156,20 @@ IsAnsweredInPart contents bytes_of options before after = (after ≡ before)
     ⊎ ((paths : List JsonPath) × ArePaths (rule_in options) (path_texts bytes_of options) paths
     × (text : List ℕ) × (any : Bool) × AreInputsShown (IsShownInPartFor options paths) options.lines bytes_of (names_in options) text any
     × AppendsBeginning (contents before) (contents after) text)
+
+-- ---- whether there is a node
+
+-- nothing is shown of nodes, as it is only asked whether there is one
+abbrev pub IsQuietRun : Options → Type 0
+IsQuietRun options = IsUsualRun options × (options.shown ≡ Nodes Nothing)
+
+-- What comes of such a run that answers 0 or 1, where the bytes of the inputs are known: with 0 a path selects a node of some document,
+-- and of others nothing is said; with 1 each document is read, no path selects a node of any, and nothing is refused.
+pub record IsFound (bytes_of : List ℕ → Option (List ℕ)) (options : Options) (status : ℕ) : Type 0 where
+  pub paths : List JsonPath
+  pub are : ArePaths (rule_in options) (path_texts bytes_of options) paths
+  pub found : status ≡ 0 → AreInputsShown (IsShownInPartFor options paths) options.lines bytes_of (names_in options) [] true
+  pub none : status ≡ 1 → AreInputsShown (IsShownFor options paths) options.lines bytes_of (names_in options) [] false
 
 -- ---- paths that are only checked
 
@@ -181,6 +199,12 @@ IsCheckedInPart contents bytes_of options before after = (after ≡ before)
     ⊎ ((paths : List JsonPath) × ArePaths (rule_in options) (path_texts bytes_of options) paths
     × AppendsBeginning (contents before) (contents after) (canonical_lines paths))
 
+-- ---- what is told
+
+-- nothing is, where notes are left out
+abbrev pub TellsNothing : {W E : Type 0} → Options → Streams W E → Streams W E → Type 0
+TellsNothing options before after = options.silent ≡ true → after.err ≡ before.err
+
 -- ---- what is printed
 
 -- a text went out, and nothing was told; or the output failed: then a beginning of the text is out, and that may be told
@@ -199,8 +223,12 @@ ComesOf out err bytes_of opened taken (WrongUse kind text) inputs later before a
 ComesOf out err bytes_of opened taken (Print text) inputs later before after status = (later ≡ inputs) × IsPrinted out err (string_bytes text) before after status
 ComesOf out err bytes_of opened taken (Run options) inputs later before after status = IsStatusOf options status
     × (IsPlainRun options taken → AreKnown bytes_of (path_files_in options) → AreKnown bytes_of (names_in options)
-    → (status ≤ 1 → IsAnswered out bytes_of options before.out after.out status × Opens (opened inputs) (opened later) (opened_in options))
+    → (status ≤ 1 → IsAnswered out bytes_of options before.out after.out status × Opens (opened inputs) (opened later) (opened_in options)
+    × TellsNothing options before after)
     × IsAnsweredInPart out bytes_of options before.out after.out)
+    × (IsQuietRun options → AreKnown bytes_of (path_files_in options) → AreKnown bytes_of (names_in options)
+    → Appends (out before.out) (out after.out) [] × (status ≤ 1 → IsFound bytes_of options status)
+    × (status ≡ 1 → Opens (opened inputs) (opened later) (opened_in options) × TellsNothing options before after))
     × (IsCheckRun options → AreKnown bytes_of (path_files_in options)
     → (status ≤ 1 → IsChecked out bytes_of options inputs later before.out after.out status) × IsCheckedInPart out bytes_of options before.out after.out)
     × OpensInOrder options status (opened inputs) (opened later)

@@ -8,7 +8,7 @@ ghost use Rattle.serde_json_path_core.specs.Inside.Words.{view, Located, OnlyMem
 ghost use Rattle.serde_json_path.specs.Paths.{path_tree, with_rule_of};
 ghost use Rattle.jsonpath_lines.specs.Inside.{once};
 ghost use Rattle.jpq_program.specs.Answers.{IsAnswerInPart};
-ghost use Rattle.jpq_program.specs.Inside.{AnswersBy, AnswersPath, AreSelected, AreShownAs, Begins, BeginsFirst, Counts, FilledNodes, IsAsked, OnlyNotes, OnlyRefuses, SendsBy, ShowsAs, TookFirst, has_counts, head_by, is_array, is_plain_answer, shown_in_part_by, shows_lines};
+ghost use Rattle.jpq_program.specs.Inside.{AnswersBy, AnswersPath, AreSelected, AreShownAs, Begins, BeginsFirst, Counts, FilledNodes, IsAsked, OnlyNotes, OnlyRefuses, SendsBy, SendsDocument, ShowsAs, TookFirst, has_counts, head_by, is_array, is_plain_answer, shown_in_part_by, shows_lines};
 
 use crate::answers::push_answer;
 use crate::asked_path::AskedPath;
@@ -185,7 +185,7 @@ impl Answering<'_> {
         ensures answered { IfOk result (λ _. ShowsAs self.now.showing.output
             document.entry.bytes.now (view document.entry.value.now) path.now.path
             → shows_lines self.now.showing ≡ true → streams.old.left ≡ None
-            → AnswersPath W.contents path.now.path self.now.showing.output head.now
+            → AnswersPath self.now.silent W.contents path.now.path self.now.showing.output head.now
             document.entry.bytes.now streams.old streams.new) }
         ensures begun { ShowsAs self.now.showing.output
             document.entry.bytes.now (view document.entry.value.now) path.now.path
@@ -332,7 +332,7 @@ impl Answering<'_> {
         ensures answered { IfOk result (λ _. ShowsAs self.now.showing.output
             document.entry.bytes.now (view document.entry.value.now) path.now.path
             → self.now.total ≡ false → streams.old.left ≡ None
-            → AnswersPath W.contents path.now.path self.now.showing.output head.now
+            → AnswersPath self.now.silent W.contents path.now.path self.now.showing.output head.now
             document.entry.bytes.now streams.old streams.new) }
         ensures unwritten { streams.new.out ≡ streams.old.out }
     {
@@ -410,7 +410,7 @@ impl Answering<'_> {
         ensures answered { IfOk result (λ next. AreShownAs self.now.showing.output
             document.entry.bytes.now (view document.entry.value.now) self.now.paths.now
             → is_plain_answer self.now ≡ true → streams.old.left ≡ None
-            → (next ≡ Next.More) × SendsBy W.contents self.now document.entry.source.name.now
+            → SendsDocument W.contents self.now next document.entry.source.name.now
             document.entry.source.line document.entry.bytes.now streams.old streams.new) }
         ensures begun { AreShownAs self.now.showing.output
             document.entry.bytes.now (view document.entry.value.now) self.now.paths.now
@@ -484,7 +484,8 @@ impl Answering<'_> {
         document: Document<'_>,
         streams: &mut Streams<W, E>,
     ) -> Result<(), Stop>
-        ensures { OnlyNotes streams.old streams.new }
+        ensures kept { OnlyNotes streams.old streams.new }
+        ensures quiet { self.now.silent ≡ true → streams.new.err ≡ streams.old.err }
     {
         let may_be_inexact = replace(&mut streams.may_be_inexact, false);
         if self.silent {

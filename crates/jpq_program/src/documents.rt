@@ -8,7 +8,7 @@ ghost use Rattle.serde_json.specs.View.{view};
 ghost use Rattle.serde_json_path_syntax.specs.Tree.{Query};
 ghost use Rattle.serde_json_path_reach.specs.Readers.{Keeps};
 ghost use Rattle.jpq_program.specs.Inputs.{AreInputsShown, AreKnown, IsInputShown, IsLineShown, Opens, OpensFirst, is_blank, without_mark};
-ghost use Rattle.jpq_program.specs.Inside.{Begins, IsPlain, IsReadIn, OnlyNotes, OnlyRefuses, SendsBy, SendsInput, SendsInputs, SendsLine, shown_in_part_by};
+ghost use Rattle.jpq_program.specs.Inside.{Begins, IsPlain, IsReadIn, OnlyNotes, OnlyRefuses, SendsDocument, SendsInput, SendsInputs, SendsLine, shown_in_part_by};
 
 use crate::answering::{Answering, Document};
 use crate::encodings::{encoding_of, without_mark};
@@ -116,7 +116,7 @@ impl Documents<'_> {
     ) -> Result<Next, Stop>
         ensures answered { IfOk result (λ next. IsPlain self.now → streams.old.left ≡ None
             → string_bytes streams.old.pending ≡ []
-            → (next ≡ Next.More) × SendsBy W.contents self.now.answering source.entry.name.now
+            → SendsDocument W.contents self.now.answering next source.entry.name.now
             source.entry.line bytes.now streams.old streams.new) }
         ensures begun { IsPlain self.now → streams.old.left ≡ None
             → Begins W.contents (shown_in_part_by self.now.answering source.entry.name.now
@@ -180,8 +180,12 @@ impl Documents<'_> {
         name: &str,
         streams: &mut Streams<W, E>,
     ) -> Result<(), Stop>
-        ensures { OnlyNotes streams.old streams.new }
+        ensures kept { OnlyNotes streams.old streams.new }
+        ensures quiet { streams.old.outcome.refused ≡ false → streams.new ≡ streams.old }
     {
+        if !streams.outcome.refused {
+            return Ok(());
+        }
         let more = streams.refused_documents.saturating_sub(TOLD_LINES);
         if more > 0 {
             let name = shown_name(name);
@@ -239,7 +243,7 @@ impl Documents<'_> {
     ) -> Result<Next, Stop>
         ensures answered { IfOk result (λ next. IsPlain self.now → streams.old.left ≡ None
             → string_bytes streams.old.pending ≡ [] → IfSome (I.remaining input) (λ bytes.
-            (next ≡ Next.More) × SendsInput W.contents self.now.answering false name.now bytes
+            SendsInput W.contents self.now.answering next false name.now bytes
             streams.old streams.new)) }
         ensures begun { IsPlain self.now → streams.old.left ≡ None
             → IfSome (I.remaining input) (λ bytes. Begins W.contents (IsInputShown
@@ -261,7 +265,7 @@ impl Documents<'_> {
     ) -> Result<Next, Stop>
         ensures answered { IfOk result (λ next. IsPlain self.now → streams.old.left ≡ None
             → string_bytes streams.old.pending ≡ []
-            → (next ≡ Next.More) × SendsLine W.contents self.now.answering source.entry.name.now
+            → SendsLine W.contents self.now.answering next source.entry.name.now
             source.entry.line line.now streams.old streams.new) }
         ensures begun { IsPlain self.now → streams.old.left ≡ None
             → Begins W.contents (IsLineShown (shown_in_part_by self.now.answering)
@@ -282,7 +286,7 @@ impl Documents<'_> {
     ) -> Result<Next, Stop>
         ensures answered { IfOk result (λ next. IsPlain self.now → streams.old.left ≡ None
             → string_bytes streams.old.pending ≡ [] → IfSome (I.remaining input) (λ bytes.
-            (next ≡ Next.More) × SendsInput W.contents self.now.answering true name.now bytes
+            SendsInput W.contents self.now.answering next true name.now bytes
             streams.old streams.new)) }
         ensures begun { IsPlain self.now → streams.old.left ≡ None
             → string_bytes streams.old.pending ≡ [] → IfSome (I.remaining input) (λ bytes.
@@ -328,8 +332,8 @@ impl Documents<'_> {
         ensures opens { Opens (I.opened inputs.old) (I.opened inputs.new) (name.now ∷ []) }
         ensures answered { IfOk result (λ next. IsPlain self.now → streams.old.left ≡ None
             → string_bytes streams.old.pending ≡ []
-            → IfSome (I.bytes_of inputs.old name.now) (λ bytes. (next ≡ Next.More)
-            × SendsInput W.contents self.now.answering self.now.lines name.now bytes
+            → IfSome (I.bytes_of inputs.old name.now) (λ bytes.
+            SendsInput W.contents self.now.answering next self.now.lines name.now bytes
             streams.old streams.new)) }
         ensures begun { IsPlain self.now → streams.old.left ≡ None
             → string_bytes streams.old.pending ≡ []
@@ -364,7 +368,7 @@ impl Documents<'_> {
         ensures answered { IfOk result (λ next. IsPlain self.now → streams.old.left ≡ None
             → string_bytes streams.old.pending ≡ []
             → AreKnown (I.bytes_of inputs.old) (map (λ name. name.now) names.now)
-            → (next ≡ Next.More) × SendsInputs W.contents self.now.answering self.now.lines
+            → SendsInputs W.contents self.now.answering next self.now.lines
             (I.bytes_of inputs.old) (map (λ name. name.now) names.now) streams.old streams.new) }
         ensures begun { IsPlain self.now → streams.old.left ≡ None
             → string_bytes streams.old.pending ≡ []

@@ -1,6 +1,6 @@
 //! The paths that a command line asks for.
 
-ghost use Rattle.std.specs.Prelude.{◌≡◌, ◌∷◌, ℕ, [], List, IfOk, IfSome, MatchOption, false, map, string_bytes, take, true};
+ghost use Rattle.std.specs.Prelude.{◌≡◌, ◌∷◌, ℕ, [], List, IfOk, IfSome, MatchOption, OnOk, false, map, string_bytes, take, true};
 ghost use Rattle.serde_json_path_functions.specs.Terms.{numbers_view};
 ghost use Rattle.serde_json_path.specs.Paths.{path_signatures};
 ghost use Rattle.serde_json_path.specs.Fitting.{FitsBuiltin};
@@ -111,6 +111,8 @@ impl PathReading<'_> {
     ) -> Result<(), Stop>
         ensures kept { Reads self.old self.new }
         ensures told { Tells streams.old streams.new }
+        ensures right { IfOk result (λ _. streams.new.outcome.refused ≡ false
+            → streams.new ≡ streams.old) }
         ensures read { IfOk result (λ _. self.old.bindings.items ≡ [] → paths.old.items ≡ []
             → streams.new.outcome.refused ≡ false → ArePaths (numbers_view self.old.numbers)
             (map (λ text. text.now) texts.now) (map (λ path. path.path) paths.new.items)) }
@@ -161,7 +163,8 @@ impl PathReading<'_> {
 impl PathReading<'_> {
     /// Tells of the first binding whose name no path has.
     fn tell_unused<W: Write, E: Write>(&self, streams: &mut Streams<W, E>) -> Result<(), Stop>
-        ensures { OnlyTells streams.old streams.new }
+        ensures told { OnlyTells streams.old streams.new }
+        ensures none { OnOk result (streams.new ≡ streams.old) }
     {
         for (number, binding) in self.bindings.iter().enumerate() {
             if !self.used.contains(&number) {
@@ -271,8 +274,7 @@ pub(crate) fn asked_paths<I: Inputs, W: Write, E: Write>(
         Opens (I.opened inputs.old) (I.opened inputs.new) (path_files_in options.now)) }
     ensures looks { OpensFirst (I.opened inputs.old) (I.opened inputs.new)
         (looked_at_in options.now) }
-    ensures told { IfOk result (λ _. streams.old.outcome.refused ≡ false
-        → OnlyTells streams.old streams.new) }
+    ensures right { IfOk result (λ _. streams.new ≡ streams.old) }
     ensures tells { Tells streams.old streams.new }
     ensures read { IfOk result (λ paths. options.now.bindings.items ≡ []
         → AreKnown (I.bytes_of inputs.old) (path_files_in options.now)

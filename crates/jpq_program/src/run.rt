@@ -9,8 +9,8 @@ ghost use Rattle.jsonpath_lines.specs.Sent.{AppendsBeginning};
 ghost use Rattle.jpq_options.specs.Options.{AsksFor};
 ghost use Rattle.jpq_options.specs.declared.options.Request as input;
 ghost use Rattle.jpq_program.specs.Inputs.{AreInputsShown, AreKnown, Opens, OpensFirst};
-ghost use Rattle.jpq_program.specs.Inside.{Begins, IsPlain, OnlyTells, SendsFor, SendsInputs, heads_in, shown_in_part_by, shows_places, status_after, status_of, told_after};
-ghost use Rattle.jpq_program.specs.Run.{ComesOf, IsAnswered, IsAnsweredInPart, IsChecked, IsCheckedInPart, IsCheckRun, IsPlainRun, IsPrinted, IsShownInPartFor, LacksMemory, canonical_lines, is_colored, is_each, looked_at_in, names_in, opened_in, output_in, path_files_in};
+ghost use Rattle.jpq_program.specs.Inside.{AnswersRun, Begins, IsKnownRun, IsPlain, OnlyTells, SendsFor, SendsInputs, heads_in, is_by_path, is_quiet, shown_in_part_by, shows_places, status_after, status_of, told_after};
+ghost use Rattle.jpq_program.specs.Run.{ComesOf, IsAnsweredInPart, IsChecked, IsCheckedInPart, IsCheckRun, IsPlainRun, IsPrinted, IsShownInPartFor, LacksMemory, canonical_lines, is_colored, looked_at_in, names_in, opened_in, output_in, path_files_in};
 
 use crate::answering::Answering;
 use crate::asked_path::AskedPath;
@@ -57,7 +57,8 @@ fn hint_at_patterns<W: Write, E: Write>(
     paths: &[AskedPath],
     streams: &mut Streams<W, E>,
 ) -> Result<(), Stop>
-    ensures { OnlyTells streams.old streams.new }
+    ensures told { OnlyTells streams.old streams.new }
+    ensures quiet { silent ≡ true → streams.new ≡ streams.old }
 {
     if silent {
         return Ok(());
@@ -94,7 +95,8 @@ fn hint_at_nothing<W: Write, E: Write>(
     paths: &[AskedPath],
     streams: &mut Streams<W, E>,
 ) -> Result<(), Stop>
-    ensures { OnlyTells streams.old streams.new }
+    ensures told { OnlyTells streams.old streams.new }
+    ensures quiet { silent ≡ true → streams.new ≡ streams.old }
 {
     if silent || streams.outcome.selected || streams.outcome.refused {
         return Ok(());
@@ -146,7 +148,7 @@ fn indent_of(alloc: Global, options: &Options<'_>) -> Result<Option<String>, All
 
 /// What is written of where a node comes from, as the options say. A row has no more than they name.
 fn heads_of(options: &Options<'_>, paths: usize) -> Heads
-    ensures { is_each options.now.shown ≡ true → result ≡ heads_in options.now paths }
+    ensures { is_by_path options.now.shown ≡ true → result ≡ heads_in options.now paths }
 {
     let is_json = options.shown == Shown::Nodes(Form::Json);
     let is_table = matches!(options.shown, Shown::Tsv | Shown::Csv);
@@ -175,7 +177,8 @@ fn palette_of<'a, W: Write, E: Write>(
     silent: bool,
     streams: &mut Streams<W, E>,
 ) -> Option<Palette<'a>>
-    ensures { OnlyTells streams.old streams.new }
+    ensures told { OnlyTells streams.old streams.new }
+    ensures quiet { silent ≡ true → streams.new ≡ streams.old }
 {
     let palette = Palette::of(colours.palette?);
     if palette.is_none() && !silent {
@@ -192,6 +195,7 @@ fn dress_of<'a, W: Write, E: Write>(
     streams: &mut Streams<W, E>,
 ) -> Result<Option<Dress<'a>>, AllocError>
     ensures told { OnlyTells streams.old streams.new }
+    ensures quiet { options.now.silent ≡ true → streams.new ≡ streams.old }
     ensures plain { IsPlainRun options.now colours.entry.taken
         → IfOk result (λ dress. dress ≡ None) }
 {
@@ -247,7 +251,7 @@ fn answer_inputs<I: Inputs, W: Write, E: Write>(
     ensures answered { IfOk result (λ next. IsPlain documents.now → streams.old.left ≡ None
         → string_bytes streams.old.pending ≡ []
         → AreKnown (I.bytes_of inputs.old) (names_in options.now)
-        → (next ≡ Next.More) × SendsInputs W.contents documents.now.answering documents.now.lines
+        → SendsInputs W.contents documents.now.answering next documents.now.lines
         (I.bytes_of inputs.old) (names_in options.now) streams.old streams.new) }
     ensures begun { IsPlain documents.now → streams.old.left ≡ None
         → string_bytes streams.old.pending ≡ []
@@ -277,7 +281,7 @@ fn answer_documents<I: Inputs, W: Write, E: Write>(
         → options.now.total ≡ false → streams.old.left ≡ None
         → string_bytes streams.old.pending ≡ []
         → AreKnown (I.bytes_of inputs.old) (names_in options.now)
-        → (next ≡ Next.More) × SendsInputs W.contents documents.now.answering documents.now.lines
+        → SendsInputs W.contents documents.now.answering next documents.now.lines
         (I.bytes_of inputs.old) (names_in options.now) streams.old streams.new) }
     ensures begun { IsPlain documents.now → options.now.header ≡ false
         → options.now.total ≡ false → streams.old.left ≡ None
@@ -326,12 +330,12 @@ fn answer_paths<I: Inputs, W: Write, E: Write>(
     ensures opens { OpensFirst (I.opened inputs.old) (I.opened inputs.new) (names_in options.now) }
     ensures all { IfOk result (λ next. next ≡ Next.More
         → Opens (I.opened inputs.old) (I.opened inputs.new) (names_in options.now)) }
-    ensures answered { IfOk result (λ next. IsPlainRun options.now colours.entry.taken
+    ensures answered { IfOk result (λ next. IsKnownRun options.now colours.entry.taken
         → string_bytes streams.old.pending ≡ []
         → AreKnown (I.bytes_of inputs.old) (names_in options.now)
-        → (next ≡ Next.More) × SendsFor W.contents options.now (map (λ path. path.path) paths.now)
+        → SendsFor W.contents options.now next (map (λ path. path.path) paths.now)
         (I.bytes_of inputs.old) streams.old streams.new) }
-    ensures begun { IsPlainRun options.now colours.entry.taken
+    ensures begun { IsKnownRun options.now colours.entry.taken
         → string_bytes streams.old.pending ≡ []
         → AreKnown (I.bytes_of inputs.old) (names_in options.now)
         → Begins W.contents (AreInputsShown (IsShownInPartFor options.now
@@ -375,14 +379,14 @@ fn run_with<I: Inputs, W: Write, E: Write>(
     inputs: &mut I,
     streams: &mut Streams<W, E>,
 ) -> Result<Next, Stop>
-    ensures answered { IfOk result (λ _. IsPlainRun options.now colours.entry.taken
+    ensures answered { IfOk result (λ next. IsKnownRun options.now colours.entry.taken
         → streams.old.outcome ≡ record { selected = false; refused = false }
-        → string_bytes streams.old.pending ≡ [] → streams.new.outcome.refused ≡ false
+        → string_bytes streams.old.pending ≡ []
         → AreKnown (I.bytes_of inputs.old) (path_files_in options.now)
         → AreKnown (I.bytes_of inputs.old) (names_in options.now)
-        → IsAnswered W.contents (I.bytes_of inputs.old) options.now
-        streams.old.out streams.new.out (status_of streams.new.outcome)) }
-    ensures in_part { IsPlainRun options.now colours.entry.taken
+        → AnswersRun W.contents (I.bytes_of inputs.old) options.now next
+        streams.old streams.new) }
+    ensures in_part { IsKnownRun options.now colours.entry.taken
         → string_bytes streams.old.pending ≡ []
         → AreKnown (I.bytes_of inputs.old) (path_files_in options.now)
         → AreKnown (I.bytes_of inputs.old) (names_in options.now)
@@ -400,10 +404,7 @@ fn run_with<I: Inputs, W: Write, E: Write>(
         streams.old.out streams.new.out }
     ensures opens { IfOk result (λ _.
         OpensFirst (I.opened inputs.old) (I.opened inputs.new) (opened_in options.now)) }
-    ensures all { IfOk result (λ _. IsPlainRun options.now colours.entry.taken
-        → string_bytes streams.old.pending ≡ []
-        → AreKnown (I.bytes_of inputs.old) (path_files_in options.now)
-        → AreKnown (I.bytes_of inputs.old) (names_in options.now)
+    ensures all { IfOk result (λ next. options.now.check ≡ false → next ≡ Next.More
         → Opens (I.opened inputs.old) (I.opened inputs.new) (opened_in options.now)) }
     ensures in_order { OpensFirst (I.opened inputs.old) (I.opened inputs.new) (opened_in options.now)
         ⊎ OpensFirst (I.opened inputs.old) (I.opened inputs.new) (looked_at_in options.now) }
@@ -421,7 +422,7 @@ fn run_with<I: Inputs, W: Write, E: Write>(
 
 /// Whether nothing is shown.
 fn is_quiet(shown: Shown) -> bool
-    ensures { is_each shown ≡ true → result ≡ false }
+    ensures { result ≡ is_quiet shown }
 {
     matches!(shown, Shown::Nodes(Form::Nothing))
 }

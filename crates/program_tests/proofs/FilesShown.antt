@@ -133,16 +133,18 @@ nothing_in (x ∷ xs) is = absurd cc
 
 pub is_plain : (o : Options) → OptionsAre o → IsPlainRun o false
 is_plain o are = record {
+  usual = record {
+    header = are.header;
+    total = are.total;
+    most_of_all = are.most_of_all;
+    bindings = nothing_in o.bindings.items are.bindings;
+    check = are.check;
+  };
   each = ap is_each are.shown;
-  header = are.header;
   indent = are.indent;
   tab = are.tab;
   ascii = are.ascii;
   colored = ap (λ c. is_colored c false) are.color;
-  total = are.total;
-  most_of_all = are.most_of_all;
-  bindings = nothing_in o.bindings.items are.bindings;
-  check = are.check;
 }
 
 two_named : (o : Options) → OptionsAre o → length o.files.items ≡ 2

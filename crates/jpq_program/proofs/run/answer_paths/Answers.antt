@@ -1,28 +1,27 @@
 use Rattle.jpq_program.proofs.Words.{◌∙◌, IfOk-weaker, IfSome, List, Query, AskedPath, ap, map, refl, string_bytes, subst, Keeps, Streams, shows_places}
 use Rattle.serde_json_path_reach.specs.Alike.{trees_of}
-use Rattle.jpq_program.proofs.Asked.{begun_for, nothing_for, plain_documents, sent_for}
+use Rattle.jpq_program.proofs.Asked.{begun_for, by_path_of, nothing_for, plain_documents, sent_for, usual_of}
 use Rattle.jpq_program.proofs.run.answer_paths.Goals as goal
 
 pub returns-clause-answered : goal.returns-clause-answered
 returns-clause-answered g c = IfOk-weaker c.answer_documents.result _ _ (λ next answered run empty known.
     let told = c.dress_of.ensures.told in
     let read = subst (λ (queries : List Query). IfSome c.reader_for.result (λ reader. Keeps reader (shows_places c.output_of-output.result.form) queries)) (ap trees_of c.as_slice.ensures.value ∙ c.in_ok-trees.ensures) c.reader_for.ensures in
-    let plain = plain_documents _ c.args.options.now c.args.colours.taken run refl c.output_of-output.ensures (c.in_ok-dress.ensures.plain run) refl read in
-    let sent = answered plain run.header run.total run.most_of_all (ap (λ (s : Streams g.row.W.Denot g.row.E.Denot). string_bytes s.pending) told ∙ empty) known in (
-      sent.0,
-      sent_for g.W.Write.contents c.args.options.now c.args.paths.now c.output_of-output.result c.heads_of.result (g.I.Inputs.bytes_of c.args.inputs.now) c.args.streams.now _ c.answer_documents.new.streams
-          c.output_of-output.ensures (c.heads_of.ensures run.each) (ap (λ (s : Streams g.row.W.Denot g.row.E.Denot). s.out) told) (ap (λ (s : Streams g.row.W.Denot g.row.E.Denot). s.pending) told)
-          (ap (λ (s : Streams g.row.W.Denot g.row.E.Denot). s.outcome) told) sent.1,
-    )) c.answer_documents.ensures.answered
+    let plain = plain_documents _ c.args.options.now c.args.colours.taken run refl c.output_of-output.ensures c.in_ok-dress.ensures.plain refl read in
+    let usual = usual_of c.args.options.now c.args.colours.taken run in
+    sent_for g.W.Write.contents c.args.options.now next c.args.paths.now c.output_of-output.result c.heads_of.result (g.I.Inputs.bytes_of c.args.inputs.now) c.args.streams.now _ c.answer_documents.new.streams
+    c.output_of-output.ensures (c.heads_of.ensures (by_path_of c.args.options.now c.args.colours.taken run)) (ap (λ (s : Streams g.row.W.Denot g.row.E.Denot). s.out) told) (ap (λ (s : Streams g.row.W.Denot g.row.E.Denot). s.pending) told)
+    (ap (λ (s : Streams g.row.W.Denot g.row.E.Denot). s.outcome) told) (λ silent. ap (λ (s : Streams g.row.W.Denot g.row.E.Denot). s.err) (c.dress_of.ensures.quiet silent)) (answered plain usual.header usual.total usual.most_of_all (ap (λ (s : Streams g.row.W.Denot g.row.E.Denot). string_bytes s.pending) told ∙ empty) known)) c.answer_documents.ensures.answered
 
 pub returns-clause-begun : goal.returns-clause-begun
 returns-clause-begun g c = λ run empty known.
     let told = c.dress_of.ensures.told in
     let read = subst (λ (queries : List Query). IfSome c.reader_for.result (λ reader. Keeps reader (shows_places c.output_of-output.result.form) queries)) (ap trees_of c.as_slice.ensures.value ∙ c.in_ok-trees.ensures) c.reader_for.ensures in
-    let plain = plain_documents _ c.args.options.now c.args.colours.taken run refl c.output_of-output.ensures (c.in_ok-dress.ensures.plain run) refl read in
+    let plain = plain_documents _ c.args.options.now c.args.colours.taken run refl c.output_of-output.ensures c.in_ok-dress.ensures.plain refl read in
+    let usual = usual_of c.args.options.now c.args.colours.taken run in
     begun_for g.W.Write.contents c.args.options.now c.args.paths.now c.output_of-output.result c.heads_of.result (g.I.Inputs.bytes_of c.args.inputs.now) c.args.streams.now (record c.dress_of.new.streams { left = c.args.options.now.most_of_all }) c.answer_documents.new.streams
-    c.output_of-output.ensures (c.heads_of.ensures run.each) (ap (λ (s : Streams g.row.W.Denot g.row.E.Denot). s.out) told) (ap (λ (s : Streams g.row.W.Denot g.row.E.Denot). s.pending) told)
-    (c.answer_documents.ensures.begun plain run.header run.total run.most_of_all (ap (λ (s : Streams g.row.W.Denot g.row.E.Denot). string_bytes s.pending) told ∙ empty) known)
+    c.output_of-output.ensures (c.heads_of.ensures (by_path_of c.args.options.now c.args.colours.taken run)) (ap (λ (s : Streams g.row.W.Denot g.row.E.Denot). s.out) told) (ap (λ (s : Streams g.row.W.Denot g.row.E.Denot). s.pending) told)
+    (c.answer_documents.ensures.begun plain usual.header usual.total usual.most_of_all (ap (λ (s : Streams g.row.W.Denot g.row.E.Denot). string_bytes s.pending) told ∙ empty) known)
 
 pub returns-in_err-trees-clause-begun : goal.returns-in_err-trees-clause-begun
 returns-in_err-trees-clause-begun g c = λ run empty known.

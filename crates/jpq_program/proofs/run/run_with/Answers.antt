@@ -1,32 +1,27 @@
 use Rattle.jpq_program.proofs.Words.{◌≡◌, ◌∙◌, List, ℕ, Option, ap, inl, map, refl, string_bytes, subst, sym, AreInputsShown, AreKnown, ArePaths, AskedPath, Begins, IsShownInPartFor, SendsFor, Streams, names_in, path_texts, rule_in}
-use Rattle.jpq_program.proofs.Asked.{run_answered, run_begun}
+use Rattle.jpq_program.proofs.Asked.{run_answered, run_begun, usual_of}
 use Rattle.jpq_program.proofs.Opened.{opens_all_inputs, opens_inputs}
 use Rattle.jpq_program.proofs.run.run_with.Goals as goal
 
 pub returns-clause-answered : goal.returns-clause-answered
-returns-clause-answered g c = λ run fresh empty refused files known.
-    let right = ap (λ o. o.refused) fresh in
-    let asked = c.in_ok-paths.ensures.told right in
-    let hinted = c.hint_at_patterns.ensures in
-    let ended = c.hint_at_nothing.ensures in
+returns-clause-answered g c = λ run fresh empty files known.
+    let asked = c.in_ok-paths.ensures.right in
+    let hinted = c.hint_at_patterns.ensures.told in
+    let ended = c.hint_at_nothing.ensures.told in
     let same : g.I.Inputs.bytes_of c.asked_paths.new.inputs ≡ g.I.Inputs.bytes_of c.args.inputs.now = λ i name. c.in_ok-paths.ensures.same name i in
     let nothing = ap (λ (s : Streams g.row.W.Denot g.row.E.Denot). string_bytes s.pending) hinted ∙ ap (λ (s : Streams g.row.W.Denot g.row.E.Denot). string_bytes s.pending) asked ∙ empty in
-    let are = c.in_ok-paths.ensures.read run.bindings files in
-    run_answered g.W.Write.contents (g.I.Inputs.bytes_of c.args.inputs.now) c.args.options.now c.deref-2.result.now c.args.streams.now c.hint_at_patterns.new.streams c.answer_paths.new.streams c.hint_at_nothing.new.streams
+    let are = c.in_ok-paths.ensures.read (usual_of c.args.options.now c.args.colours.taken run).bindings files in
+    run_answered g.W.Write.contents (g.I.Inputs.bytes_of c.args.inputs.now) c.args.options.now c.in_ok-next.next c.deref-2.result.now c.args.streams.now c.hint_at_patterns.new.streams c.answer_paths.new.streams c.hint_at_nothing.new.streams
     (subst (λ (paths : List AskedPath). ArePaths (rule_in c.args.options.now) (path_texts (g.I.Inputs.bytes_of c.args.inputs.now) c.args.options.now) (map (λ (path : AskedPath). path.path) paths)) (sym c.deref-2.ensures.value) are)
     fresh (ap (λ (s : Streams g.row.W.Denot g.row.E.Denot). s.out) hinted ∙ ap (λ (s : Streams g.row.W.Denot g.row.E.Denot). s.out) asked)
     (ap (λ (s : Streams g.row.W.Denot g.row.E.Denot). s.outcome) hinted ∙ ap (λ (s : Streams g.row.W.Denot g.row.E.Denot). s.outcome) asked) nothing
-    (ap (λ (s : Streams g.row.W.Denot g.row.E.Denot). s.out) ended) (ap (λ (s : Streams g.row.W.Denot g.row.E.Denot). s.outcome) ended) refused
-    (subst (λ (bytes_of : List ℕ → Option (List ℕ)). SendsFor g.W.Write.contents c.args.options.now (map (λ (path : AskedPath). path.path) c.deref-2.result.now) bytes_of c.hint_at_patterns.new.streams c.answer_paths.new.streams) same
-    (c.in_ok-next.ensures.answered run nothing (subst (λ (bytes_of : List ℕ → Option (List ℕ)). AreKnown bytes_of (names_in c.args.options.now)) (sym same) known)).1)
+    (ap (λ (s : Streams g.row.W.Denot g.row.E.Denot). s.out) ended) (ap (λ (s : Streams g.row.W.Denot g.row.E.Denot). s.outcome) ended)
+    (λ silent. (ap (λ (s : Streams g.row.W.Denot g.row.E.Denot). s.err) (c.hint_at_patterns.ensures.quiet silent ∙ asked), ap (λ (s : Streams g.row.W.Denot g.row.E.Denot). s.err) (c.hint_at_nothing.ensures.quiet silent)))
+    (subst (λ (bytes_of : List ℕ → Option (List ℕ)). SendsFor g.W.Write.contents c.args.options.now c.in_ok-next.next (map (λ (path : AskedPath). path.path) c.deref-2.result.now) bytes_of c.hint_at_patterns.new.streams c.answer_paths.new.streams) same
+    (c.in_ok-next.ensures.answered run nothing (subst (λ (bytes_of : List ℕ → Option (List ℕ)). AreKnown bytes_of (names_in c.args.options.now)) (sym same) known)))
 
 pub returns-clause-all : goal.returns-clause-all
-returns-clause-all g c = λ run empty files known.
-    let asked = c.asked_paths.ensures.tells in
-    let hinted = c.hint_at_patterns.ensures in
-    let same : g.I.Inputs.bytes_of c.asked_paths.new.inputs ≡ g.I.Inputs.bytes_of c.args.inputs.now = λ i name. c.in_ok-paths.ensures.same name i in
-    let nothing = ap (λ (s : Streams g.row.W.Denot g.row.E.Denot). string_bytes s.pending) hinted ∙ ap (λ (s : Streams g.row.W.Denot g.row.E.Denot). string_bytes s.pending) asked ∙ empty in
-    let more = (c.in_ok-next.ensures.answered run nothing (subst (λ (bytes_of : List ℕ → Option (List ℕ)). AreKnown bytes_of (names_in c.args.options.now)) (sym same) known)).0 in
+returns-clause-all g c = λ check more.
     opens_all_inputs c.args.options.now (g.I.Inputs.opened c.args.inputs.now) (g.I.Inputs.opened c.asked_paths.new.inputs) (g.I.Inputs.opened c.answer_paths.new.inputs) c.if-options.false c.in_ok-paths.ensures.opens (c.in_ok-next.ensures.all more)
 
 -- ---- of what a beginning is out, however it ends
@@ -34,35 +29,35 @@ returns-clause-all g c = λ run empty files known.
 pub returns-clause-in_part : goal.returns-clause-in_part
 returns-clause-in_part g c = λ run empty files known.
     let asked = c.asked_paths.ensures.tells in
-    let hinted = c.hint_at_patterns.ensures in
+    let hinted = c.hint_at_patterns.ensures.told in
     let same : g.I.Inputs.bytes_of c.asked_paths.new.inputs ≡ g.I.Inputs.bytes_of c.args.inputs.now = λ i name. c.in_ok-paths.ensures.same name i in
     let nothing = ap (λ (s : Streams g.row.W.Denot g.row.E.Denot). string_bytes s.pending) hinted ∙ ap (λ (s : Streams g.row.W.Denot g.row.E.Denot). string_bytes s.pending) asked ∙ empty in
     run_begun g.W.Write.contents (g.I.Inputs.bytes_of c.args.inputs.now) c.args.options.now c.deref-2.result.now c.args.streams.now c.hint_at_patterns.new.streams c.answer_paths.new.streams c.hint_at_nothing.new.streams
-    (subst (λ (paths : List AskedPath). ArePaths (rule_in c.args.options.now) (path_texts (g.I.Inputs.bytes_of c.args.inputs.now) c.args.options.now) (map (λ (path : AskedPath). path.path) paths)) (sym c.deref-2.ensures.value) (c.in_ok-paths.ensures.read run.bindings files))
-    (ap (λ (s : Streams g.row.W.Denot g.row.E.Denot). s.out) hinted ∙ ap (λ (s : Streams g.row.W.Denot g.row.E.Denot). s.out) asked) nothing (ap (λ (s : Streams g.row.W.Denot g.row.E.Denot). s.out) c.hint_at_nothing.ensures)
+    (subst (λ (paths : List AskedPath). ArePaths (rule_in c.args.options.now) (path_texts (g.I.Inputs.bytes_of c.args.inputs.now) c.args.options.now) (map (λ (path : AskedPath). path.path) paths)) (sym c.deref-2.ensures.value) (c.in_ok-paths.ensures.read (usual_of c.args.options.now c.args.colours.taken run).bindings files))
+    (ap (λ (s : Streams g.row.W.Denot g.row.E.Denot). s.out) hinted ∙ ap (λ (s : Streams g.row.W.Denot g.row.E.Denot). s.out) asked) nothing (ap (λ (s : Streams g.row.W.Denot g.row.E.Denot). s.out) c.hint_at_nothing.ensures.told)
     (subst (λ (bytes_of : List ℕ → Option (List ℕ)). Begins g.W.Write.contents (AreInputsShown (IsShownInPartFor c.args.options.now (map (λ (path : AskedPath). path.path) c.deref-2.result.now)) c.args.options.now.lines bytes_of (names_in c.args.options.now)) c.hint_at_patterns.new.streams c.answer_paths.new.streams) same
     (c.answer_paths.ensures.begun run nothing (subst (λ (bytes_of : List ℕ → Option (List ℕ)). AreKnown bytes_of (names_in c.args.options.now)) (sym same) known)))
 
 pub returns-in_err-hint_at_nothing-clause-in_part : goal.returns-in_err-hint_at_nothing-clause-in_part
 returns-in_err-hint_at_nothing-clause-in_part g c = λ run empty files known.
     let asked = c.asked_paths.ensures.tells in
-    let hinted = c.hint_at_patterns.ensures in
+    let hinted = c.hint_at_patterns.ensures.told in
     let same : g.I.Inputs.bytes_of c.asked_paths.new.inputs ≡ g.I.Inputs.bytes_of c.args.inputs.now = λ i name. c.in_ok-paths.ensures.same name i in
     let nothing = ap (λ (s : Streams g.row.W.Denot g.row.E.Denot). string_bytes s.pending) hinted ∙ ap (λ (s : Streams g.row.W.Denot g.row.E.Denot). string_bytes s.pending) asked ∙ empty in
     run_begun g.W.Write.contents (g.I.Inputs.bytes_of c.args.inputs.now) c.args.options.now c.deref-2.result.now c.args.streams.now c.hint_at_patterns.new.streams c.answer_paths.new.streams c.hint_at_nothing.new.streams
-    (subst (λ (paths : List AskedPath). ArePaths (rule_in c.args.options.now) (path_texts (g.I.Inputs.bytes_of c.args.inputs.now) c.args.options.now) (map (λ (path : AskedPath). path.path) paths)) (sym c.deref-2.ensures.value) (c.in_ok-paths.ensures.read run.bindings files))
-    (ap (λ (s : Streams g.row.W.Denot g.row.E.Denot). s.out) hinted ∙ ap (λ (s : Streams g.row.W.Denot g.row.E.Denot). s.out) asked) nothing (ap (λ (s : Streams g.row.W.Denot g.row.E.Denot). s.out) c.hint_at_nothing.ensures)
+    (subst (λ (paths : List AskedPath). ArePaths (rule_in c.args.options.now) (path_texts (g.I.Inputs.bytes_of c.args.inputs.now) c.args.options.now) (map (λ (path : AskedPath). path.path) paths)) (sym c.deref-2.ensures.value) (c.in_ok-paths.ensures.read (usual_of c.args.options.now c.args.colours.taken run).bindings files))
+    (ap (λ (s : Streams g.row.W.Denot g.row.E.Denot). s.out) hinted ∙ ap (λ (s : Streams g.row.W.Denot g.row.E.Denot). s.out) asked) nothing (ap (λ (s : Streams g.row.W.Denot g.row.E.Denot). s.out) c.hint_at_nothing.ensures.told)
     (subst (λ (bytes_of : List ℕ → Option (List ℕ)). Begins g.W.Write.contents (AreInputsShown (IsShownInPartFor c.args.options.now (map (λ (path : AskedPath). path.path) c.deref-2.result.now)) c.args.options.now.lines bytes_of (names_in c.args.options.now)) c.hint_at_patterns.new.streams c.answer_paths.new.streams) same
     (c.answer_paths.ensures.begun run nothing (subst (λ (bytes_of : List ℕ → Option (List ℕ)). AreKnown bytes_of (names_in c.args.options.now)) (sym same) known)))
 
 pub returns-in_err-next-clause-in_part : goal.returns-in_err-next-clause-in_part
 returns-in_err-next-clause-in_part g c = λ run empty files known.
     let asked = c.asked_paths.ensures.tells in
-    let hinted = c.hint_at_patterns.ensures in
+    let hinted = c.hint_at_patterns.ensures.told in
     let same : g.I.Inputs.bytes_of c.asked_paths.new.inputs ≡ g.I.Inputs.bytes_of c.args.inputs.now = λ i name. c.in_ok-paths.ensures.same name i in
     let nothing = ap (λ (s : Streams g.row.W.Denot g.row.E.Denot). string_bytes s.pending) hinted ∙ ap (λ (s : Streams g.row.W.Denot g.row.E.Denot). string_bytes s.pending) asked ∙ empty in
     run_begun g.W.Write.contents (g.I.Inputs.bytes_of c.args.inputs.now) c.args.options.now c.deref-2.result.now c.args.streams.now c.hint_at_patterns.new.streams c.answer_paths.new.streams c.answer_paths.new.streams
-    (subst (λ (paths : List AskedPath). ArePaths (rule_in c.args.options.now) (path_texts (g.I.Inputs.bytes_of c.args.inputs.now) c.args.options.now) (map (λ (path : AskedPath). path.path) paths)) (sym c.deref-2.ensures.value) (c.in_ok-paths.ensures.read run.bindings files))
+    (subst (λ (paths : List AskedPath). ArePaths (rule_in c.args.options.now) (path_texts (g.I.Inputs.bytes_of c.args.inputs.now) c.args.options.now) (map (λ (path : AskedPath). path.path) paths)) (sym c.deref-2.ensures.value) (c.in_ok-paths.ensures.read (usual_of c.args.options.now c.args.colours.taken run).bindings files))
     (ap (λ (s : Streams g.row.W.Denot g.row.E.Denot). s.out) hinted ∙ ap (λ (s : Streams g.row.W.Denot g.row.E.Denot). s.out) asked) nothing refl
     (subst (λ (bytes_of : List ℕ → Option (List ℕ)). Begins g.W.Write.contents (AreInputsShown (IsShownInPartFor c.args.options.now (map (λ (path : AskedPath). path.path) c.deref-2.result.now)) c.args.options.now.lines bytes_of (names_in c.args.options.now)) c.hint_at_patterns.new.streams c.answer_paths.new.streams) same
     (c.answer_paths.ensures.begun run nothing (subst (λ (bytes_of : List ℕ → Option (List ℕ)). AreKnown bytes_of (names_in c.args.options.now)) (sym same) known)))
@@ -72,14 +67,14 @@ returns-in_err-paths-clause-in_part g c = λ run empty files known. inl (ap (λ 
 
 pub returns-in_err-hint_at_patterns-clause-in_part : goal.returns-in_err-hint_at_patterns-clause-in_part
 returns-in_err-hint_at_patterns-clause-in_part g c = λ run empty files known.
-    inl (ap (λ (s : Streams g.row.W.Denot g.row.E.Denot). s.out) c.hint_at_patterns.ensures ∙ ap (λ (s : Streams g.row.W.Denot g.row.E.Denot). s.out) c.asked_paths.ensures.tells)
+    inl (ap (λ (s : Streams g.row.W.Denot g.row.E.Denot). s.out) c.hint_at_patterns.ensures.told ∙ ap (λ (s : Streams g.row.W.Denot g.row.E.Denot). s.out) c.asked_paths.ensures.tells)
 
 pub returns-in_err-paths-clause-checked_in_part : goal.returns-in_err-paths-clause-checked_in_part
 returns-in_err-paths-clause-checked_in_part g c = λ run empty files. inl (ap (λ (s : Streams g.row.W.Denot g.row.E.Denot). s.out) c.asked_paths.ensures.tells)
 
 pub returns-in_err-hint_at_patterns-clause-checked_in_part : goal.returns-in_err-hint_at_patterns-clause-checked_in_part
 returns-in_err-hint_at_patterns-clause-checked_in_part g c = λ run empty files.
-    inl (ap (λ (s : Streams g.row.W.Denot g.row.E.Denot). s.out) c.hint_at_patterns.ensures ∙ ap (λ (s : Streams g.row.W.Denot g.row.E.Denot). s.out) c.asked_paths.ensures.tells)
+    inl (ap (λ (s : Streams g.row.W.Denot g.row.E.Denot). s.out) c.hint_at_patterns.ensures.told ∙ ap (λ (s : Streams g.row.W.Denot g.row.E.Denot). s.out) c.asked_paths.ensures.tells)
 
 pub returns-in_err-next-clause-in_order : goal.returns-in_err-next-clause-in_order
 returns-in_err-next-clause-in_order g c =

@@ -15,6 +15,7 @@ returns-in-Ok-clause-answered g c = λ shows each left.
           (ap (λ (s : Streams g.row.W.Denot g.row.E.Denot). s.out) w.streams-is ∙ ap (λ (s : Streams g.row.W.Denot g.row.E.Denot). s.out) kept)
           (ap (λ (s : Streams g.row.W.Denot g.row.E.Denot). string_bytes s.pending) w.streams-is ∙ grind (arith, common_steps, kept, w.push_str.ensures, w.as_str.ensures))
           (ap (λ (s : Streams g.row.W.Denot g.row.E.Denot). s.outcome) w.streams-is ∙ ap (λ (s : Streams g.row.W.Denot g.row.E.Denot). s.outcome) kept)
+          (ap (λ (s : Streams g.row.W.Denot g.row.E.Denot). s.err) w.streams-is ∙ ap (λ (s : Streams g.row.W.Denot g.row.E.Denot). s.err) kept)
           (ap (λ (s : Streams g.row.W.Denot g.row.E.Denot). s.left) w.streams-is ∙ still)
       | else-not-self w ↦ absurd (grind (arith, common_steps, w.if-not-self, each))
     ]

@@ -24,7 +24,7 @@ loop-index-preserved g c =
           mapped_further g.W.Write.contents (λ (number : ℕ) (path : JsonPath). IsAnswerOn builtin_functions path c.args.self.now.showing.output (head number) c.args.document.bytes.now)
           (λ (number : ℕ) (path : JsonPath). IsAnswerInPart builtin_functions path c.args.self.now.showing.output (head number) c.args.document.bytes.now) (λ (path : AskedPath). path.path)
           c.args.self.now.paths.now c.loop-index.index path c.args.streams.now c.loop-index.streams c.answer_count.new.streams c.loop-index-test.true c.path-item.is first
-          (subst (λ (h : List ℕ). AnswersPath g.W.Write.contents path.path c.args.self.now.showing.output h c.args.document.bytes.now c.loop-index.streams c.answer_count.new.streams) head_is second),
+          (subst (λ (h : List ℕ). AnswersPath c.args.self.now.silent g.W.Write.contents path.path c.args.self.now.showing.output h c.args.document.bytes.now c.loop-index.streams c.answer_count.new.streams) head_is second),
     )
 
 pub returns-clause-answered : goal.returns-clause-answered

@@ -7,5 +7,5 @@ invariant-loop-index g l =
     let head = head_by l.self.heads l.document.source.name.now l.document.source.line in
     (l.streams.out ≡ l.initial.streams.out)
     × (AreShownAs l.self.showing.output l.document.bytes.now (view l.document.value.now) l.self.paths.now → has_counts l.self.showing.output.form ≡ true → l.self.total ≡ false → l.initial.streams.left ≡ None
-    → Answered g.W.Write.contents (AreAnswersOn builtin_functions paths l.self.showing.output head l.document.bytes.now) (AreAnswersInPart builtin_functions paths l.self.showing.output head l.document.bytes.now)
+    → Answered l.self.silent g.W.Write.contents (AreAnswersOn builtin_functions paths l.self.showing.output head l.document.bytes.now) (AreAnswersInPart builtin_functions paths l.self.showing.output head l.document.bytes.now)
     l.initial.streams l.streams)

@@ -6,5 +6,5 @@ invariant-loop-index g l =
     let paths = map (λ (path : AskedPath). path.path) (take l.index l.self.paths.now) in
     let head = head_by l.self.heads l.document.source.name.now l.document.source.line in
     AreShownAs l.self.showing.output l.document.bytes.now (view l.document.value.now) l.self.paths.now → shows_lines l.self.showing ≡ true → l.initial.streams.left ≡ None
-    → Answered g.W.Write.contents (AreAnswersOn builtin_functions paths l.self.showing.output head l.document.bytes.now) (AreAnswersInPart builtin_functions paths l.self.showing.output head l.document.bytes.now)
+    → Answered l.self.silent g.W.Write.contents (AreAnswersOn builtin_functions paths l.self.showing.output head l.document.bytes.now) (AreAnswersInPart builtin_functions paths l.self.showing.output head l.document.bytes.now)
     l.initial.streams l.streams

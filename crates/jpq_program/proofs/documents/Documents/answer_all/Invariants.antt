@@ -8,5 +8,5 @@ invariant-loop-name g l =
     × Opens (g.I.Inputs.opened l.initial.inputs) (g.I.Inputs.opened l.inputs) done
     × (IsPlain l.self → l.initial.streams.left ≡ None → string_bytes l.initial.streams.pending ≡ []
     → AreKnown (g.I.Inputs.bytes_of l.initial.inputs) (map (λ (name : Bor (List ℕ)). name.now) l.names)
-    → Sends g.W.Write.contents (AreInputsShown (shown_by l.self.answering) l.self.lines (g.I.Inputs.bytes_of l.initial.inputs) done) (AreInputsShown (shown_in_part_by l.self.answering) l.self.lines (g.I.Inputs.bytes_of l.initial.inputs) done)
+    → Sends l.self.answering.silent g.W.Write.contents (AreInputsShown (shown_by l.self.answering) l.self.lines (g.I.Inputs.bytes_of l.initial.inputs) done) (AreInputsShown (shown_in_part_by l.self.answering) l.self.lines (g.I.Inputs.bytes_of l.initial.inputs) done)
     l.initial.streams l.streams)

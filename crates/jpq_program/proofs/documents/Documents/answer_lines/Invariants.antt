@@ -7,4 +7,4 @@ abbrev pub invariant-loop-number : goal.invariant-loop-number
 invariant-loop-number g l =
     IsPlain l.self → l.initial.streams.left ≡ None → string_bytes l.initial.streams.pending ≡ []
     → IfSome (g.I.Read.remaining l.fn.input) (λ bytes. (left : List ℕ) × (count : ℕ) × (reader_remaining g.I.Read.remaining l.reader ≡ Some left) × (l.number ≡ 1 + count)
-    × SentLines g.W.Write.contents (shown_by l.self.answering) (shown_in_part_by l.self.answering) l.name bytes left count l.initial.streams l.streams)
+    × SentLines l.self.answering.silent g.W.Write.contents (shown_by l.self.answering) (shown_in_part_by l.self.answering) l.name bytes left count l.initial.streams l.streams)

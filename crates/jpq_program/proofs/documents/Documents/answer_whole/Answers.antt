@@ -1,17 +1,14 @@
-use Rattle.jpq_program.proofs.Words.{◌≡◌, ◌∙◌, ◌++◌, IfOk-weaker, List, ℕ, ap, string_bytes, subst, Begins, IsInputShown, SendsBy, Streams, false, shown_by, shown_in_part_by, without_mark}
+use Rattle.jpq_program.proofs.Words.{◌≡◌, ◌∙◌, ◌++◌, IfOk-weaker, List, ℕ, ap, string_bytes, subst, Begins, IsInputShown, SendsDocument, Streams, false, shown_by, shown_in_part_by, without_mark, IfMore, inl}
 use Rattle.jpq_program.proofs.Sending.{known_at, no_answer, no_input, some_known}
 use Rattle.jpq_program.proofs.Shown.{nothing_answered, nothing_begun}
 use Rattle.jpq_program.proofs.documents.Documents.answer_whole.Goals as goal
 
 pub returns-in-Ok-clause-answered : goal.returns-in-Ok-clause-answered
-returns-in-Ok-clause-answered g c = IfOk-weaker c.answer_bytes.result _ _ (λ _ answered plain left empty.
+returns-in-Ok-clause-answered g c = IfOk-weaker c.answer_bytes.result _ _ (λ next answered plain left empty.
     some_known (g.I.Read.remaining c.args.input) (λ bytes is.
     let whole = known_at _ (g.I.Read.remaining c.args.input) bytes is c.in-Ok.ensures.bytes in
     let same : c.without_mark.result.now ≡ without_mark bytes = c.without_mark.ensures ∙ ap without_mark (c.deref.ensures.value ∙ whole ∙ ap (λ (front : List ℕ). front ++ bytes) c.new-bytes.ensures.items) in
-    let sent = answered plain left empty in (
-      sent.0,
-      subst (λ (own : List ℕ). SendsBy g.W.Write.contents c.args.self.now.answering c.args.name.now 1 own c.args.streams.now c.answer_bytes.new.streams) same sent.1,
-    ))) c.answer_bytes.ensures.answered
+    subst (λ (own : List ℕ). SendsDocument g.W.Write.contents c.args.self.now.answering next c.args.name.now 1 own c.args.streams.now c.answer_bytes.new.streams) same (answered plain left empty))) c.answer_bytes.ensures.answered
 
 pub returns-in-Ok-clause-begun : goal.returns-in-Ok-clause-begun
 returns-in-Ok-clause-begun g c = λ plain left.
@@ -21,12 +18,12 @@ returns-in-Ok-clause-begun g c = λ plain left.
     subst (λ (own : List ℕ). Begins g.W.Write.contents (shown_in_part_by c.args.self.now.answering c.args.name.now 1 own) c.args.streams.now c.answer_bytes.new.streams) same (c.answer_bytes.ensures.begun plain left))
 
 pub returns-clause-answered : goal.returns-clause-answered
-returns-clause-answered g c = IfOk-weaker c.refuse_input.result _ _ (λ _ refused plain left empty.
+returns-clause-answered g c = IfOk-weaker c.refuse_input.result _ _ (λ next refused plain left empty.
     some_known (g.I.Read.remaining c.args.input) (λ bytes is.
     let kept = c.refuse_input.ensures.kept in (
-      refused.0,
+      inl refused.0,
       (
-        nothing_answered g.W.Write.contents (IsInputShown (shown_by c.args.self.now.answering) false c.args.name.now bytes) (IsInputShown (shown_in_part_by c.args.self.now.answering) false c.args.name.now bytes)
+        nothing_answered g.W.Write.contents (IfMore next (IsInputShown (shown_by c.args.self.now.answering) false c.args.name.now bytes)) (IsInputShown (shown_in_part_by c.args.self.now.answering) false c.args.name.now bytes)
             c.args.streams.now c.refuse_input.new.streams (no_input (shown_in_part_by c.args.self.now.answering) false c.args.name.now bytes (no_answer c.args.self.now.answering c.args.name.now)) kept refused.1
             (ap (λ (s : Streams g.row.W.Denot g.row.E.Denot). s.left) kept ∙ left),
         ap (λ (s : Streams g.row.W.Denot g.row.E.Denot). string_bytes s.pending) kept ∙ empty,

@@ -9,11 +9,19 @@ loop-index-preserved g c =
     let told = c.parse.ensures.told ∙ ap (λ (s : Streams g.row.W.Denot g.row.E.Denot). record s { err = c.parse.new.streams.err; outcome = record s.outcome { refused = c.parse.new.streams.outcome.refused } }) c.loop-index.invariant.1 in (
       reads,
       told,
+      λ right. elim c.match-branch-3.branch [
+        | in-Some+in_ok-push w ↦
+            let read = rw w.in-Some.is at c.in_ok-path.ensures.read in
+            read.0 ∙ c.loop-index.invariant.2 (sym (ap (λ (s : Streams g.row.W.Denot g.row.E.Denot). s.outcome.refused) read.0) ∙ right)
+        | in_default w ↦
+            let wrong = rw w.in_default.is at c.in_ok-path.ensures.read in
+            absurd (true≢false (sym wrong ∙ right))
+      ],
       λ none start refused. elim c.match-branch-3.branch [
         | in-Some+in_ok-push w ↦
             let read = rw w.in-Some.is at c.in_ok-path.ensures.read in
             let before = sym (ap (λ (s : Streams g.row.W.Denot g.row.E.Denot). s.outcome.refused) read.0) ∙ refused in
-            let are = c.loop-index.invariant.2 none start before in
+            let are = c.loop-index.invariant.3 none start before in
             let is = read.1 (ap (λ (r : PathReading). r.bindings.items) c.loop-index.invariant.0 ∙ none) in
             paths_further (numbers_view c.args.self.now.numbers) (numbers_view c.loop-index.self.numbers) c.args.texts.now c.loop-index.index _ c.loop-index.paths.items c.match-branch-3.paths.items w.in-Some.path c.loop-index-test.true
             (ap (λ (r : PathReading). numbers_view r.numbers) c.loop-index.invariant.0) (ap (λ (v : Vec AskedPath Global). v.items) w.paths-is ∙ w.in_ok-push.ensures.items) are is

@@ -13,6 +13,7 @@ returns-clause-taken g c =
         head = ap (λ (w : Written g.row.W.Denot g.row.E.Denot). w.head) pushed.kept;
         limit = ap (λ (w : Written g.row.W.Denot g.row.E.Denot). w.limit) pushed.kept;
         outcome = ap (λ (s : Streams g.row.W.Denot g.row.E.Denot). s.outcome) kept ∙ ap (λ (s : Streams g.row.W.Denot g.row.E.Denot). s.outcome) pushed.streams;
+        err = ap (λ (s : Streams g.row.W.Denot g.row.E.Denot). s.err) kept ∙ ap (λ (s : Streams g.row.W.Denot g.row.E.Denot). s.err) pushed.streams;
         left = ap (λ (s : Streams g.row.W.Denot g.row.E.Denot). s.left) kept ∙ ap (λ (s : Streams g.row.W.Denot g.row.E.Denot). s.left) pushed.streams;
       };
       count = search rules;
@@ -42,6 +43,7 @@ returns-in-Err-clause-begun g c =
         head = ap (λ (w : Written g.row.W.Denot g.row.E.Denot). w.head) pushed.kept;
         limit = ap (λ (w : Written g.row.W.Denot g.row.E.Denot). w.limit) pushed.kept;
         outcome = ap (λ (s : Streams g.row.W.Denot g.row.E.Denot). s.outcome) kept ∙ ap (λ (s : Streams g.row.W.Denot g.row.E.Denot). s.outcome) pushed.streams;
+        err = ap (λ (s : Streams g.row.W.Denot g.row.E.Denot). s.err) kept ∙ ap (λ (s : Streams g.row.W.Denot g.row.E.Denot). s.err) pushed.streams;
         left = ap (λ (s : Streams g.row.W.Denot g.row.E.Denot). s.left) kept ∙ ap (λ (s : Streams g.row.W.Denot g.row.E.Denot). s.left) pushed.streams;
       };
       lines = λ plain. line_begun c.args.self.now.showing.now.output c.args.self.now.head.now (located c.args.node.now) (g.W.Write.contents c.args.self.now.streams.now.out) _ _ _ (c.in_ok-push_pending.ensures.line plain)
