@@ -230,7 +230,8 @@ ComesOf out err bytes_of opened taken (Run options) inputs later before after st
     → Appends (out before.out) (out after.out) [] × (status ≤ 1 → IsFound bytes_of options status)
     × (status ≡ 1 → Opens (opened inputs) (opened later) (opened_in options) × TellsNothing options before after))
     × (IsCheckRun options → AreKnown bytes_of (path_files_in options)
-    → (status ≤ 1 → IsChecked out bytes_of options inputs later before.out after.out status) × IsCheckedInPart out bytes_of options before.out after.out)
+    → (status ≤ 1 → IsChecked out bytes_of options inputs later before.out after.out status × TellsNothing options before after)
+    × IsCheckedInPart out bytes_of options before.out after.out)
     × OpensInOrder options status (opened inputs) (opened later)
 
 -- memory for the words was refused: no input is opened, nothing goes out, and that is told

@@ -42,6 +42,7 @@ fn check<W: Write, E: Write>(paths: &[AskedPath], streams: &mut Streams<W, E>) -
         (canonical_lines (map (λ path. path.path) paths.now)) }
     ensures selected { OnOk result (streams.new.outcome
         ≡ record streams.old.outcome { selected = true }) }
+    ensures quiet { streams.new.err ≡ streams.old.err }
 {
     for path in paths {
         write!(streams.pending, "{}\n", path.path)?;
@@ -398,6 +399,8 @@ fn run_with<I: Inputs, W: Write, E: Write>(
         → AreKnown (I.bytes_of inputs.old) (path_files_in options.now)
         → IsChecked W.contents (I.bytes_of inputs.old) options.now inputs.old inputs.new
         streams.old.out streams.new.out (status_of streams.new.outcome)) }
+    ensures check_told { IfOk result (λ _. options.now.check ≡ true → options.now.silent ≡ true
+        → streams.new.err ≡ streams.old.err) }
     ensures checked_in_part { IsCheckRun options.now → string_bytes streams.old.pending ≡ []
         → AreKnown (I.bytes_of inputs.old) (path_files_in options.now)
         → IsCheckedInPart W.contents (I.bytes_of inputs.old) options.now

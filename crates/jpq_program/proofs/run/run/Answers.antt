@@ -47,11 +47,14 @@ returns-in-Ok-Run-clause-comes g c =
             λ silent. untold well.0 well.1 ∙ came.told silent (well.3 one).1 ∙ c.restart.ensures.err,
           )),
     ) in
-    let checked : IsCheckRun options → AreKnown (g.I.Inputs.bytes_of c.args.inputs.now) (path_files_in options) → c.exit_status.result ≤ 1 → IsChecked g.W.Write.contents (g.I.Inputs.bytes_of c.args.inputs.now) options c.args.inputs.now c.run_with-ended.new.inputs c.args.streams.now.out c.exit_status.new.streams.out c.exit_status.result = λ run known few.
-    let well = ended_well ended (not c.is_empty.result) outcome c.exit_status.result (subst (λ (quiet : Bool). c.exit_status.result ≡ status_after ended (not c.is_empty.result) quiet outcome) (c.is_quiet-quiet.ensures ∙ each_shown options.shown run.each) c.exit_status.ensures.status) few in
-    check_ended g.W.Write.contents (g.I.Inputs.bytes_of c.args.inputs.now) options c.args.inputs.now c.run_with-ended.new.inputs c.args.streams.now.out c.restart.new.self.out c.run_with-ended.new.streams.out c.exit_status.new.streams.out outcome c.exit_status.result
-    c.restart.ensures.out c.exit_status.ensures.out well.3
-    (of_ok _ ended well.0 well.1 c.run_with-ended.ensures.checked run c.restart.ensures.outcome c.restart.ensures.pending known) in
+    let checked : IsCheckRun options → AreKnown (g.I.Inputs.bytes_of c.args.inputs.now) (path_files_in options) → c.exit_status.result ≤ 1 → IsChecked g.W.Write.contents (g.I.Inputs.bytes_of c.args.inputs.now) options c.args.inputs.now c.run_with-ended.new.inputs c.args.streams.now.out c.exit_status.new.streams.out c.exit_status.result
+    × TellsNothing options c.args.streams.now c.exit_status.new.streams = λ run known few.
+    let well = ended_well ended (not c.is_empty.result) outcome c.exit_status.result (subst (λ (quiet : Bool). c.exit_status.result ≡ status_after ended (not c.is_empty.result) quiet outcome) (c.is_quiet-quiet.ensures ∙ each_shown options.shown run.each) c.exit_status.ensures.status) few in (
+      check_ended g.W.Write.contents (g.I.Inputs.bytes_of c.args.inputs.now) options c.args.inputs.now c.run_with-ended.new.inputs c.args.streams.now.out c.restart.new.self.out c.run_with-ended.new.streams.out c.exit_status.new.streams.out outcome c.exit_status.result
+          c.restart.ensures.out c.exit_status.ensures.out well.3
+          (of_ok _ ended well.0 well.1 c.run_with-ended.ensures.checked run c.restart.ensures.outcome c.restart.ensures.pending known),
+      λ silent. untold well.0 well.1 ∙ of_ok _ ended well.0 well.1 c.run_with-ended.ensures.check_told run.check silent ∙ c.restart.ensures.err,
+    ) in
     let in_part : IsPlainRun options c.args.colours.taken → AreKnown (g.I.Inputs.bytes_of c.args.inputs.now) (path_files_in options) → AreKnown (g.I.Inputs.bytes_of c.args.inputs.now) (names_in options)
     → IsAnsweredInPart g.W.Write.contents (g.I.Inputs.bytes_of c.args.inputs.now) options c.args.streams.now.out c.exit_status.new.streams.out = λ run files known.
     out_since (IsAnsweredInPart g.W.Write.contents (g.I.Inputs.bytes_of c.args.inputs.now) options) c.args.streams.now.out c.restart.new.self.out c.run_with-ended.new.streams.out c.exit_status.new.streams.out
