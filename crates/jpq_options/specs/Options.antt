@@ -142,6 +142,13 @@ is_table _ = true
 abbrev pub lacks_table : Shown → List Row → Bool
 lacks_table shown rows = is_given (codes "header") rows && not (is_table shown)
 
+-- what is told of a misuse
+abbrev pub text_of_misuse : Misuse → List ℕ
+text_of_misuse (Together one other) = codes "the argument '--" ++ (one.now ++ (codes "' cannot be used with '--" ++ (other.now ++ codes "'")))
+text_of_misuse (Without other) = codes "the following required arguments were not provided:\n  --" ++ other.now
+text_of_misuse NoPath = codes "the following required arguments were not provided:\n  <PATH>"
+text_of_misuse CheckOfFile = codes "the argument '--check' cannot be used with '[FILE]...'"
+
 abbrev pub kind_of_misuse : Misuse → ErrorKind
 kind_of_misuse (Together one other) = ArgumentConflict
 kind_of_misuse (Without other) = MissingRequiredArgument

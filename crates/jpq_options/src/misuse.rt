@@ -1,7 +1,7 @@
 //! How options are used that may not be used so, though `clap` reads each.
 
-ghost use Rattle.std.specs.Prelude.{◌≡◌, map};
-ghost use Rattle.jpq_options.specs.Options.{kind_of_misuse};
+ghost use Rattle.std.specs.Prelude.{◌≡◌, Some, map};
+ghost use Rattle.jpq_options.specs.Options.{kind_of_misuse, text_of_misuse};
 ghost use Rattle.jpq_options.specs.Pairs.{conflicts, needs, pair_of_row};
 
 use clap::error::ErrorKind;
@@ -105,6 +105,8 @@ impl Misuse {
 }
 
 impl fmt::Display for Misuse {
+    ghost output = { λ misuse. Some (text_of_misuse misuse) };
+
     fn fmt<W: fmt::Write>(&self, f: &mut fmt::Formatter<W>) -> fmt::Result {
         match self {
             Misuse::Together(one, other) => {

@@ -1,5 +1,5 @@
 -- Nodes of which each location is taken once: of their beginning, of one node more, and of those that were taken so before.
-use Rattle.jsonpath_lines.proofs.Words.{common_steps, ◌≡◌, ◌⊎◌, inl, inr, ℕ, Bool, true, false, ◌||◌, if◌then◌else◌, List, [], ◌∷◌, ◌++◌, Option, Some, None, length, map, take, refl, sym, ap, subst, ◌∙◌, append_assoc, append-nil, arith, take-append-le, first_places, first_places_after, is_among, Located, Step, located, location_of, AreEnough, IsExceeded, TookDistinct, length-append, length-map, most_held, up_to, ◌+◌, ◌≤◌, nat_tests, list_any-append, same_steps, same_steps_decides, DistinctNodes}
+use Rattle.jsonpath_lines.proofs.Words.{common_steps, ◌≡◌, ◌⊎◌, inl, inr, ℕ, Bool, true, false, ◌||◌, if◌then◌else◌, List, [], ◌∷◌, ◌++◌, Option, Some, None, length, map, take, refl, sym, ap, subst, ◌∙◌, append_assoc, append-nil, arith, take-append-le, first_places, first_places_after, is_among, Located, Step, located, location_of, AreEnough, IsExceeded, TookDistinct, length-append, length-map, most_held, up_to, ◌+◌, ◌≤◌, nat_tests, IfSome, LocatedNode, list_any-append, same_steps, same_steps_decides, DistinctNodes}
 
 -- nodes that follow others
 after_append : (earlier : List (List Step)) (nodes later : List Located)
@@ -83,12 +83,41 @@ distinct_push some others next same =
     ∙ ap (λ l. l ++ ((if is_among next.location (map location_of others) then [] else next ∷ []) ++ [])) same
     ∙ sym (after_append [] others (next ∷ []))
 
+-- no more nodes are first at their places than there are
+first_fewer : (earlier : List (List Step)) (nodes : List Located) → length (first_places_after earlier nodes) ≤ length nodes
+first_fewer earlier [] = omega arith
+first_fewer earlier (n ∷ nodes) = one_fewer (is_among n.location earlier) (first_places_after (earlier ++ n.location ∷ []) nodes) (first_fewer (earlier ++ n.location ∷ []) nodes)
+  where
+    one_fewer : (among : Bool) (rest : List Located) → length rest ≤ length nodes → length ((if among then [] else n ∷ []) ++ rest) ≤ length (n ∷ nodes)
+    one_fewer true rest few = omega (arith, few)
+    one_fewer false rest few = omega (arith, few)
+
+pub held_within : (limit : Option ℕ) (held room : ℕ) → held ≤ room → IfSome limit (λ most. room ≤ most_held most) → IfSome limit (λ most. held ≤ most_held most)
+held_within None held room few within = tt
+held_within (Some most) held room few within = omega (arith, few, within)
+
+-- as many as are held, and those of them that differ
+pub differing_fewer : (found all : List LocatedNode) (limit : Option ℕ) → map located found ≡ first_places (map located all) → IfSome limit (λ most. length all ≤ most_held most) → IfSome limit (λ most. length found ≤ most_held most)
+differing_fewer found all None are few = tt
+differing_fewer found all (Some most) are few = omega (arith, few, fewer)
+  where
+    fewer : length found ≤ length all
+    fewer = omega (arith, length-map found located, length-map all located, ap length are, first_fewer [] (map located all))
+
+pub differing_within : (limit : Option ℕ) (found all : List LocatedNode) (room : ℕ) → map located found ≡ first_places (map located all) → length all ≤ room → IfSome limit (λ most. room ≤ most_held most) → IfSome limit (λ most. length found ≤ most_held most)
+differing_within limit found all room are few within = differing_fewer found all limit are (held_within limit (length all) room few within)
+
+-- there is room for as many as may be held of those that are wanted
+pub room_within : (limit : Option ℕ) (count room : ℕ) → IfSome limit (λ most. count ≤ most) → room ≤ most_held count → IfSome limit (λ most. room ≤ most_held most)
+room_within None count room within is = tt
+room_within (Some most) count room within is = omega (arith, within, is)
+
 -- ---- a sink of nodes that differ in their locations
 
 -- another is taken, beside those that are left
 pub distinct_taken : (before now : DistinctNodes) (nodes left : List Located) (n : Located) → now.limit ≡ before.limit → first_places left ≡ first_places nodes
-    → map located now.nodes.items ≡ left ++ n ∷ [] → length left + 1 ≤ now.room → now.room ≤ most_held (length (first_places nodes)) → TookDistinct before (nodes ++ n ∷ []) now
-distinct_taken before now nodes left n limit same is few room =
+    → map located now.nodes.items ≡ left ++ n ∷ [] → length left + 1 ≤ now.room → now.room ≤ most_held (length (first_places nodes)) → IfSome before.limit (λ most. now.room ≤ most_held most) → TookDistinct before (nodes ++ n ∷ []) now
+distinct_taken before now nodes left n limit same is few room within =
     let beginning = distinct_beginning nodes (n ∷ []) in
     let longer : length (first_places (nodes ++ n ∷ [])) ≡ length (first_places nodes) + length beginning.0 = ap length beginning.1 ∙ length-append (first_places nodes) beginning.0 in
     let all : length now.nodes.items ≡ length left + 1 = sym (length-map now.nodes.items located) ∙ ap length is ∙ length-append left (n ∷ []) in
@@ -97,6 +126,7 @@ distinct_taken before now nodes left n limit same is few room =
       met = ap first_places is ∙ distinct_push left nodes n same;
       held = omega (arith, all, few);
       room = omega (arith, room, longer);
+      few = within;
     }
 
 -- those that are left are enough

@@ -1,5 +1,7 @@
 -- A line so far, in colours.
-use Rattle.jsonpath_lines.proofs.Words.{◌≡◌, ℕ, List, [], ◌∷◌, ◌++◌, sym, ap, subst, ◌∙◌, append_assoc, append-nil, IsColoured, IsTrue, IsUnseen, byte, empty, is_sequence, sequence}
+use Rattle.jsonpath_lines.proofs.Words.{◌≡◌, ℕ, List, [], ◌∷◌, ◌++◌, refl, sym, ap, subst, ◌∙◌, append_assoc, append-nil, Form, IsColoured, IsTrue, IsUnseen, Raw, byte, empty, is_sequence, sequence}
+use Rattle.jsonpath_lines.specs.declared.colours.Place.{Place}
+use Rattle.jsonpath_lines.specs.declared.colours.Place.TheVariants.{Between}
 
 -- a sequence is not seen
 pub unseen_one : (bytes : List ℕ) → IsTrue (is_sequence bytes) → IsUnseen bytes
@@ -35,3 +37,27 @@ pub seen_whole : (line text change : List ℕ) → IsUnseen change → IsSeenUpT
 seen_whole line text change unseen before =
     subst (λ (l : List ℕ). IsColoured l (text ++ change)) (sym before.1)
     (subst (λ (t : List ℕ). IsColoured (before.0 ++ []) (text ++ t)) (append-nil change) (before.2 [] (change ++ []) (unseen.shows [] [] empty)))
+
+-- ---- lines that have no colours
+
+-- of a form without colours the text is the line so far, and no colour stands open
+abbrev pub IsPlainUpTo : Form → Place → List ℕ → List ℕ → List ℕ → Type 0
+IsPlainUpTo form place line text left = form ≡ Raw → (place ≡ Between) × (line ≡ text ++ left)
+
+pub plain_begun : (form : Form) (line text left : List ℕ) → text ≡ [] → left ≡ line → IsPlainUpTo form Between line text left
+plain_begun form line text left none whole = λ raw. (refl, sym whole ∙ ap (λ (t : List ℕ). t ++ left) (sym none))
+
+-- one character further
+pub plain_further : (form : Form) (place next : Place) (line text changed pushed bytes left left' : List ℕ) → (form ≡ Raw → next ≡ Between) → (place ≡ Between → next ≡ Between → changed ≡ text) → pushed ≡ changed ++ bytes → left ≡ bytes ++ left'
+    → IsPlainUpTo form place line text left → IsPlainUpTo form next line pushed left'
+plain_further form place next line text changed pushed bytes left left' is none adds splits before = λ raw.
+    let old = before raw in (
+      is raw,
+      old.1 ∙ ap (λ (t : List ℕ). text ++ t) splits ∙ sym (append_assoc text bytes left')
+          ∙ ap (λ (t : List ℕ). t ++ left') (ap (λ (t : List ℕ). t ++ bytes) (sym (none old.0 (is raw))) ∙ sym adds),
+    )
+
+pub plain_whole : (form : Form) (place : Place) (line text changed left : List ℕ) → form ≡ Raw → (place ≡ Between → changed ≡ text) → left ≡ [] → IsPlainUpTo form place line text left → changed ≡ line
+plain_whole form place line text changed left raw same none before =
+    let old = before raw in
+    same old.0 ∙ sym (append-nil text) ∙ ap (λ (t : List ℕ). text ++ t) (sym none) ∙ sym old.1

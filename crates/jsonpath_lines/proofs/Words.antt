@@ -12,10 +12,10 @@ pub use Rattle.json.specs.Reads.{token_of}
 pub use Rattle.json.specs.Token.{Token, end_object}
 pub use Rattle.json.specs.Tree.{HasNumbers, ItemsHaveNumbers, items_tokens, json_tokens, members_tokens}
 pub use Rattle.jsonpath_lines.specs.Coloured.{IsColoured, byte, empty, is_sequence, sequence}
-pub use Rattle.jsonpath_lines.specs.Inside.{Appends, ArePieces, ArePiecesIn, FilledLines, IsClosedIn, IsLaid, IsLaidOut, IsPiece, IsPieceIn, IsPrintedOf, IsUnseen, Pushes, TookDistinct, TookLines, asked, is_reached, leaves_out_in, limit_in, most_held, once, opening, path_string}
+pub use Rattle.jsonpath_lines.specs.Inside.{Appends, ArePieces, ArePiecesIn, FilledLines, IsClosedIn, IsLaid, IsLaidOut, IsPiece, IsPieceIn, IsPrintedOf, IsUnseen, Pushes, TookDistinct, TookLines, asked, is_reached, leaves_out_in, limit_in, once, opening, path_string}
 pub use Rattle.jsonpath_lines.specs.Output.{AreLines, AreLinesIn, IsCount, IsCountIn, IsJsonIn, IsJsonOf, IsLine, IsLineOfEach, IsPrettyOf, array_of, end_text, items_of, object_of, up_to}
 pub use Rattle.jsonpath_lines.specs.Sent.{AppendsBeginning}
-pub use Rattle.jsonpath_lines.specs.Words.{AreEnough, IsExceeded, rest, tokens, view}
+pub use Rattle.jsonpath_lines.specs.Words.{AreEnough, IsExceeded, most_held, rest, tokens, view}
 pub use Rattle.jsonpath_lines.specs.declared.distinct.DistinctNodes.{DistinctNodes}
 pub use Rattle.jsonpath_lines.specs.declared.forms.Form.{Form}
 pub use Rattle.jsonpath_lines.specs.declared.forms.Form.TheVariants.{Count, Json, Location, LocationAndValue, Nothing, Pointer, Raw, Value}
@@ -34,4 +34,4 @@ pub use Rattle.serde_json_path_nodes.specs.declared.located_node.LocatedNode.{Lo
 pub use Rattle.serde_json_path_syntax.proofs.Words.{length-map, length-take, length-take-le, map_push, nil_from_length, take-append-le, take-map, take_all, take_more}
 pub use Rattle.std.proofs.lemmas.Grind.{common_steps, flat_map-append}
 pub use Rattle.std.proofs.KnownBytes.{Appends-kept, Appends-trans}
-pub use Rattle.std.specs.Prelude.{IsTrue, drop, slice_index, ◌-◌}
+pub use Rattle.std.specs.Prelude.{IfSome, IsTrue, drop, slice_index, ◌-◌}

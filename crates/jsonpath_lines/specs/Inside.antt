@@ -1,5 +1,5 @@
 -- What contracts of private functions cite alone.
-use Rattle.std.specs.Prelude.{◌≡◌, ◌≤◌, ◌*◌, ℕ, max, min, Bool, true, false, List, [], ◌∷◌, ◌++◌, length, map, Option, Some, None, string_bytes, unwrap_or, nat_le, if◌then◌else◌, codes}
+use Rattle.std.specs.Prelude.{◌≡◌, ◌≤◌, ◌*◌, ℕ, max, min, Bool, true, false, List, [], ◌∷◌, ◌++◌, length, map, Option, Some, None, IfSome, string_bytes, unwrap_or, nat_le, if◌then◌else◌, codes}
 use Rattle.serde_json_path_nodes.specs.Words.{decimal, Located, first_places, normal, located}
 use Rattle.json.specs.Lex.{tokens}
 use Rattle.json.specs.Layout.{pretty}
@@ -8,7 +8,7 @@ use Rattle.serde_json.specs.Data.{Data, string, depth}
 use Rattle.serde_json.specs.Read.{read, max_depth}
 use Rattle.serde_json.specs.Written.{IsInOrder, comma_if, compact_text}
 use Rattle.jsonpath_lines.specs.Output.{IsJsonIn, IsLine, end_text, up_to}
-use Rattle.jsonpath_lines.specs.Distinct.{AreEnough}
+use Rattle.jsonpath_lines.specs.Distinct.{AreEnough, most_held}
 use Rattle.jsonpath_lines.specs.Coloured.{IsColoured}
 use Rattle.jsonpath_lines.specs.declared.forms.Form.{Form}
 use Rattle.jsonpath_lines.specs.declared.forms.Form.TheVariants.{Json, Count, Nothing}
@@ -112,10 +112,6 @@ FilledLines before nodes now =
     let shown = up_to before.limit nodes in
     Appends (ArePieces before.writer.output before.writer.head.now shown) (string_bytes before.text) (string_bytes now.text) × (now.count ≡ length shown)
 
--- how many nodes are held at most, of which so many differ in their locations
-abbrev pub most_held : ℕ → ℕ
-most_held differing = max 64 (4 * differing)
-
 -- the nodes that differ in their locations are those of these nodes, where there was none before, and no more are held than
 -- may be
 pub record TookDistinct (before : DistinctNodes) (nodes : List Located) (now : DistinctNodes) : Type 0 where
@@ -123,10 +119,12 @@ pub record TookDistinct (before : DistinctNodes) (nodes : List Located) (now : D
   pub met : first_places (map located now.nodes.items) ≡ first_places nodes
   pub held : length now.nodes.items ≤ now.room
   pub room : now.room ≤ most_held (length (first_places nodes))
+  pub few : IfSome before.limit (λ most. now.room ≤ most_held most)
 
--- what differs is enough to have as many as are wanted
+-- what differs is enough to have as many as are wanted, and no more nodes are held than may be
 abbrev pub FilledDistinct : DistinctNodes → List Located → DistinctNodes → Type 0
 FilledDistinct before nodes now = AreEnough before.limit (first_places nodes) (map located now.nodes.items)
+    × IfSome before.limit (λ most. length now.nodes.items ≤ most_held most)
 
 -- ---- the whole text
 

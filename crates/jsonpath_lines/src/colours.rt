@@ -1,6 +1,6 @@
 //! Lines in the colours of a terminal.
 
-ghost use Rattle.std.specs.Prelude.{◌≡◌, IfOk, OnOk, string_bytes};
+ghost use Rattle.std.specs.Prelude.{◌≡◌, [], IfOk, OnOk, string_bytes};
 ghost use Rattle.jsonpath_lines.specs.Words.{Appends, IsColoured, IsUnseen};
 
 use crate::forms::Form;
@@ -31,7 +31,8 @@ const RESET: &str = "\u{1b}[0m";
 impl Place {
     /// The sequence before a part of this kind; empty where it has no colour.
     fn colour(self) -> &'static str
-        ensures { IsUnseen result.now }
+        ensures unseen { IsUnseen result.now }
+        ensures none { self ≡ Place.Between → result.now ≡ [] }
     {
         match self {
             Place::Between => "",
@@ -67,7 +68,9 @@ impl Place {
     }
 
     /// The place of the next character of what a form shows.
-    fn next_in(self, form: Form, c: char) -> Place {
+    fn next_in(self, form: Form, c: char) -> Place
+        ensures { form ≡ Form.Raw → result ≡ Place.Between }
+    {
         match form {
             Form::Location | Form::Pointer if c != '\n' && c != '\0' => Place::Location,
             Form::Location | Form::Pointer | Form::Raw => Place::Between,
@@ -78,8 +81,10 @@ impl Place {
 
 /// Appends what stands between a character and the next one, by their places.
 fn push_change(text: &mut String, last: Place, next: Place) -> Result<(), AllocError>
-    ensures { OnOk result
+    ensures unseen { OnOk result
         (Appends IsUnseen (string_bytes text.old) (string_bytes text.new)) }
+    ensures none { last ≡ Place.Between → next ≡ Place.Between
+        → string_bytes text.new ≡ string_bytes text.old }
 {
     let (last, next) = (last.colour(), next.colour());
     if last == next {
@@ -104,7 +109,8 @@ fn push_change(text: &mut String, last: Place, next: Place) -> Result<(), AllocE
 /// colored(alloc, "[1]", Form::Value)? == "[\u{1b}[36m1\u{1b}[0m]"
 /// ```
 pub fn colored(alloc: Global, line: &str, form: Form) -> Result<String, AllocError>
-    ensures { IfOk result (λ text. IsColoured line.now (string_bytes text)) }
+    ensures seen { IfOk result (λ text. IsColoured line.now (string_bytes text)) }
+    ensures plain { form ≡ Form.Raw → IfOk result (λ text. string_bytes text ≡ line.now) }
 {
     let mut text = String::new(alloc);
     let mut place = Place::Between;

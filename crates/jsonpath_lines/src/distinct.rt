@@ -1,7 +1,7 @@
 //! The nodes of a walk, each location once.
 
-ghost use Rattle.std.specs.Prelude.{◌≡◌, IfOk, map, true};
-ghost use Rattle.jsonpath_lines.specs.Words.{first_places, located, OnlyMemoryOrPattern, document_of, query_of, rest, set_of, AreEnough, IsExceeded};
+ghost use Rattle.std.specs.Prelude.{◌≡◌, ◌≤◌, IfOk, IfSome, false, length, map, true};
+ghost use Rattle.jsonpath_lines.specs.Words.{first_places, located, OnlyMemoryOrPattern, document_of, query_of, rest, set_of, AreEnough, IsExceeded, most_held};
 
 use serde_json_path::functions::Functions;
 use serde_json_path::{LocatedNode, LocatedNodeList, QueryError, Sink, Taken, Walk};
@@ -20,7 +20,8 @@ fn distinct<'b>(nodes: Vec<LocatedNode<'b>>) -> Vec<LocatedNode<'b>>
 
 /// Whether a limit, if there is one, is exceeded.
 fn is_exceeded(limit: Option<u64>, count: usize) -> bool
-    ensures { result ≡ true → IsExceeded limit count }
+    ensures exceeded { result ≡ true → IsExceeded limit count }
+    ensures within { result ≡ false → IfSome limit (λ most. count ≤ most) }
 {
     match limit {
         Some(most) => most < count as u64,
@@ -65,7 +66,7 @@ impl<'b> Sink<'b> for DistinctNodes<'b> {
 /// The nodes that remain of a walk, each location once, where it comes first: all, or the first ones and more
 /// than the limit.
 ///
-/// At most `LEAST_ROOM` nodes are held meanwhile, or four times as many as differ in their locations. The error is `Memory` or,
+/// At most `LEAST_ROOM` nodes are held meanwhile, or four times as many as differ in their locations, or as the limit says. The error is `Memory` or,
 /// as that of `Walk::next`, `Pattern`.
 ///
 /// ```text
@@ -78,6 +79,8 @@ pub fn distinct_nodes<'b, F: Functions + Drop>(
 ) -> Result<Vec<LocatedNode<'b>>, QueryError>
     ensures nodes { IfOk result (λ found.
         AreEnough limit (first_places (rest walk.entry)) (map located found.items)) }
+    ensures few { IfOk result (λ found.
+        IfSome limit (λ most. length found.items ≤ most_held most)) }
     ensures refused { OnlyMemoryOrPattern (set_of walk.entry) (query_of walk.entry)
         (document_of walk.entry) result }
 {
