@@ -1,6 +1,8 @@
 -- Lemmas; the folders have the proofs of functions.
 -- Nodes: nodes that are written, one after the other.
 -- Shown: what was written of a document is what its paths show.
+-- Dressed: lines that are indented and escaped.
+-- Cells: rows of tables, cell by cell.
 -- Read: what is shown of what was read is what is shown of the document.
 -- Parsed: the paths of words, one after the other.
 -- Asked: what options ask for, as documents are answered.
@@ -12,6 +14,8 @@
 -- Words: the words of definitions and lemmas, from one place.
 mod Nodes
 mod Shown
+mod Dressed
+mod Cells
 mod Read
 mod Parsed
 mod Asked

@@ -1,6 +1,6 @@
 -- Nodes that are written, one after the other.
 use Rattle.jsonpath_lines.specs.Inside as lines
-use Rattle.jpq_program.proofs.Words.{◌≡◌, ℕ, ◌+◌, true, false, List, [], ◌∷◌, ◌++◌, Option, None, length, length-append, refl, sym, ap, subst, ◌∙◌, append_assoc, append-nil, arith, common_steps, nat_tests, string_bytes, Appends, Appends-trans, Bor, Some, Located, IsLine, IsLineOfEach, Output, up_to, is_reached, IsWithin, reached, within_further, all_below, AreEnough, take-append-le, Adds, AppendsBeginning, BeginsFirst, BeginsNodes, IfSome, TookFirst, ◌≤◌, WritesLines, WritesNode, KeepsRest, TookNodes, FilledNodes, Showing, Written, shows_lines, suc, ◌<◌, get_or, map, take, drop, map-append, map_push, take_more, take-append-drop, drop-cons}
+use Rattle.jpq_program.proofs.Words.{◌≡◌, ℕ, ◌+◌, true, false, List, [], ◌∷◌, ◌++◌, Option, None, length, length-append, refl, sym, ap, subst, ◌∙◌, append_assoc, append-nil, arith, common_steps, nat_tests, string_bytes, Appends, Appends-trans, Bor, Some, Located, IsLook, IsLookOfEach, Look, look_of, up_to, is_reached, IsWithin, reached, within_further, all_below, AreEnough, take-append-le, Adds, AppendsBeginning, BeginsFirst, BeginsNodes, IfSome, TookFirst, ◌≤◌, WritesLines, WritesNode, KeepsRest, TookNodes, FilledNodes, Showing, Written, shows_lines, suc, ◌<◌, get_or, map, take, drop, map-append, map_push, take_more, take-append-drop, drop-cons}
 
 -- ---- what goes out
 
@@ -39,25 +39,25 @@ begun_after out later last waiting left text more adds begun = (
 -- ---- lines
 
 -- the lines of some nodes, and of others after them
-pub lines_both : (output : Output) (head : List ℕ) (ns ms : List Located) (text more : List ℕ) → IsLineOfEach output head ns text → IsLineOfEach output head ms more
-    → IsLineOfEach output head (ns ++ ms) (text ++ more)
-lines_both output head [] ms text more h later = subst (IsLineOfEach output head ms) (ap (λ t. t ++ more) (sym h)) later
-lines_both output head (n ∷ ns) ms text more h later =
-    (h.0, h.1 ++ more, h.2, lines_both output head ns ms h.1 more h.3 later, ap (λ t. t ++ more) h.4 ∙ append_assoc h.0 h.1 more)
+pub lines_both : (look : Look) (head : List ℕ) (ns ms : List Located) (text more : List ℕ) → IsLookOfEach look head ns text → IsLookOfEach look head ms more
+    → IsLookOfEach look head (ns ++ ms) (text ++ more)
+lines_both look head [] ms text more h later = subst (IsLookOfEach look head ms) (ap (λ t. t ++ more) (sym h)) later
+lines_both look head (n ∷ ns) ms text more h later =
+    (h.0, h.1 ++ more, h.2, lines_both look head ns ms h.1 more h.3 later, ap (λ t. t ++ more) h.4 ∙ append_assoc h.0 h.1 more)
 
 -- a line that was pending, of which some went out
-pub line_written : (output : Output) (head : List ℕ) (n : Located) (out later_out : Option (List ℕ)) (waiting pushed later : List ℕ) → lines.Appends (IsLine output head n) waiting pushed
-    → Adds out pushed later_out later [] → (text : List ℕ) × IsLineOfEach output head (n ∷ []) text × Adds out waiting later_out later text
-line_written output head n out later_out waiting pushed later line adds = (
+pub line_written : (look : Look) (head : List ℕ) (n : Located) (out later_out : Option (List ℕ)) (waiting pushed later : List ℕ) → lines.Appends (IsLook look head n) waiting pushed
+    → Adds out pushed later_out later [] → (text : List ℕ) × IsLookOfEach look head (n ∷ []) text × Adds out waiting later_out later text
+line_written look head n out later_out waiting pushed later line adds = (
   line.0 ++ [],
   (line.0, [], line.1, refl, refl),
   (adds.0, adds.1, ap (λ t. waiting ++ t) (append-nil line.0) ∙ sym line.2 ∙ sym (append-nil pushed) ∙ adds.2),
 )
 
 -- of a line that was pending a beginning went out
-pub line_begun : (output : Output) (head : List ℕ) (n : Located) (out later : Option (List ℕ)) (waiting pushed : List ℕ) → lines.Appends (IsLine output head n) waiting pushed
-    → AppendsBeginning out later pushed → (text : List ℕ) × IsLineOfEach output head (n ∷ []) text × AppendsBeginning out later (waiting ++ text)
-line_begun output head n out later waiting pushed line begun =
+pub line_begun : (look : Look) (head : List ℕ) (n : Located) (out later : Option (List ℕ)) (waiting pushed : List ℕ) → lines.Appends (IsLook look head n) waiting pushed
+    → AppendsBeginning out later pushed → (text : List ℕ) × IsLookOfEach look head (n ∷ []) text × AppendsBeginning out later (waiting ++ text)
+line_begun look head n out later waiting pushed line begun =
     (line.0 ++ [], (line.0, [], line.1, refl, refl), subst (AppendsBeginning out later) (line.2 ∙ ap (λ t. waiting ++ t) (sym (append-nil line.0))) begun)
 
 -- ---- nodes that are written
@@ -77,9 +77,9 @@ still_lines : {W E : Type 0} (before old : Written W E) → KeepsRest before old
 still_lines before old rest plain = subst (λ (s : Bor Showing). shows_lines s.now ≡ true) (sym rest.showing) plain
 
 -- lines that were shown since are lines as they were shown before
-lines_since : {W E : Type 0} (before old : Written W E) (nodes : List Located) (text : List ℕ) → KeepsRest before old → IsLineOfEach old.showing.now.output old.head.now nodes text → IsLineOfEach before.showing.now.output before.head.now nodes text
-lines_since before old nodes text rest are = subst (λ (h : Bor (List ℕ)). IsLineOfEach before.showing.now.output h.now nodes text) rest.head
-    (subst (λ (s : Bor Showing). IsLineOfEach s.now.output old.head.now nodes text) rest.showing are)
+lines_since : {W E : Type 0} (before old : Written W E) (nodes : List Located) (text : List ℕ) → KeepsRest before old → IsLookOfEach (look_of old.showing.now) old.head.now nodes text → IsLookOfEach (look_of before.showing.now) before.head.now nodes text
+lines_since before old nodes text rest are = subst (λ (h : Bor (List ℕ)). IsLookOfEach (look_of before.showing.now) h.now nodes text) rest.head
+    (subst (λ (s : Bor Showing). IsLookOfEach (look_of s.now) old.head.now nodes text) rest.showing are)
 
 pub writes_both : {W E : Type 0} (contents : W → Option (List ℕ)) (ns ms : List Located) (before old now : Written W E) → KeepsRest before old
     → WritesLines contents ns before old → WritesLines contents ms old now → WritesLines contents (ns ++ ms) before now
@@ -87,7 +87,7 @@ writes_both contents ns ms before old now rest first second plain =
     let one = first plain in
     let two = second (still_lines before old rest plain) in (
       one.0 ++ two.0,
-      lines_both before.showing.now.output before.head.now ns ms one.0 two.0 one.1 (lines_since before old ms two.0 rest two.1),
+      lines_both (look_of before.showing.now) before.head.now ns ms one.0 two.0 one.1 (lines_since before old ms two.0 rest two.1),
       adds_both (contents before.streams.now.out) (contents old.streams.now.out) (contents now.streams.now.out) (string_bytes before.streams.now.pending) (string_bytes old.streams.now.pending) (string_bytes now.streams.now.pending) one.0 two.0 one.2 two.2,
     )
 
@@ -226,7 +226,7 @@ begins_further contents before old now nodes more took begins = record {
       let one = took.lines plain in
       let two = begins.lines (still_lines before old took.rest plain) in (
         one.0 ++ two.0,
-        lines_both before.showing.now.output before.head.now nodes more one.0 two.0 one.1 (lines_since before old more two.0 took.rest two.1),
+        lines_both (look_of before.showing.now) before.head.now nodes more one.0 two.0 one.1 (lines_since before old more two.0 took.rest two.1),
         begun_after (contents before.streams.now.out) (contents old.streams.now.out) (contents now.streams.now.out) (string_bytes before.streams.now.pending) (string_bytes old.streams.now.pending) one.0 two.0 one.2 two.2,
       );
 }

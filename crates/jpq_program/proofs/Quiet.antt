@@ -1,5 +1,5 @@
 -- Runs that show nothing, and answer whether there is a node.
-use Rattle.jpq_program.proofs.Words.{◌≡◌, ◌∙◌, ◌≤◌, ◌⊎◌, ◌++◌, ◌∷◌, ℕ, Bool, true, false, List, [], Option, Result, Ok, Err, inl, inr, refl, sym, ap, subst, arith, common_steps, nat_tests, true≢false, Appends, AppendsBeginning, AnswersRun, AreAnswersInPart, AreEach, AreInputsShown, Ends, Form, FunctionSet, IsAnsweredInPart, IsAnswerInPart, IsFound, IsInputShown, IsLineShown, IsNamedShown, IsQuietRun, IsShownInPartFor, JsonPath, MatchBool, More, Next, Nodes, Nothing, Options, Outcome, Output, Shown, Stop, Streams, AreLinesIn, Located, has_lines, is_blank, lines_of, names_in, output_in, status_after, status_of, strip_last, without_mark, ◌+◌, IsShownFor, form_in, builtin_functions, chosen, head_text, length}
+use Rattle.jpq_program.proofs.Words.{◌≡◌, ◌∙◌, ◌≤◌, ◌⊎◌, ◌++◌, ◌∷◌, ℕ, Bool, true, false, List, [], Option, Result, Ok, Err, inl, inr, refl, sym, ap, subst, arith, common_steps, nat_tests, true≢false, Appends, AppendsBeginning, AnswersRun, AreAnswersInPart, AreEach, AreInputsShown, Ends, Form, FunctionSet, IsAnsweredInPart, IsAnswerInPart, IsFound, IsInputShown, IsLineShown, IsNamedShown, IsQuietRun, IsShownInPartFor, JsonPath, MatchBool, More, Next, Nodes, Nothing, Options, Outcome, Output, Shown, Stop, Streams, AreLines, AreLinesIn, IsLookOfEach, IsRowInPart, first_cells, is_table, Located, Look, look_in, has_lines, is_blank, lines_of, names_in, status_after, status_of, strip_last, without_mark, ◌+◌, IsShownFor, form_in, builtin_functions, chosen, head_text, length}
 use Rattle.jpq_program.specs.Run.{has_names, has_numbers}
 use Rattle.jpq_program.proofs.Nodes.{appends_nothing}
 
@@ -16,10 +16,12 @@ each_empty Is empty number (item ∷ items) text any are =
 lines_empty : (form : Form) (output : Output) (head : List ℕ) (nodes : List Located) (text : List ℕ) → form ≡ Nothing → AreLinesIn form output head nodes text → text ≡ []
 lines_empty form output head nodes text quiet lines = subst (λ (f : Form). AreLinesIn f output head nodes text → text ≡ []) (sym quiet) (λ (none : text ≡ []). none) lines
 
-path_empty : (F : FunctionSet) (path : JsonPath) (output : Output) (head bytes text : List ℕ) (any : Bool) → output.form ≡ Nothing → IsAnswerInPart F path output head bytes text any → text ≡ []
-path_empty F path output head bytes text any quiet (inl nothing) = nothing.0
-path_empty F path output head bytes text any quiet (inr (inl whole)) = lines_empty output.form output head (chosen output whole.2.0) text quiet whole.2.2
-path_empty F path output head bytes text any quiet (inr (inr first)) = absurd (true≢false (sym first.0 ∙ ap has_lines quiet))
+path_empty : (F : FunctionSet) (path : JsonPath) (look : Look) (head bytes text : List ℕ) (any : Bool) → look.output.form ≡ Nothing → IsAnswerInPart F path look head bytes text any → text ≡ []
+path_empty F path look head bytes text any quiet (inl nothing) = nothing.0
+path_empty F path look head bytes text any quiet (inr (inl whole)) =
+    let shown = subst (λ (has : Bool). MatchBool has (IsLookOfEach look head (chosen look.output whole.2.0) text) (AreLines look.output head whole.2.0 text)) (ap has_lines quiet) whole.2.2 in
+    lines_empty look.output.form look.output head (chosen look.output whole.2.0) text quiet shown
+path_empty F path look head bytes text any quiet (inr (inr first)) = absurd (true≢false (sym first.0 ∙ ap has_lines quiet))
 
 line_empty : (Is : Shown) → HasNoText Is → (name : List ℕ) (number : ℕ) (line text : List ℕ) (any : Bool) → IsLineShown Is name number line text any → text ≡ []
 line_empty Is empty name number line text any = by_case (is_blank line)
@@ -33,24 +35,26 @@ input_empty Is empty true name bytes text any are = each_empty (IsLineShown Is n
 input_empty Is empty false name bytes text any is = empty name 1 (without_mark bytes) text any is
 
 -- nothing is shown of the inputs of such a run
-quiet_text : (options : Options) (paths : List JsonPath) (bytes_of : List ℕ → Option (List ℕ)) (text : List ℕ) (any : Bool) → IsQuietRun options → AreInputsShown (IsShownInPartFor options paths) options.lines bytes_of (names_in options) text any → text ≡ []
-quiet_text options paths bytes_of text any quiet are =
-    each_empty (λ (number : ℕ) (name : List ℕ). IsNamedShown (IsShownInPartFor options paths) options.lines bytes_of name)
-    (λ number name text any shown. input_empty (IsShownInPartFor options paths) document_empty options.lines name shown.0 text any shown.2) 1 (names_in options) text any are
+quiet_text : (options : Options) (taken : Bool) (paths : List JsonPath) (bytes_of : List ℕ → Option (List ℕ)) (text : List ℕ) (any : Bool) → IsQuietRun options → AreInputsShown (IsShownInPartFor options taken paths) options.lines bytes_of (names_in options) text any → text ≡ []
+quiet_text options taken paths bytes_of text any quiet are =
+    each_empty (λ (number : ℕ) (name : List ℕ). IsNamedShown (IsShownInPartFor options taken paths) options.lines bytes_of name)
+    (λ number name text any shown. input_empty (IsShownInPartFor options taken paths) document_empty options.lines name shown.0 text any shown.2) 1 (names_in options) text any are
   where
-    document_empty : HasNoText (IsShownInPartFor options paths)
-    document_empty name line bytes text any are =
+    document_empty : HasNoText (IsShownInPartFor options taken paths)
+    document_empty name line bytes text any shown =
+        let are = subst (λ (table : Bool). MatchBool table (IsRowInPart builtin_functions paths options.end (first_cells (has_names options) options.line_number name line) bytes text any)
+        (AreAnswersInPart builtin_functions paths (look_in options taken) (head_text (has_names options) options.line_number (has_numbers options (length paths)) name line) bytes text any)) (ap is_table quiet.1) shown in
         let head = head_text (has_names options) options.line_number (has_numbers options (length paths)) name line in
-        each_empty (λ (number : ℕ) (path : JsonPath). IsAnswerInPart builtin_functions path (output_in options) (head number) bytes)
-        (λ number path text any is. path_empty builtin_functions path (output_in options) (head number) bytes text any (ap form_in quiet.1) is) 1 paths text any are
+        each_empty (λ (number : ℕ) (path : JsonPath). IsAnswerInPart builtin_functions path (look_in options taken) (head number) bytes)
+        (λ number path text any is. path_empty builtin_functions path (look_in options taken) (head number) bytes text any (ap form_in quiet.1) is) 1 paths text any are
 
 -- ---- what comes of such a run
 
 -- nothing goes out
-pub quiet_out : {W : Type 0} (contents : W → Option (List ℕ)) (bytes_of : List ℕ → Option (List ℕ)) (options : Options) (before after : W) → IsQuietRun options → IsAnsweredInPart contents bytes_of options before after → Appends (contents before) (contents after) []
-quiet_out {W} contents bytes_of options before after quiet (inl same) = subst (λ (o : W). Appends (contents before) (contents o) []) (sym same) (appends_nothing (contents before))
-quiet_out contents bytes_of options before after quiet (inr shown) =
-    let begins = subst (AppendsBeginning (contents before) (contents after)) (quiet_text options shown.0 bytes_of shown.2 shown.3 quiet shown.4) shown.5 in
+pub quiet_out : {W : Type 0} (contents : W → Option (List ℕ)) (bytes_of : List ℕ → Option (List ℕ)) (options : Options) (taken : Bool) (before after : W) → IsQuietRun options → IsAnsweredInPart contents bytes_of options taken before after → Appends (contents before) (contents after) []
+quiet_out {W} contents bytes_of options taken before after quiet (inl same) = subst (λ (o : W). Appends (contents before) (contents o) []) (sym same) (appends_nothing (contents before))
+quiet_out contents bytes_of options taken before after quiet (inr shown) =
+    let begins = subst (AppendsBeginning (contents before) (contents after)) (quiet_text options taken shown.0 bytes_of shown.2 shown.3 quiet shown.4) shown.5 in
     subst (Appends (contents before) (contents after)) (first_of begins.0 begins.1 begins.2) begins.3
   where
     first_of : (xs ys : List ℕ) → [] ≡ xs ++ ys → xs ≡ []
@@ -78,18 +82,18 @@ quiet_goes_on form next after none (inl more) = more
 quiet_goes_on form next after none (inr found) = absurd (true≢false (sym found.1 ∙ none))
 
 -- the status says whether there is a node
-pub quiet_found : {W E : Type 0} (contents : W → Option (List ℕ)) (bytes_of : List ℕ → Option (List ℕ)) (options : Options) (next : Next) (before after : Streams W E) (status : ℕ) → IsQuietRun options
+pub quiet_found : {W E : Type 0} (contents : W → Option (List ℕ)) (bytes_of : List ℕ → Option (List ℕ)) (options : Options) (taken : Bool) (next : Next) (before after : Streams W E) (status : ℕ) → IsQuietRun options
     → (status ≡ 0 → after.outcome.selected ≡ true) → (status ≡ 1 → (after.outcome.selected ≡ false) × (after.outcome.refused ≡ false))
-    → AnswersRun contents bytes_of options next before after → IsFound bytes_of options status
-quiet_found contents bytes_of options next before after status quiet found none run =
-    let empty = quiet_text options run.paths bytes_of run.text run.any quiet run.part in record {
+    → AnswersRun contents bytes_of options taken next before after → IsFound bytes_of options taken status
+quiet_found contents bytes_of options taken next before after status quiet found none run =
+    let empty = quiet_text options taken run.paths bytes_of run.text run.any quiet run.part in record {
       paths = run.paths;
       are = run.are;
-      found = λ zero. subst (λ (text : List ℕ). AreInputsShown (IsShownInPartFor options run.paths) options.lines bytes_of (names_in options) text true) empty
-          (subst (AreInputsShown (IsShownInPartFor options run.paths) options.lines bytes_of (names_in options) run.text) (sym run.selected ∙ found zero) run.part);
+      found = λ zero. subst (λ (text : List ℕ). AreInputsShown (IsShownInPartFor options taken run.paths) options.lines bytes_of (names_in options) text true) empty
+          (subst (AreInputsShown (IsShownInPartFor options taken run.paths) options.lines bytes_of (names_in options) run.text) (sym run.selected ∙ found zero) run.part);
       none = λ one.
           let nothing = none one in
           let whole = run.whole nothing.1 (quiet_goes_on _ next after nothing.0 run.ends) in
-          subst (λ (text : List ℕ). AreInputsShown (IsShownFor options run.paths) options.lines bytes_of (names_in options) text false) empty
-          (subst (AreInputsShown (IsShownFor options run.paths) options.lines bytes_of (names_in options) run.text) (sym run.selected ∙ nothing.0) whole);
+          subst (λ (text : List ℕ). AreInputsShown (IsShownFor options taken run.paths) options.lines bytes_of (names_in options) text false) empty
+          (subst (AreInputsShown (IsShownFor options taken run.paths) options.lines bytes_of (names_in options) run.text) (sym run.selected ∙ nothing.0) whole);
     }

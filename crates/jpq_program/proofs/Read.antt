@@ -1,5 +1,5 @@
 -- What is shown of what was read of a document is what is shown of the document.
-use Rattle.jpq_program.proofs.Words.{◌≡◌, ◌∙◌, ◌<◌, ℕ, Bool, true, false, List, [], ◌∷◌, ◌++◌, Option, None, Some, length, map, nat_lt, refl, sym, ap, inl, inr, suc, get_or, AreShownAs, AskedPath, Documents, IsPlain, Data, Form, Count, Nothing, Location, Pointer, IsIn, IsLineOfEach, IsReadIn, JsonPath, Located, Output, AreLinesIn, Query, ShowsAs, Step, chosen, first_places, first_places_after, is_among, map-append, path_tree, shows_places, take-map, up_to, with_rule_of, length-map, arith, Layout, IsText, normal, pointer, has_lines, decimal, end_text, take, zero, if◌then◌else◌}
+use Rattle.jpq_program.proofs.Words.{◌≡◌, ◌∙◌, ◌<◌, ℕ, Bool, true, false, List, [], ◌∷◌, ◌++◌, Option, None, Some, length, map, nat_lt, refl, sym, ap, subst, inl, inr, suc, get_or, AreShownAs, AskedPath, Documents, IsPlain, Data, Form, Count, Nothing, Location, Pointer, IsIn, IsLine, IsLookOfEach, IsSeenIn, Look, AreLines, AreShown, MatchBool, escaped, has_escapes, indented, look_of, with_most, asked_look, cell_look, is_table, IsReadIn, JsonPath, Located, Output, AreLinesIn, Query, ShowsAs, Step, chosen, first_places, first_places_after, is_among, map-append, path_tree, shows_places, take-map, up_to, with_rule_of, length-map, arith, Layout, IsText, normal, pointer, has_lines, decimal, end_text, take, zero, if◌then◌else◌}
 
 abbrev places_of : List Located → List (List Step)
 places_of nodes = map (λ node. node.location) nodes
@@ -59,49 +59,73 @@ same_text Location layout n m text has shows same is = is ∙ ap normal same
 same_text Pointer layout n m text has shows same is = is ∙ ap pointer same
 same_text _ layout n m text has shows same is = absurd cc
 
-same_lines : (output : Output) (head : List ℕ) (ns ms : List Located) (text : List ℕ) → has_lines output.form ≡ true → shows_places output.form ≡ true → places_of ns ≡ places_of ms → IsLineOfEach output head ns text → IsLineOfEach output head ms text
-same_lines output head [] [] text has shows same are = are
-same_lines output head [] (m ∷ ms) text has shows same are = absurd cc
-same_lines output head (n ∷ ns) [] text has shows same are = absurd cc
-same_lines output head (n ∷ ns) (m ∷ ms) text has shows same are = (
-  are.0,
-  are.1,
-  (are.2.0, same_text output.form output.layout n m are.2.0 has shows (head_same n.location m.location (places_of ns) (places_of ms) same) are.2.1, are.2.2),
-  same_lines output head ns ms are.1 has shows (tail_same n.location m.location (places_of ns) (places_of ms) same) are.3,
-  are.4,
-)
+same_line : (output : Output) (head : List ℕ) (n m : Located) (line : List ℕ) → has_lines output.form ≡ true → shows_places output.form ≡ true → n.location ≡ m.location → IsLine output head n line → IsLine output head m line
+same_line output head n m line has shows same is = (is.0, same_text output.form output.layout n m is.0 has shows same is.1, is.2)
 
-same_shown : (form : Form) (output : Output) (head : List ℕ) (ns ms : List Located) (text : List ℕ) → form ≡ output.form → shows_places form ≡ true → places_of ns ≡ places_of ms → AreLinesIn form output head ns text → AreLinesIn form output head ms text
-same_shown Count output head ns ms text is shows same are = are ∙ ap (λ n. head ++ (decimal n ++ end_text output.end)) (same_length ns ms same)
-same_shown Nothing output head ns ms text is shows same are = are
-same_shown Location output head ns ms text is shows same are = same_lines output head ns ms text (ap has_lines (sym is)) (ap shows_places (sym is)) same are
-same_shown Pointer output head ns ms text is shows same are = same_lines output head ns ms text (ap has_lines (sym is)) (ap shows_places (sym is)) same are
-same_shown _ output head ns ms text is shows same are = absurd cc
+same_escapes : (form : Form) (d e : Data) → has_lines form ≡ true → shows_places form ≡ true → has_escapes form d ≡ has_escapes form e
+same_escapes Location d e has shows = refl
+same_escapes Pointer d e has shows = refl
+same_escapes _ d e has shows = absurd cc
+
+same_looks : (look : Look) (head : List ℕ) (ns ms : List Located) (text : List ℕ) → has_lines look.output.form ≡ true → shows_places look.output.form ≡ true → places_of ns ≡ places_of ms → IsLookOfEach look head ns text → IsLookOfEach look head ms text
+same_looks look head [] [] text has shows same are = are
+same_looks look head [] (m ∷ ms) text has shows same are = absurd cc
+same_looks look head (n ∷ ns) [] text has shows same are = absurd cc
+same_looks look head (n ∷ ns) (m ∷ ms) text has shows same are =
+    let own = are.2 in (
+      are.0,
+      are.1,
+      (
+        own.0,
+        own.1,
+        same_line look.output [] n m own.0 has shows (head_same n.location m.location (places_of ns) (places_of ms) same) own.2,
+        subst (λ (escapes : Bool). IsSeenIn look.colored (if escapes then escaped look.ascii (indented look.unit own.0) else own.0) own.1) (same_escapes look.output.form n.value m.value has shows) own.3,
+        own.4,
+      ),
+      same_looks look head ns ms are.1 has shows (tail_same n.location m.location (places_of ns) (places_of ms) same) are.3,
+      are.4,
+    )
+
+same_counts : (form : Form) (output : Output) (head : List ℕ) (ns ms : List Located) (text : List ℕ) → has_lines form ≡ false → shows_places form ≡ true → places_of ns ≡ places_of ms → AreLinesIn form output head ns text → AreLinesIn form output head ms text
+same_counts Count output head ns ms text has shows same are = are ∙ ap (λ n. head ++ (decimal n ++ end_text output.end)) (same_length ns ms same)
+same_counts Nothing output head ns ms text has shows same are = are
+same_counts _ output head ns ms text has shows same are = absurd cc
+
+same_shown : (look : Look) (head : List ℕ) (ns ms : List Located) (text : List ℕ) → shows_places look.output.form ≡ true → places_of ns ≡ places_of ms → AreShown look head ns text → AreShown look head ms text
+same_shown look head ns ms text shows same are = by_case (has_lines look.output.form) refl are
+  where
+    chosen_same : places_of (chosen look.output ns) ≡ places_of (chosen look.output ms)
+    chosen_same = same_chosen look.output ns ms same
+
+    by_case : (has : Bool) → has_lines look.output.form ≡ has → MatchBool has (IsLookOfEach look head (chosen look.output ns) text) (AreLines look.output head ns text)
+        → MatchBool has (IsLookOfEach look head (chosen look.output ms) text) (AreLines look.output head ms text)
+    by_case true is are = same_looks look head (chosen look.output ns) (chosen look.output ms) text is shows chosen_same are
+    by_case false is are = same_counts look.output.form look.output head (chosen look.output ns) (chosen look.output ms) text is shows chosen_same are
 
 -- ---- what was read
 
-shows_by_places : (output : Output) (bytes : List ℕ) (queries : List Query) (value : Data) (path : JsonPath) → shows_places output.form ≡ true → IsIn (path_tree path) queries → IsReadIn true bytes queries value → ShowsAs output bytes value path
-shows_by_places output bytes queries value path shows asked read = λ F most head text any is.
-    let up = record output { most = most } in
+shows_by_places : (look : Look) (bytes : List ℕ) (queries : List Query) (value : Data) (path : JsonPath) → shows_places look.output.form ≡ true → IsIn (path_tree path) queries → IsReadIn true bytes queries value → ShowsAs look bytes value path
+shows_by_places look bytes queries value path shows asked read = λ F most head text any is.
+    let up = with_most look most in
     let alike = read.1.2 (with_rule_of path F) (path_tree path) (places_of is.0) in
     let there = (alike asked).1 (is.0, is.1, refl) in
-    let same = same_chosen up is.0 there.0 (sym there.2) in (
+    let same = sym there.2 in (
       read.1.0,
       (read.0, read.1.1),
-      (there.0, there.1, same_shown output.form up head (chosen up is.0) (chosen up there.0) text refl shows same is.2, is.3 ∙ ap (nat_lt 0) (same_length (chosen up is.0) (chosen up there.0) same)),
+      (there.0, there.1, same_shown up head is.0 there.0 text shows same is.2, is.3 ∙ ap (nat_lt 0) (same_length (chosen up.output is.0) (chosen up.output there.0) (same_chosen up.output is.0 there.0 same))),
     )
 
-shows_by_values : (output : Output) (bytes : List ℕ) (queries : List Query) (value : Data) (path : JsonPath) → IsIn (path_tree path) queries → IsReadIn false bytes queries value → ShowsAs output bytes value path
-shows_by_values output bytes queries value path asked read = λ F most head text any is.
+shows_by_values : (look : Look) (bytes : List ℕ) (queries : List Query) (value : Data) (path : JsonPath) → IsIn (path_tree path) queries → IsReadIn false bytes queries value → ShowsAs look bytes value path
+shows_by_values look bytes queries value path asked read = λ F most head text any is.
     (read.1.0, (read.0, read.1.1), (is.0, (read.1.2 (with_rule_of path F) (path_tree path) is.0 asked).1 is.1, is.2, is.3))
 
 -- what a path shows of what was read for it, it shows of the document
-pub shows_as_read : (output : Output) (bytes : List ℕ) (queries : List Query) (value : Data) (path : JsonPath) → IsIn (path_tree path) queries → IsReadIn (shows_places output.form) bytes queries value → ShowsAs output bytes value path
-shows_as_read output bytes queries value path asked read = by_case (shows_places output.form) refl read
+pub shows_as_read : (look : Look) (bytes : List ℕ) (queries : List Query) (value : Data) (path : JsonPath) → IsIn (path_tree path) queries → IsReadIn (shows_places look.output.form) bytes queries value → ShowsAs look bytes value path
+shows_as_read look bytes queries value path asked read = by_case (shows_places look.output.form) refl read
   where
-    by_case : (places : Bool) → shows_places output.form ≡ places → IsReadIn places bytes queries value → ShowsAs output bytes value path
-    by_case true is read = shows_by_places output bytes queries value path is asked read
-    by_case false is read = shows_by_values output bytes queries value path asked read
+    by_case : (places : Bool) → shows_places look.output.form ≡ places → IsReadIn places bytes queries value → ShowsAs look bytes value path
+    by_case true is read = shows_by_places look bytes queries value path is asked read
+    by_case false is read = shows_by_values look bytes queries value path asked read
 
 -- an item of a list is in what a function makes of its items
 pub item_in : {A B : Type 0} (f : A → B) (xs : List A) (i : ℕ) (x : A) → i < length xs → x ≡ get_or xs i x → IsIn (f x) (map f xs)
@@ -112,6 +136,14 @@ item_in f (y ∷ ys) (suc i) x within is = inr (item_in f ys i x (omega (arith, 
 -- what was read of a document can be asked for the paths
 pub are_shown_as : (documents : Documents) (bytes : List ℕ) (value : Data) → IsPlain documents
     → IsReadIn (shows_places documents.answering.showing.output.form) bytes (map (λ (path : AskedPath). path_tree path.path) documents.answering.paths.now) value
-    → AreShownAs documents.answering.showing.output bytes value documents.answering.paths.now
+    → AreShownAs (asked_look documents.answering) bytes value documents.answering.paths.now
 are_shown_as documents bytes value plain read = λ i path within is.
-    shows_as_read documents.answering.showing.output bytes (map (λ (path : AskedPath). path_tree path.path) documents.answering.paths.now) value path.path (item_in (λ (path : AskedPath). path_tree path.path) documents.answering.paths.now i path within is) read
+    let asked = item_in (λ (path : AskedPath). path_tree path.path) documents.answering.paths.now i path within is in
+    by_case path.path asked (is_table documents.answering.shown) refl
+  where
+    queries : List Query
+    queries = map (λ (path : AskedPath). path_tree path.path) documents.answering.paths.now
+
+    by_case : (path : JsonPath) → IsIn (path_tree path) queries → (table : Bool) → is_table documents.answering.shown ≡ table → ShowsAs (if table then cell_look else look_of documents.answering.showing) bytes value path
+    by_case path asked true is = shows_as_read cell_look bytes queries value path asked (subst (λ (places : Bool). IsReadIn places bytes queries value) (plain.places is) read)
+    by_case path asked false is = shows_as_read (look_of documents.answering.showing) bytes queries value path asked read

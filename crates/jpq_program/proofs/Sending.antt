@@ -1,5 +1,5 @@
 -- What is sent of inputs, one after the other.
-use Rattle.jpq_program.proofs.Words.{◌≡◌, ◌∙◌, ◌+◌, ◌==◌, ◌<◌, ℕ, Bool, true, false, List, [], ◌∷◌, ◌++◌, None, Option, length, length-append, refl, sym, ap, subst, append-nil, append_assoc, arith, string_bytes, Answering, AreAnswersInPart, AskedPath, IsAnswerInPart, Output, JsonPath, builtin_functions, head_by, inl, shown_in_part_by, AreEach, AreInputsShown, AreKnown, Answered, Begins, Bor, IsInputShown, IsNamedShown, More, Next, get_or, get_or-map, length-map, map, suc, take, zero, IsLineShown, OnlyNotes, OnlyRefuses, Sends, Shown, Streams, drop_through, Global, IfSome, Some, MatchBool, if◌then◌else◌, is_blank, lines_of, strip_last, take_through, with_byte, without_mark, Form, IfMore, SendsUntil, drop}
+use Rattle.jpq_program.proofs.Words.{◌≡◌, ◌∙◌, ◌+◌, ◌==◌, ◌<◌, ℕ, Bool, true, false, List, [], ◌∷◌, ◌++◌, None, Option, length, length-append, refl, sym, ap, subst, append-nil, append_assoc, arith, string_bytes, Answering, AreAnswersInPart, AskedPath, IsAnswerInPart, Look, look_of, LineEnd, IsRowInPart, first_cells, is_table, paths_in, JsonPath, builtin_functions, head_by, inl, shown_in_part_by, AreEach, AreInputsShown, AreKnown, Answered, Begins, Bor, IsInputShown, IsNamedShown, More, Next, get_or, get_or-map, length-map, map, suc, take, zero, IsLineShown, OnlyNotes, OnlyRefuses, Sends, Shown, Streams, drop_through, Global, IfSome, Some, MatchBool, if◌then◌else◌, is_blank, lines_of, strip_last, take_through, with_byte, without_mark, Form, IfMore, SendsUntil, Ends, drop}
 use Rattle.std.specs.Io.Buffered.{reader_buffer, reader_capacity, reader_inner, reader_remaining}
 use Rattle.std.specs.Io.KnownBytes.{prepend_known}
 use Rattle.std.specs.declared.io.buffered.BufReader.{BufReader}
@@ -9,6 +9,15 @@ use Rattle.jpq_program.proofs.Shown.{answered_as, answered_further, answered_not
 -- a text was sent, and the run goes on
 pub goes_on : {W E : Type 0} {silent : Bool} (contents : W → Option (List ℕ)) (form : Form) (Is IsPart : List ℕ → Bool → Type 0) (next : Next) (before now : Streams W E) → next ≡ More → Sends silent contents Is IsPart before now → SendsUntil silent contents form next Is IsPart before now
 goes_on contents form Is IsPart next before now more sent = (inl more, (if_more contents Is IsPart next before now sent.0, sent.1))
+
+-- what was sent of a document, and noted after it
+pub noted_until : {W E : Type 0} {silent : Bool} (contents : W → Option (List ℕ)) (form : Form) (Is IsPart : List ℕ → Bool → Type 0) (next : Next) (before old now : Streams W E) → Ends form next now → OnlyNotes old now → (silent ≡ true → now.err ≡ old.err)
+    → Sends silent contents Is IsPart before old → SendsUntil silent contents form next Is IsPart before now
+noted_until {W} {E} contents form Is IsPart next before old now ends noted quiet sent =
+    (ends, (if_more contents Is IsPart next before now (answered_noted contents Is IsPart before old now sent.0 noted (λ silent right. quiet silent)), ap (λ (s : Streams W E). string_bytes s.pending) noted ∙ sent.1))
+
+pub noted_begun : {W E : Type 0} {silent : Bool} (contents : W → Option (List ℕ)) (Is IsPart : List ℕ → Bool → Type 0) (before old now : Streams W E) → OnlyNotes old now → Sends silent contents Is IsPart before old → Begins contents IsPart before now
+noted_begun {W} {E} contents Is IsPart before old now noted sent = begun_still contents IsPart before old now (answered_begun contents Is IsPart before old sent.0) (ap (λ (s : Streams W E). s.out) noted)
 
 -- ---- the lines of a text
 
@@ -42,11 +51,16 @@ line_shown Is name number line bytes text any some same is =
 -- ---- what may be shown of nothing
 
 -- of a document nothing may be shown, as where it is refused
-pub no_paths : (paths : List JsonPath) (output : Output) (head : ℕ → List ℕ) (bytes : List ℕ) → AreAnswersInPart builtin_functions paths output head bytes [] false
-no_paths paths output head bytes = each_nothing (λ number path. IsAnswerInPart builtin_functions path output (head number) bytes) paths (λ number path. inl (refl, refl)) 1
+pub no_paths : (paths : List JsonPath) (look : Look) (head : ℕ → List ℕ) (bytes : List ℕ) → AreAnswersInPart builtin_functions paths look head bytes [] false
+no_paths paths look head bytes = each_nothing (λ number path. IsAnswerInPart builtin_functions path look (head number) bytes) paths (λ number path. inl (refl, refl)) 1
+
+pub no_shown : (table : Bool) (paths : List JsonPath) (look : Look) (end : LineEnd) (firsts : List (List ℕ)) (head : ℕ → List ℕ) (bytes : List ℕ)
+    → MatchBool table (IsRowInPart builtin_functions paths end firsts bytes [] false) (AreAnswersInPart builtin_functions paths look head bytes [] false)
+no_shown true paths look end firsts head bytes = inl (refl, refl)
+no_shown false paths look end firsts head bytes = no_paths paths look head bytes
 
 pub no_answer : (answering : Answering) (name : List ℕ) (number : ℕ) (bytes : List ℕ) → shown_in_part_by answering name number bytes [] false
-no_answer answering name number bytes = no_paths (map (λ (path : AskedPath). path.path) answering.paths.now) answering.showing.output (head_by answering.heads name number) bytes
+no_answer answering name number bytes = no_shown (is_table answering.shown) (paths_in answering) (look_of answering.showing) answering.showing.output.end (first_cells answering.heads.file answering.heads.line name number) (head_by answering.heads name number) bytes
 
 -- of a blank line nothing is
 pub blank_sent : {W E : Type 0} {silent : Bool} (contents : W → Option (List ℕ)) (Is IsPart : Shown) (name : List ℕ) (number : ℕ) (line : List ℕ) (streams : Streams W E) → is_blank line ≡ true → streams.left ≡ None

@@ -1,12 +1,18 @@
 -- What was written of a document is what its paths show.
-use Rattle.jpq_program.proofs.Words.{◌≡◌, ◌∙◌, ◌&&◌, ◌||◌, ℕ, Bool, true, false, List, Option, None, length, nat_lt, refl, sym, ap, subst, inl, inr, arith, common_steps, nat_tests, string_bytes, Located, Data, JsonPath, Selects, builtin_functions, path_tree, with_rule_of, AreLinesIn, IsLineOfEach, Form, Json, Count, Nothing, Output, chosen, once, up_to, Adds, Answered, FilledNodes, KeepsRest, IsAnswer, IsAnswerInPart, IsAnswerOn, IsAsked, Answering, AnswersPath, AppendsBeginning, is_plain_answer, is_table, not, AreSelected, Begins, BeginsFirst, IfSome, OnlyRefuses, Some, TookFirst, drop, map-append, take-append-drop, take-append-le, true≢false, IsCountIn, AreEach, Counts, OnlyNotes, OnlyWrites, Writes, IfErr, IfOk, Ok, Err, OnOk, Result, Outcome, ShowsAs, Showing, Streams, String, Global, Written, has_counts, has_lines, is_array, is_plain, shows_lines, zero, [], ◌∷◌, ◌++◌, ◌+◌, suc, append-nil, append_assoc, get_or, length-map, length-take-le, map, take, take_all, ◌<◌, ◌≤◌, IfMore, More, Next}
+use Rattle.jpq_program.proofs.Words.{◌≡◌, ◌∙◌, ◌&&◌, ◌||◌, ℕ, Bool, true, false, List, Option, None, length, nat_lt, refl, sym, ap, subst, inl, inr, arith, common_steps, nat_tests, string_bytes, Located, Data, JsonPath, Selects, builtin_functions, path_tree, with_rule_of, AreLines, AreShown, IsLookOfEach, Look, Form, Json, Count, Nothing, chosen, once, up_to, Adds, Answered, FilledNodes, KeepsRest, IsAnswer, IsAnswerInPart, IsAnswerOn, IsAsked, Answering, AnswersPath, AppendsBeginning, is_plain_answer, is_table, not, AreSelected, Begins, BeginsFirst, IfSome, OnlyRefuses, Some, TookFirst, drop, map-append, take-append-drop, take-append-le, true≢false, IsCountIn, AreEach, Counts, OnlyNotes, OnlyWrites, Writes, IfErr, IfOk, Ok, Err, OnOk, Result, Outcome, ShowsAs, Showing, Streams, String, Global, Written, has_counts, has_lines, is_array, is_plain, shows_lines, zero, look_of, with_most, MatchBool, [], ◌∷◌, ◌++◌, ◌+◌, suc, append-nil, append_assoc, get_or, length-map, length-take-le, map, take, take_all, ◌<◌, ◌≤◌, IfMore, More, Next}
 use Rattle.jpq_program.proofs.Nodes.{adds_begun, adds_both, adds_nothing, appends_nothing, begun_after, further_mapped, none_begun, split_mapped, took_few}
 
-lines_in : (form : Form) (output : Output) (head : List ℕ) (ns : List Located) (text : List ℕ) → has_lines form ≡ true → IsLineOfEach output head ns text → AreLinesIn form output head ns text
-lines_in Json output head ns text has h = absurd cc
-lines_in Count output head ns text has h = absurd cc
-lines_in Nothing output head ns text has h = absurd cc
-lines_in _ output head ns text has h = h
+-- nodes that have lines are shown by these, and others by what their form shows
+in_lines : (look : Look) (head : List ℕ) (nodes : List Located) (text : List ℕ) → has_lines look.output.form ≡ true → IsLookOfEach look head (chosen look.output nodes) text → AreShown look head nodes text
+in_lines look head nodes text has are = subst (λ (has : Bool). MatchBool has (IsLookOfEach look head (chosen look.output nodes) text) (AreLines look.output head nodes text)) (sym has) are
+
+by_form : (look : Look) (head : List ℕ) (nodes : List Located) (text : List ℕ) → has_counts look.output.form ≡ true → AreLines look.output head nodes text → AreShown look head nodes text
+by_form look head nodes text counts are = subst (λ (has : Bool). MatchBool has (IsLookOfEach look head (chosen look.output nodes) text) (AreLines look.output head nodes text)) (sym (no_lines look.output.form counts)) are
+  where
+    no_lines : (form : Form) → has_counts form ≡ true → has_lines form ≡ false
+    no_lines Count counts = refl
+    no_lines Nothing counts = refl
+    no_lines _ counts = absurd cc
 
 second : (a b : Bool) → (a && b) ≡ true → b ≡ true
 second a b h = grind (arith, nat_tests, common_steps)
@@ -25,14 +31,14 @@ pub was_right : {W E : Type 0} (after : Written W E) (kept : Streams W E) (befor
 was_right {W} {E} after kept before rest is refused = sym (ap (λ (o : Outcome). o.refused) rest.outcome) ∙ sym (ap (λ (s : Streams W E). s.outcome.refused) is) ∙ refused
 
 -- what a path shows of the value that is asked, it shows of the document
-shown_of_asked : (output : Output) (bytes : List ℕ) (value asked : Data) (path : JsonPath) (most : Option ℕ) (head text : List ℕ) (any : Bool) → ShowsAs output bytes value path → IsAsked bytes value asked
-    → IsAnswer builtin_functions path (record output { most = most }) head asked text any → IsAnswerOn builtin_functions path (record output { most = most }) head bytes text any
-shown_of_asked output bytes value asked path most head text any shows (inl same) is = shows builtin_functions most head text any (subst (λ (d : Data). IsAnswer builtin_functions path (record output { most = most }) head d text any) same is)
-shown_of_asked output bytes value asked path most head text any shows (inr reads) is = (asked, reads, is)
+pub shown_of_asked : (look : Look) (bytes : List ℕ) (value asked : Data) (path : JsonPath) (most : Option ℕ) (head text : List ℕ) (any : Bool) → ShowsAs look bytes value path → IsAsked bytes value asked
+    → IsAnswer builtin_functions path (with_most look most) head asked text any → IsAnswerOn builtin_functions path (with_most look most) head bytes text any
+shown_of_asked look bytes value asked path most head text any shows (inl same) is = shows builtin_functions most head text any (subst (λ (d : Data). IsAnswer builtin_functions path (with_most look most) head d text any) same is)
+shown_of_asked look bytes value asked path most head text any shows (inr reads) is = (asked, reads, is)
 
 -- a path was answered: the lines of its result were written
 pub path_answered : {W E : Type 0} {silent : Bool} (contents : W → Option (List ℕ)) (path : JsonPath) (bytes : List ℕ) (value asked : Data) (before after : Written W E) (kept : Streams W E) (nodes : List Located)
-    → before.count ≡ 0 → after.stop ≡ None → before.limit ≡ before.showing.now.output.most → ShowsAs before.showing.now.output bytes value path → IsAsked bytes value asked
+    → before.count ≡ 0 → after.stop ≡ None → before.limit ≡ before.showing.now.output.most → ShowsAs (look_of before.showing.now) bytes value path → IsAsked bytes value asked
     → Selects (with_rule_of path builtin_functions) (path_tree path) asked nodes → FilledNodes contents before (once before.showing.now.output.unique nodes) after
     → shows_lines before.showing.now ≡ true
     → kept ≡ record after.streams.now {
@@ -41,16 +47,17 @@ pub path_answered : {W E : Type 0} {silent : Bool} (contents : W → Option (Lis
       total = kept.total;
     }
     → kept.left ≡ None
-    → AnswersPath silent contents path before.showing.now.output before.head.now bytes before.streams.now kept
+    → AnswersPath silent contents path (look_of before.showing.now) before.head.now bytes before.streams.now kept
 path_answered {W} {E} contents path bytes value asked before after kept nodes none stopped limit shows of selects filled plain is left =
+    let look = look_of before.showing.now in
     let output = before.showing.now.output in
     let shown = once output.unique nodes in
     let these : up_to before.limit shown ≡ chosen output nodes = ap (λ l. up_to l shown) limit in
     let lines = filled.lines none stopped plain in
-    let line_of_each : IsLineOfEach output before.head.now (chosen output nodes) lines.0 = subst (λ ns. IsLineOfEach output before.head.now ns lines.0) these lines.1 in
+    let line_of_each : IsLookOfEach look before.head.now (chosen output nodes) lines.0 = subst (λ ns. IsLookOfEach look before.head.now ns lines.0) these lines.1 in
     let any = nat_lt 0 (length (chosen output nodes)) in
-    let answer : IsAnswerOn builtin_functions path output before.head.now bytes lines.0 any = shown_of_asked output bytes value asked path output.most before.head.now lines.0 any shows of
-    (nodes, selects, lines_in output.form output before.head.now (chosen output nodes) lines.0 (second (is_plain before.showing.now) (has_lines output.form) plain) line_of_each, refl) in
+    let answer : IsAnswerOn builtin_functions path look before.head.now bytes lines.0 any = shown_of_asked look bytes value asked path output.most before.head.now lines.0 any shows of
+    (nodes, selects, in_lines look before.head.now nodes lines.0 (second (is_plain before.showing.now) (has_lines output.form) plain) line_of_each, refl) in
     record {
       text = lines.0;
       any = any;
@@ -67,39 +74,39 @@ path_answered {W} {E} contents path bytes value asked before after kept nodes no
 
 -- ---- what is shown of the first nodes
 
-lines_of_most : (output : Output) (most : Option ℕ) (head : List ℕ) (ns : List Located) (text : List ℕ) → IsLineOfEach output head ns text → IsLineOfEach (record output { most = most }) head ns text
-lines_of_most output most head [] text are = are
-lines_of_most output most head (n ∷ ns) text are = (are.0, are.1, are.2, lines_of_most output most head ns are.1 are.3, are.4)
+lines_of_most : (look : Look) (most : Option ℕ) (head : List ℕ) (ns : List Located) (text : List ℕ) → IsLookOfEach look head ns text → IsLookOfEach (with_most look most) head ns text
+lines_of_most look most head [] text are = are
+lines_of_most look most head (n ∷ ns) text are = (are.0, are.1, are.2, lines_of_most look most head ns are.1 are.3, are.4)
 
 no_first : (first others : List Located) → first ++ others ≡ [] → first ≡ []
 no_first [] others none = refl
 no_first (n ∷ ns) others none = absurd cc
 
-part_of_first : (output : Output) (head bytes : List ℕ) (value asked : Data) (path : JsonPath) (shown first others : List Located) (text : List ℕ) → has_lines output.form ≡ true → IfSome output.most (λ most. length first ≤ most)
-    → ShowsAs output bytes value path → IsAsked bytes value asked → AreSelected builtin_functions path output.unique asked shown → shown ≡ first ++ others → IsLineOfEach output head first text
-    → IsAnswerInPart builtin_functions path output head bytes text (nat_lt 0 (length first))
-part_of_first output head bytes value asked path shown first others text has few shows of (inl none) split are =
+part_of_first : (look : Look) (head bytes : List ℕ) (value asked : Data) (path : JsonPath) (shown first others : List Located) (text : List ℕ) → has_lines look.output.form ≡ true → IfSome look.output.most (λ most. length first ≤ most)
+    → ShowsAs look bytes value path → IsAsked bytes value asked → AreSelected builtin_functions path look.output.unique asked shown → shown ≡ first ++ others → IsLookOfEach look head first text
+    → IsAnswerInPart builtin_functions path look head bytes text (nat_lt 0 (length first))
+part_of_first look head bytes value asked path shown first others text has few shows of (inl none) split are =
     let empty : first ≡ [] = no_first first others (sym split ∙ none) in
-    inl (subst (λ ns. IsLineOfEach output head ns text) empty are, ap (λ (ns : List Located). nat_lt 0 (length ns)) empty)
-part_of_first output head bytes value asked path shown first others text has few shows of (inr selected) split are =
+    inl (subst (λ ns. IsLookOfEach look head ns text) empty are, ap (λ (ns : List Located). nat_lt 0 (length ns)) empty)
+part_of_first look head bytes value asked path shown first others text has few shows of (inr selected) split are =
     let nodes = selected.0 in
     let most = Some (length first) in
-    let these : take (length first) (once output.unique nodes) ≡ first = ap (take (length first)) (sym selected.2 ∙ split) ∙ take-append-le (length first) first others (omega arith) ∙ take_all (length first) first (omega arith) in
-    let lines = subst (λ ns. IsLineOfEach (record output { most = most }) head ns text) (sym these) (lines_of_most output most head first text are) in
+    let these : take (length first) (once look.output.unique nodes) ≡ first = ap (take (length first)) (sym selected.2 ∙ split) ∙ take-append-le (length first) first others (omega arith) ∙ take_all (length first) first (omega arith) in
+    let lines = subst (λ ns. IsLookOfEach (with_most look most) head ns text) (sym these) (lines_of_most look most head first text are) in
     inr (inr (
       has,
       length first,
       few,
-      shown_of_asked output bytes value asked path most head text (nat_lt 0 (length first)) shows of
-          (nodes, selected.1, lines_in output.form (record output { most = most }) head (take (length first) (once output.unique nodes)) text has lines, ap (λ (ns : List Located). nat_lt 0 (length ns)) (sym these)),
+      shown_of_asked look bytes value asked path most head text (nat_lt 0 (length first)) shows of
+          (nodes, selected.1, in_lines (with_most look most) head nodes text has lines, ap (λ (ns : List Located). nat_lt 0 (length ns)) (sym these)),
     ))
 
 -- a query was refused: the lines of its first nodes were written
 pub path_refused : {W E : Type 0} {silent : Bool} (contents : W → Option (List ℕ)) (path : JsonPath) (bytes : List ℕ) (value asked : Data) (before after : Written W E) (final : Streams W E) (shown : List Located)
-    → before.count ≡ 0 → before.limit ≡ before.showing.now.output.most → ShowsAs before.showing.now.output bytes value path → IsAsked bytes value asked
+    → before.count ≡ 0 → before.limit ≡ before.showing.now.output.most → ShowsAs (look_of before.showing.now) bytes value path → IsAsked bytes value asked
     → AreSelected builtin_functions path before.showing.now.output.unique asked shown → TookFirst contents before shown after → shows_lines before.showing.now ≡ true
     → final.out ≡ after.streams.now.out → string_bytes final.pending ≡ string_bytes after.streams.now.pending → final.outcome.selected ≡ (after.streams.now.outcome.selected || nat_lt 0 after.count) → final.outcome.refused ≡ true → final.left ≡ None
-    → AnswersPath silent contents path before.showing.now.output before.head.now bytes before.streams.now final
+    → AnswersPath silent contents path (look_of before.showing.now) before.head.now bytes before.streams.now final
 path_refused {W} {E} contents path bytes value asked before after final shown none limit shows of selected took plain out pending counted refused left =
     let output = before.showing.now.output in
     let lines = took.took.lines plain in
@@ -108,7 +115,7 @@ path_refused {W} {E} contents path bytes value asked before after final shown no
       text = lines.0;
       any = nat_lt 0 (length took.first);
       whole = λ right. absurd (true≢false (sym refused ∙ right));
-      part = part_of_first output before.head.now bytes value asked path shown took.first took.others lines.0 (second (is_plain before.showing.now) (has_lines output.form) plain) few shows of selected took.split lines.1;
+      part = part_of_first (look_of before.showing.now) before.head.now bytes value asked path shown took.first took.others lines.0 (second (is_plain before.showing.now) (has_lines output.form) plain) few shows of selected took.split lines.1;
       writes = subst (λ (o : W). Adds (contents before.streams.now.out) (string_bytes before.streams.now.pending) (contents o) (string_bytes final.pending) lines.0) (sym out)
           (subst (λ (p : List ℕ). Adds (contents before.streams.now.out) (string_bytes before.streams.now.pending) (contents after.streams.now.out) p lines.0) (sym pending) lines.2);
       selected = counted ∙ ap (λ (o : Outcome). o.selected || nat_lt 0 after.count) took.took.rest.outcome
@@ -122,16 +129,16 @@ path_refused {W} {E} contents path bytes value asked before after final shown no
 
 -- of the lines of a path a beginning is out
 pub path_begun : {W E : Type 0} (contents : W → Option (List ℕ)) (path : JsonPath) (bytes : List ℕ) (value asked : Data) (before after : Written W E) (final : Streams W E) (shown : List Located)
-    → before.count ≡ 0 → before.limit ≡ before.showing.now.output.most → ShowsAs before.showing.now.output bytes value path → IsAsked bytes value asked
+    → before.count ≡ 0 → before.limit ≡ before.showing.now.output.most → ShowsAs (look_of before.showing.now) bytes value path → IsAsked bytes value asked
     → AreSelected builtin_functions path before.showing.now.output.unique asked shown → BeginsFirst contents before shown after → shows_lines before.showing.now ≡ true → final.out ≡ after.streams.now.out
-    → Begins contents (IsAnswerInPart builtin_functions path before.showing.now.output before.head.now bytes) before.streams.now final
+    → Begins contents (IsAnswerInPart builtin_functions path (look_of before.showing.now) before.head.now bytes) before.streams.now final
 path_begun {W} contents path bytes value asked before after final shown none limit shows of selected begins plain out =
     let output = before.showing.now.output in
     let lines = begins.begins.lines plain in
     let few = subst (λ l. IfSome l (λ most. length begins.first ≤ most)) limit (begins.few none) in (
       lines.0,
       nat_lt 0 (length begins.first),
-      part_of_first output before.head.now bytes value asked path shown begins.first begins.others lines.0 (second (is_plain before.showing.now) (has_lines output.form) plain) few shows of selected begins.split lines.1,
+      part_of_first (look_of before.showing.now) before.head.now bytes value asked path shown begins.first begins.others lines.0 (second (is_plain before.showing.now) (has_lines output.form) plain) few shows of selected begins.split lines.1,
       subst (λ (o : W). AppendsBeginning (contents before.streams.now.out) (contents o) (string_bytes before.streams.now.pending ++ lines.0)) (sym out) lines.2,
     )
 
@@ -151,15 +158,17 @@ says_any Nothing (n ∷ ns) (suc count) is = some count ∙ sym (some (length ns
 says_any _ ns count is = ap (nat_lt 0) is
 
 -- a path was answered: what is shown of its result is pending
-pub path_counted : {W E : Type 0} {silent : Bool} (contents : W → Option (List ℕ)) (path : JsonPath) (output : Output) (head bytes : List ℕ) (value asked : Data) (limit : Option ℕ) (empty appended : List ℕ) (count : ℕ) (before now : Streams W E)
-    → limit ≡ output.most → empty ≡ [] → IsAsked bytes value asked → Counts builtin_functions path (record output { most = limit }) head asked empty appended count → ShowsAs output bytes value path
+pub path_counted : {W E : Type 0} {silent : Bool} (contents : W → Option (List ℕ)) (path : JsonPath) (look : Look) (head bytes : List ℕ) (value asked : Data) (limit : Option ℕ) (empty appended : List ℕ) (count : ℕ) (before now : Streams W E)
+    → limit ≡ look.output.most → empty ≡ [] → IsAsked bytes value asked → Counts builtin_functions path (record look.output { most = limit }) head asked empty appended count → ShowsAs look bytes value path → has_counts look.output.form ≡ true
     → now.out ≡ before.out → string_bytes now.pending ≡ string_bytes before.pending ++ appended → now.outcome ≡ record before.outcome { selected = before.outcome.selected || nat_lt 0 count }
-    → now.err ≡ before.err → now.left ≡ None → AnswersPath silent contents path output head bytes before now
-path_counted {W} {E} contents path output head bytes value asked limit empty appended count before now most none of counts shows out pending outcome err left =
-    let shown = counts.0 in
-    let is : appended ≡ shown = counts.2 ∙ ap (λ (e : List ℕ). e ++ shown) none in
-    let answer : IsAnswerOn builtin_functions path output head bytes shown (nat_lt 0 count) = shown_of_asked output bytes value asked path output.most head shown (nat_lt 0 count) shows of
-    (subst (λ (l : Option ℕ). IsAnswer builtin_functions path (record output { most = l }) head asked shown (nat_lt 0 count)) most counts.1) in
+    → now.err ≡ before.err → now.left ≡ None → AnswersPath silent contents path look head bytes before now
+path_counted {W} {E} contents path look head bytes value asked limit empty appended count before now most none of counts shows by_count out pending outcome err left =
+    let is_counted = subst (λ (l : Option ℕ). Counts builtin_functions path (record look.output { most = l }) head asked empty appended count) most counts in
+    let nodes = is_counted.0 in
+    let shown = is_counted.1 in
+    let is : appended ≡ shown = is_counted.4 ∙ ap (λ (e : List ℕ). e ++ shown) none in
+    let answer : IsAnswerOn builtin_functions path look head bytes shown (nat_lt 0 count) = shown_of_asked look bytes value asked path look.output.most head shown (nat_lt 0 count) shows of
+    (nodes, is_counted.2, by_form look head nodes shown by_count is_counted.3, says_any look.output.form (chosen look.output nodes) count is_counted.5) in
     record {
       text = shown;
       any = nat_lt 0 count;
@@ -495,16 +504,32 @@ counts_no_array Json has = absurd cc
 counts_no_array _ has = refl
 
 -- nodes that are not counted, in an answer that is plain, are shown in lines
-pub plain_lines : (answering : Answering) → is_plain_answer answering ≡ true → has_counts answering.showing.output.form ≡ false → shows_lines answering.showing ≡ true
-plain_lines answering plain none = first_of (not (is_table answering.shown)) (shows_lines answering.showing) (has_counts answering.showing.output.form) (not answering.total) plain none
+pub plain_lines : (showing : Showing) (total : Bool) → (shows_lines showing || (has_counts showing.output.form && not total)) ≡ true → has_counts showing.output.form ≡ false → shows_lines showing ≡ true
+plain_lines showing total plain none = first_of (shows_lines showing) (has_counts showing.output.form) (not total) plain none
   where
-    first_of : (a b c d : Bool) → (a && (b || (c && d))) ≡ true → c ≡ false → b ≡ true
-    first_of a b c d h none = grind (arith, nat_tests, common_steps)
+    first_of : (b c d : Bool) → (b || (c && d)) ≡ true → c ≡ false → b ≡ true
+    first_of b c d h none = grind (arith, nat_tests, common_steps)
+
+-- nodes that are counted are not summed up
+pub plain_counts : (showing : Showing) (total : Bool) → (shows_lines showing || (has_counts showing.output.form && not total)) ≡ true → has_counts showing.output.form ≡ true → total ≡ false
+plain_counts showing total plain counts = not_both (is_plain showing) showing.output.form counts plain
+  where
+    none : (usual : Bool) → ((usual && false) || (true && not total)) ≡ true → total ≡ false
+    none usual plain = grind (arith, nat_tests, common_steps)
+
+    not_both : (usual : Bool) (form : Form) → has_counts form ≡ true → ((usual && has_lines form) || (has_counts form && not total)) ≡ true → total ≡ false
+    not_both usual Count counts plain = none usual plain
+    not_both usual Nothing counts plain = none usual plain
+    not_both usual _ counts plain = absurd cc
 
 -- two facts of a call that went well
 pub if_both : {A E : Type 0} (r : Result A E) (P Q R : Type 0) → OnOk r P → OnOk r Q → (P → Q → R) → OnOk r R
 if_both (Ok x) P Q R p q step = step p q
 if_both (Err e) P Q R p q step = tt
+
+pub on_ok_as : {A E : Type 0} (r : Result A E) (P Q : Type 0) → (P → Q) → OnOk r P → OnOk r Q
+on_ok_as (Ok x) P Q step p = step p
+on_ok_as (Err e) P Q step p = tt
 
 -- what follows where a call goes well
 pub on_ok_then : {A E : Type 0} (r : Result A E) (P : Type 0) (Q : A → Type 0) → OnOk r P → (P → (x : A) → Q x) → IfOk r Q

@@ -1,14 +1,20 @@
 -- The words of definitions and lemmas that proofs cite, from one place.
-pub use Rattle.jpq_program.specs.Answers.{AreAnswersInPart, AreAnswersOn, AreEach, IsAnswer, IsAnswerInPart, IsAnswerOn, has_lines}
+pub use Rattle.jpq_program.specs.Answers.{AreAnswersInPart, AreAnswersOn, AreEach, AreShown, IsAnswer, IsAnswerInPart, IsAnswerOn, has_lines, with_most}
+pub use Rattle.jpq_program.specs.Rows.{AreCells, IsCell, IsCellInPart, IsCellOf, IsCellOn, IsRowInPart, IsRowOn, cell_text, first_cells, in_cell, row_text}
+pub use Rattle.jpq_program.specs.Looks.{IsLook, IsLookOfEach, IsSeenIn, Look, dressed, escaped, has_escapes, in_ascii, indented, led_by, unit_escape}
+pub use Rattle.jpq_program.specs.declared.colours.Colours.{Colours}
+pub use Rattle.jpq_program.specs.declared.dress.Dress.{Dress}
+pub use Rattle.jpq_program.specs.declared.dress.Place.{Place}
+pub use Rattle.jpq_program.specs.declared.dress.Place.TheVariants.{AfterSpace, Start, Within}
 pub use Rattle.jpq_program.specs.Heads.{head_text}
 pub use Rattle.jpq_program.specs.Inputs.{AreInputsShown, AreKnown, Opens, OpensFirst, IsInputShown, IsLineShown, IsNamedShown, Shown, lines_of, is_blank, with_byte, without_mark}
 pub use Rattle.jpq_program.specs.declared.asked_path.AskedPath.{AskedPath}
-pub use Rattle.jpq_program.specs.Inside.{Adds, Answered, AnswersBy, AnswersPath, AreSelected, AreShownAs, Begins, BeginsFirst, BeginsNodes, OnlyPends, OnlyRefuses, PendsLine, SendsBy, SendsFor, SendsInput, SendsInputs, SendsLine, TookFirst, shown_in_part_by, Counts, FilledNodes, IsAsked, IsFailure, IsPlain, IsReadIn, KeepsRest, OnlyNotes, OnlyTells, OnlyWrites, Reads, ReadsFurther, Sends, ShowsAs, Tells, TookNodes, Writes, WritesLines, WritesNode, has_counts, head_by, heads_in, is_array, is_plain, is_plain_answer, shown_by, shows_lines, shows_places, status_after, status_of, told_after, AnswersRun, Ends, IfMore, IsKnownRun, SendsDocument, SendsUntil, is_by_path, is_quiet}
-pub use Rattle.jpq_program.specs.Run.{ArePaths, IsCheckRun, IsChecked, canonical_lines, ComesOf, IsAnswered, IsAnsweredInPart, IsCheckedInPart, IsShownInPartFor, IsPathOf, OpensInOrder, IsPlainRun, IsPrinted, IsShownFor, IsStatusOf, LacksMemory, form_in, has_text, is_each, known_bytes, looked_at_in, names_in, opened_in, output_in, path_files_in, path_texts, rule_in, texts_in_file, IsFound, IsQuietRun, IsUsualRun, TellsNothing}
+pub use Rattle.jpq_program.specs.Inside.{Adds, Answered, AnswersBy, AnswersEach, AnswersPath, AnswersRow, AreSelected, AreShownAs, Begins, BeginsFirst, BeginsNodes, OnlyPends, OnlyRefuses, PendsLine, SendsBy, SendsFor, SendsInput, SendsInputs, SendsLine, TookFirst, shown_in_part_by, Counts, FilledNodes, Finds, IsAsked, IsFirstOf, asked_look, cell_look, each_by, each_in_part_by, is_tsv, paths_in, row_by, row_in_part_by, IsFailure, IsPlain, IsReadIn, KeepsRest, OnlyNotes, OnlyTells, OnlyWrites, Reads, ReadsFurther, Sends, ShowsAs, Tells, TookNodes, Writes, WritesLines, WritesNode, has_counts, has_palette, head_by, heads_in, left_from, look_of, look_with, unit_by, is_array, is_plain, is_plain_answer, shown_by, shows_lines, shows_places, status_after, status_of, told_after, AnswersRun, Ends, IfMore, IsKnownRun, SendsDocument, SendsUntil, is_by_path, is_quiet}
+pub use Rattle.jpq_program.specs.Run.{ArePaths, IsCheckRun, IsChecked, canonical_lines, ComesOf, IsAnswered, IsAnsweredInPart, IsCheckedInPart, IsShownInPartFor, IsPathOf, OpensInOrder, IsPlainRun, IsPrinted, IsShownFor, IsStatusOf, LacksMemory, form_in, has_text, is_each, known_bytes, look_in, looked_at_in, names_in, opened_in, output_in, path_files_in, path_texts, rule_in, texts_in_file, unit_in, IsFound, IsQuietRun, IsUsualRun, TellsNothing}
 pub use Rattle.jpq_options.specs.Options.{is_table}
 pub use Rattle.jpq_options.specs.Paths.{path_lines}
 pub use Rattle.jpq_options.specs.declared.options.Shown.{Shown as OptionShown}
-pub use Rattle.jpq_options.specs.declared.options.Shown.TheVariants.{Nodes}
+pub use Rattle.jpq_options.specs.declared.options.Shown.TheVariants.{Csv, Nodes, Tsv}
 pub use Rattle.jpq_program.specs.declared.answering.Answering.{Answering}
 pub use Rattle.jpq_program.specs.declared.source.Heads.{Heads}
 pub use Rattle.serde_json_path_reach.specs.Readers.{Keeps}
@@ -34,8 +40,10 @@ pub use Rattle.std.specs.declared.alloc.Global.{Global}
 pub use Rattle.serde_json_path_nodes.proofs.Words.{IfOk, IfOk-weaker, Ok, cases_Bool, first_places}
 pub use Rattle.serde_json_path_core.specs.Walks.{document_of, query_of, rest, set_of, steps_of}
 pub use Rattle.jsonpath_lines.proofs.Words.{Appends-trans, Bool, IsLine, IsLineOfEach, List, Located, None, Option, Some, [], ap, append-nil, append_assoc, arith, common_steps, false, is_reached, length, length-append, located, nat_tests, refl, string_bytes, subst, sym, true, up_to, ℕ, ◌++◌, ◌+◌, ◌∙◌, ◌∷◌, ◌≡◌}
-pub use Rattle.jsonpath_lines.specs.Output.{AreLines, AreLinesIn, IsCountIn, IsText, chosen, end_text}
+pub use Rattle.jsonpath_lines.specs.Output.{AreLines, AreLinesIn, IsCount, IsCountIn, IsText, chosen, end_text}
 pub use Rattle.jsonpath_lines.specs.declared.forms.Layout.{Layout}
+pub use Rattle.jsonpath_lines.specs.declared.forms.Layout.TheVariants.{Compact}
+pub use Rattle.jsonpath_lines.specs.declared.forms.LineEnd.{LineEnd}
 pub use Rattle.jsonpath_lines.specs.declared.forms.Form.{Form}
 pub use Rattle.jsonpath_lines.specs.declared.forms.Form.TheVariants.{Count, Json, Location, LocationAndValue, Nothing, Pointer, Raw, Value}
 pub use Rattle.jsonpath_lines.specs.declared.forms.Output.{Output}
@@ -50,16 +58,22 @@ pub use Rattle.serde_json_path_syntax.proofs.Words.{Bor}
 pub use Rattle.std.proofs.Common.{drop-cons, get_or, inl, inr, rules, suc, zero, take-append-drop, ◌<◌, ◌⊎◌}
 pub use Rattle.std.specs.Io.KnownBytes.{Appends}
 pub use Rattle.std.specs.Io.BufRead.{drop_through, strip_last, take_through}
-pub use Rattle.std.specs.List.{AllZip, take-map}
-pub use Rattle.std.proofs.lemmas.List.{get_or-map}
+pub use Rattle.std.specs.List.{AllZip, flat_map, take-map}
+pub use Rattle.std.proofs.lemmas.List.{append_cancel_right, get_or-map}
+pub use Rattle.std.proofs.lemmas.Grind.{flat_map-append}
 pub use Rattle.std.proofs.lemmas.Result.{IfErr-weaker}
 pub use Rattle.serde_json_path_functions.specs.Functions.{Numbers}
 pub use Rattle.serde_json_path_functions.specs.Terms.{numbers_view}
 pub use Rattle.std.specs.Fmt.{decimal}
+pub use Rattle.std.specs.Char.{encode_utf8}
+pub use Rattle.std.specs.Str.{IsUtf8, chars}
+pub use Rattle.std.specs.Str.Iter.{chars_rest}
+pub use Rattle.std.proofs.lemmas.Str.{IsUtf8-past_char, chars-nil, chars_past_char}
+pub use Rattle.serde_json_path_syntax.proofs.Words.{nil_from_length}
 pub use Rattle.serde_json_path_syntax.specs.Lists.{IsIn}
 pub use Rattle.serde_json_path_syntax.specs.Tree.{Query}
 pub use Rattle.serde_json_path_nodes.specs.Location.{Step}
 pub use Rattle.serde_json_path_nodes.specs.Lists.{first_places_after, is_among}
 pub use Rattle.serde_json_path_nodes.specs.Text.{normal, pointer}
 pub use Rattle.serde_json_path_functions.specs.Functions.{FunctionSet}
-pub use Rattle.std.specs.Prelude.{IfSome, MatchBool, MatchOption, drop, is_some, map, nat_eq, nat_lt, not, take, if◌then◌else◌, ◌&&◌, ◌==◌, ◌||◌}
+pub use Rattle.std.specs.Prelude.{◌-◌, replicate, IfSome, MatchBool, MatchOption, drop, is_some, map, nat_eq, nat_lt, not, take, if◌then◌else◌, ◌&&◌, ◌==◌, ◌||◌}

@@ -1,12 +1,14 @@
 -- What contracts of private functions cite alone.
-use Rattle.std.specs.Prelude.{◌≡◌, ◌+◌, ◌<◌, ◌≤◌, get_or, ◌⊎◌, Err, Ok, Result, codes, if◌then◌else◌, ℕ, Bool, true, false, not, ◌&&◌, ◌||◌, List, [], ◌∷◌, ◌++◌, map, MatchBool, Option, None, IfSome, length, is_some, nat_lt, string_bytes}
+use Rattle.std.specs.Prelude.{◌≡◌, ◌+◌, ◌<◌, ◌≤◌, get_or, ◌⊎◌, Err, Ok, Result, codes, if◌then◌else◌, ℕ, Bool, true, false, not, ◌&&◌, ◌||◌, List, [], ◌∷◌, ◌++◌, map, MatchBool, Option, None, Some, String, IfSome, length, option_map, is_some, nat_lt, string_bytes}
 use Rattle.std.specs.Io.KnownBytes.{Appends}
+use Rattle.std.specs.declared.alloc.Global.{Global}
 use Rattle.serde_json_path_nodes.specs.Location.{Located}
 use Rattle.jsonpath_lines.specs.Inside.{is_reached, once}
 use Rattle.jsonpath_lines.specs.Inside as lines
-use Rattle.jsonpath_lines.specs.Output.{IsLine, IsLineOfEach, up_to}
+use Rattle.jsonpath_lines.specs.Output.{AreLines, IsCount, IsText, compact_lines, up_to}
 use Rattle.jsonpath_lines.specs.declared.forms.Form.{Form}
-use Rattle.jsonpath_lines.specs.declared.forms.Form.TheVariants.{Json, Count, Location, Nothing, Pointer}
+use Rattle.jsonpath_lines.specs.declared.forms.Form.TheVariants.{Json, Count, Location, Nothing, Pointer, Raw}
+use Rattle.jsonpath_lines.specs.declared.forms.Layout.TheVariants.{Compact}
 use Rattle.jsonpath_lines.specs.Sent.{AppendsBeginning}
 use Rattle.jsonpath_lines.specs.declared.forms.Output.{Output}
 use Rattle.serde_json.specs.Data.{Data}
@@ -20,17 +22,23 @@ use Rattle.serde_json_path_functions.specs.Functions.{FunctionSet, Numbers}
 use Rattle.serde_json_path_functions.specs.Patterns.{builtin_functions}
 use Rattle.jpq_options.specs.Options.{is_table}
 use Rattle.jsonpath_document.specs.Document.{ReadsAs}
-use Rattle.jpq_program.specs.Answers.{AreAnswersInPart, AreAnswersOn, IsAnswer, IsAnswerInPart, IsAnswerOn, has_lines}
+use Rattle.jpq_program.specs.Answers.{AreAnswersInPart, AreAnswersOn, IsAnswer, IsAnswerInPart, IsAnswerOn, has_lines, with_most}
+use Rattle.jpq_program.specs.Looks.{IsLook, IsLookOfEach, Look, led_by}
 use Rattle.jpq_program.specs.Heads.{head_text}
 use Rattle.jpq_program.specs.Inputs.{AreInputsShown, IsInputShown, IsLineShown, Shown}
+use Rattle.jpq_program.specs.Rows.{IsRowInPart, IsRowOn, first_cells}
 use Rattle.jpq_program.specs.Run.{ArePaths, IsPlainRun, IsQuietRun, IsShownFor, IsShownInPartFor, form_in, has_names, has_numbers, names_in, path_texts, rule_in}
 use Rattle.jpq_options.specs.declared.options.Options.{Options}
 use Rattle.jpq_options.specs.declared.options.Shown.{Shown as OptionShown}
-use Rattle.jpq_options.specs.declared.options.Shown.TheVariants.{Nodes}
+use Rattle.jpq_options.specs.declared.options.Shown.TheVariants.{Nodes, Tsv}
+use Rattle.jpq_program.specs.declared.colours.Colours.{Colours}
 use Rattle.jpq_program.specs.declared.documents.Documents.{Documents}
 use Rattle.jpq_program.specs.declared.answering.Answering.{Answering}
 use Rattle.jpq_program.specs.declared.asked_path.AskedPath.{AskedPath}
 use Rattle.jpq_program.specs.declared.paths.PathReading.{PathReading}
+use Rattle.jpq_program.specs.declared.dress.Dress.{Dress}
+use Rattle.jpq_program.specs.declared.dress.Place.{Place}
+use Rattle.jpq_program.specs.declared.dress.Place.TheVariants.{AfterSpace, Start, Within}
 use Rattle.jpq_program.specs.declared.showing.Showing.{Showing}
 use Rattle.jpq_program.specs.declared.source.Heads.{Heads}
 use Rattle.jpq_program.specs.declared.streams.Outcome.{Outcome}
@@ -83,9 +91,10 @@ Reads before after = after ≡ record before { used = after.used }
 abbrev pub ReadsFurther : Numbers → List (List ℕ) → List AskedPath → List AskedPath → Type 0
 ReadsFurther rule texts before after = (read : List AskedPath) × (after ≡ before ++ read) × ArePaths rule texts (map (λ path. path.path) read)
 
--- what is shown of the path's result on a value was appended, and the count says whether a node is
+-- what is shown of the path's result on a value was appended, and the count says how many nodes are chosen
 abbrev pub Counts : FunctionSet → JsonPath → Output → List ℕ → Data → List ℕ → List ℕ → ℕ → Type 0
-Counts F path output head d old new count = (shown : List ℕ) × IsAnswer F path output head d shown (nat_lt 0 count) × (new ≡ old ++ shown)
+Counts F path output head d old new count = (nodes : List Located) × (shown : List ℕ) × Selects (with_rule_of path F) (path_tree path) d nodes
+    × AreLines output head nodes shown × (new ≡ old ++ shown) × IsCount output nodes count
 
 -- a text was added; what it is where nothing is refused, and where something may be; and whether it shows a node. Without notes nothing
 -- is told where nothing is refused.
@@ -100,9 +109,9 @@ pub record Answered {W E : Type 0} (silent : Bool) (contents : W → Option (Lis
   pub told : silent ≡ true → after.outcome.refused ≡ false → after.err ≡ before.err
 
 -- what is shown of a path was added
-abbrev pub AnswersPath : {W E : Type 0} → Bool → (W → Option (List ℕ)) → JsonPath → Output → List ℕ → List ℕ → Streams W E → Streams W E → Type 0
-AnswersPath silent contents path output head bytes before after =
-    Answered silent contents (IsAnswerOn builtin_functions path output head bytes) (IsAnswerInPart builtin_functions path output head bytes) before after
+abbrev pub AnswersPath : {W E : Type 0} → Bool → (W → Option (List ℕ)) → JsonPath → Look → List ℕ → List ℕ → Streams W E → Streams W E → Type 0
+AnswersPath silent contents path look head bytes before after =
+    Answered silent contents (IsAnswerOn builtin_functions path look head bytes) (IsAnswerInPart builtin_functions path look head bytes) before after
 
 -- a text was sent, and nothing is pending after it
 abbrev pub Sends : {W E : Type 0} → Bool → (W → Option (List ℕ)) → (Is IsPart : List ℕ → Bool → Type 0) → Streams W E → Streams W E → Type 0
@@ -126,14 +135,26 @@ Begins contents IsPart before after = (text : List ℕ) × (any : Bool) × IsPar
     × AppendsBeginning (contents before.out) (contents after.out) (string_bytes before.pending ++ text)
 
 -- what a path shows of a value, it shows of the document that the bytes are, however many nodes are wanted
-abbrev pub ShowsAs : Output → List ℕ → Data → JsonPath → Type 0
-ShowsAs output bytes value path = (F : FunctionSet) (most : Option ℕ) (head text : List ℕ) (any : Bool)
-    → IsAnswer F path (record output { most = most }) head value text any → IsAnswerOn F path (record output { most = most }) head bytes text any
+abbrev pub ShowsAs : Look → List ℕ → Data → JsonPath → Type 0
+ShowsAs look bytes value path = (F : FunctionSet) (most : Option ℕ) (head text : List ℕ) (any : Bool)
+    → IsAnswer F path (with_most look most) head value text any → IsAnswerOn F path (with_most look most) head bytes text any
 
 -- the same of some paths
-abbrev pub AreShownAs : Output → List ℕ → Data → List AskedPath → Type 0
-AreShownAs output bytes value paths = (i : ℕ) (path : AskedPath) → i < length paths → path ≡ get_or paths i path
-    → ShowsAs output bytes value path.path
+abbrev pub AreShownAs : Look → List ℕ → Data → List AskedPath → Type 0
+AreShownAs look bytes value paths = (i : ℕ) (path : AskedPath) → i < length paths → path ≡ get_or paths i path
+    → ShowsAs look bytes value path.path
+
+-- Something was looked for, and nothing was written: what it comes to where nothing is refused, and where something may be, and whether
+-- there is a node.
+pub record Finds {W E : Type 0} (silent : Bool) (Is IsPart : Bool → Type 0) (before after : Streams W E) : Type 0 where
+  pub any : Bool
+  pub whole : after.outcome.refused ≡ false → (before.outcome.refused ≡ false) × Is any
+  pub part : IsPart any
+  pub out : after.out ≡ before.out
+  pub pending : after.pending ≡ before.pending
+  pub selected : after.outcome.selected ≡ (before.outcome.selected || any)
+  pub left : after.left ≡ None
+  pub told : silent ≡ true → after.outcome.refused ≡ false → after.err ≡ before.err
 
 -- nothing changed but what was told, and that something was refused
 abbrev pub OnlyRefuses : {W E : Type 0} → Streams W E → Streams W E → Type 0
@@ -185,17 +206,66 @@ abbrev pub is_array : Form → Bool
 is_array Json = true
 is_array _ = false
 
--- lines are shown as `push_line` makes them: indented by no other unit, not escaped, and without colours
+-- some characters from a place in a line, indented by a unit
+abbrev pub left_from : List ℕ → Place → List ℕ → List ℕ
+left_from unit Start cs = led_by unit true cs
+left_from unit AfterSpace cs = led_by unit true (32 ∷ cs)
+left_from unit Within cs = led_by unit false cs
+
+-- by what a dress has a level indented, where that is not two spaces; whether it escapes, and whether it has colours
+abbrev pub unit_by : Option Dress → Option (List ℕ)
+unit_by None = None
+unit_by (Some dress) = option_map string_bytes dress.indent
+
+abbrev pub is_ascii : Option Dress → Bool
+is_ascii None = false
+is_ascii (Some dress) = dress.ascii
+
+abbrev pub has_colours : Option Dress → Bool
+has_colours None = false
+has_colours (Some dress) = dress.colored
+
+-- what is shown of nodes, and how, by how lines are dressed
+abbrev pub look_with : Output → Option Dress → Look
+look_with output dress = record { output = output; unit = unit_by dress; ascii = is_ascii dress; colored = has_colours dress }
+
+abbrev pub look_of : Showing → Look
+look_of showing = look_with showing.output showing.dress
+
+-- the environment says which colours lines have
+abbrev pub has_palette : Option Dress → Bool
+has_palette None = false
+has_palette (Some dress) = is_some dress.palette
+
+-- lines have the usual colours, or none
 abbrev pub is_plain : Showing → Bool
-is_plain showing = not (is_some showing.dress)
+is_plain showing = not (has_palette showing.dress)
 
 abbrev pub shows_lines : Showing → Bool
 shows_lines showing = is_plain showing && has_lines showing.output.form
 
--- the nodes are shown in such lines, or counted for each path
+-- the cells of rows are parted by tabs
+abbrev pub is_tsv : OptionShown → Bool
+is_tsv Tsv = true
+is_tsv _ = false
+
+-- the nodes are shown in such lines, or counted for each path, or of each path the first in a row with tabs
 abbrev pub is_plain_answer : Answering → Bool
-is_plain_answer answering = not (is_table answering.shown)
-    && (shows_lines answering.showing || (has_counts answering.showing.output.form && not answering.total))
+is_plain_answer answering = is_tsv answering.shown || (not (is_table answering.shown)
+    && (shows_lines answering.showing || (has_counts answering.showing.output.form && not answering.total)))
+
+-- the text of the first node, in a cell
+abbrev pub IsFirstOf : List Located → Option (String Global) → Type 0
+IsFirstOf [] cell = cell ≡ None
+IsFirstOf (n ∷ ns) cell = (text : String Global) × (cell ≡ Some text) × IsText Raw Compact n (string_bytes text)
+
+-- a line that is a cell: that of the first node
+abbrev pub cell_look : Look
+cell_look = record { output = record (compact_lines Raw) { most = Some 1 }; unit = None; ascii = false; colored = false }
+
+-- how the nodes are looked at that are asked for
+abbrev pub asked_look : Answering → Look
+asked_look answering = if is_table answering.shown then cell_look else look_of answering.showing
 
 -- ---- documents and inputs
 
@@ -207,17 +277,47 @@ head_by heads name line number = head_text heads.file heads.line heads.number na
 abbrev pub heads_in : Options → ℕ → Heads
 heads_in options count = record { file = has_names options; line = options.line_number; number = has_numbers options count }
 
--- what is shown of a document in such an answer
-abbrev pub shown_by : Answering → Shown
-shown_by answering name number bytes text any = AreAnswersOn builtin_functions (map (λ (path : AskedPath). path.path) answering.paths.now)
-    answering.showing.output (head_by answering.heads name number) bytes text any
+-- the paths that are asked
+abbrev pub paths_in : Answering → List JsonPath
+paths_in answering = map (λ (path : AskedPath). path.path) answering.paths.now
+
+-- what is shown of a document in such an answer, for each path
+abbrev pub each_by : Answering → Shown
+each_by answering name number bytes text any =
+    AreAnswersOn builtin_functions (paths_in answering) (look_of answering.showing) (head_by answering.heads name number) bytes text any
 
 -- the same where it, or the query of a path, may be refused
+abbrev pub each_in_part_by : Answering → Shown
+each_in_part_by answering name number bytes text any =
+    AreAnswersInPart builtin_functions (paths_in answering) (look_of answering.showing) (head_by answering.heads name number) bytes text any
+
+-- the same in a row
+abbrev pub row_by : Answering → Shown
+row_by answering name number bytes text any = IsRowOn builtin_functions (paths_in answering) answering.showing.output.end
+    (first_cells answering.heads.file answering.heads.line name number) bytes text any
+
+abbrev pub row_in_part_by : Answering → Shown
+row_in_part_by answering name number bytes text any = IsRowInPart builtin_functions (paths_in answering) answering.showing.output.end
+    (first_cells answering.heads.file answering.heads.line name number) bytes text any
+
+-- the same by what is asked to be shown
+abbrev pub shown_by : Answering → Shown
+shown_by answering name number bytes text any =
+    MatchBool (is_table answering.shown) (row_by answering name number bytes text any) (each_by answering name number bytes text any)
+
 abbrev pub shown_in_part_by : Answering → Shown
-shown_in_part_by answering name number bytes text any = AreAnswersInPart builtin_functions (map (λ (path : AskedPath). path.path) answering.paths.now)
-    answering.showing.output (head_by answering.heads name number) bytes text any
+shown_in_part_by answering name number bytes text any =
+    MatchBool (is_table answering.shown) (row_in_part_by answering name number bytes text any) (each_in_part_by answering name number bytes text any)
 
 -- what is shown of a document was added so, or sent
+abbrev pub AnswersEach : {W E : Type 0} → (W → Option (List ℕ)) → Answering → List ℕ → ℕ → List ℕ → Streams W E → Streams W E → Type 0
+AnswersEach contents answering name number bytes before after =
+    Answered answering.silent contents (each_by answering name number bytes) (each_in_part_by answering name number bytes) before after
+
+abbrev pub AnswersRow : {W E : Type 0} → (W → Option (List ℕ)) → Answering → List ℕ → ℕ → List ℕ → Streams W E → Streams W E → Type 0
+AnswersRow contents answering name number bytes before after =
+    Answered answering.silent contents (row_by answering name number bytes) (row_in_part_by answering name number bytes) before after
+
 abbrev pub AnswersBy : {W E : Type 0} → (W → Option (List ℕ)) → Answering → List ℕ → ℕ → List ℕ → Streams W E → Streams W E → Type 0
 AnswersBy contents answering name number bytes before after =
     Answered answering.silent contents (shown_by answering name number bytes) (shown_in_part_by answering name number bytes) before after
@@ -246,6 +346,7 @@ IsReadIn places bytes queries value = MatchBool places (IsReadForPlaces bytes qu
 -- answers are plain, and documents are read for the paths
 pub record IsPlain (documents : Documents) : Type 0 where
   pub answer : is_plain_answer documents.answering ≡ true
+  pub places : is_table documents.answering.shown ≡ true → shows_places documents.answering.showing.output.form ≡ false
   pub read : IfSome documents.reader (λ reader. Keeps reader (shows_places documents.answering.showing.output.form)
       (map (λ (path : AskedPath). path_tree path.path) documents.answering.paths.now))
 
@@ -263,16 +364,15 @@ SendsInputs contents answering next lines bytes_of names before after = SendsUnt
     (AreInputsShown (shown_by answering) lines bytes_of names) (AreInputsShown (shown_in_part_by answering) lines bytes_of names) before after
 
 -- the same of what options ask for
-abbrev pub SendsFor : {W E : Type 0} → (W → Option (List ℕ)) → Options → Next → List JsonPath → (List ℕ → Option (List ℕ)) → Streams W E → Streams W E → Type 0
-SendsFor contents options next paths bytes_of before after = SendsUntil options.silent contents (form_in options.shown) next
-    (AreInputsShown (IsShownFor options paths) options.lines bytes_of (names_in options))
-    (AreInputsShown (IsShownInPartFor options paths) options.lines bytes_of (names_in options)) before after
+abbrev pub SendsFor : {W E : Type 0} → (W → Option (List ℕ)) → Options → Bool → Next → List JsonPath → (List ℕ → Option (List ℕ)) → Streams W E → Streams W E → Type 0
+SendsFor contents options taken next paths bytes_of before after = SendsUntil options.silent contents (form_in options.shown) next
+    (AreInputsShown (IsShownFor options taken paths) options.lines bytes_of (names_in options))
+    (AreInputsShown (IsShownInPartFor options taken paths) options.lines bytes_of (names_in options)) before after
 
--- nodes are shown by path, each in a line of its own or all by their number, or not at all
+-- nodes are not shown in one array
 abbrev pub is_by_path : OptionShown → Bool
 is_by_path (Nodes Json) = false
-is_by_path (Nodes _) = true
-is_by_path _ = false
+is_by_path _ = true
 
 -- nothing is shown of nodes
 abbrev pub is_quiet : OptionShown → Bool
@@ -280,19 +380,19 @@ is_quiet (Nodes Nothing) = true
 is_quiet _ = false
 
 -- contracts say what comes of such a run
-abbrev pub IsKnownRun : Options → Bool → Type 0
-IsKnownRun options taken = IsPlainRun options taken ⊎ IsQuietRun options
+abbrev pub IsKnownRun : Options → Colours → Type 0
+IsKnownRun options colours = IsPlainRun options colours ⊎ IsQuietRun options
 
 -- Such a run was answered, and more was wanted or not: what went out since it began, whether a node is shown by that, and that nothing
 -- was told where that is so.
-pub record AnswersRun {W E : Type 0} (contents : W → Option (List ℕ)) (bytes_of : List ℕ → Option (List ℕ)) (options : Options) (next : Next) (before after : Streams W E) : Type 0 where
+pub record AnswersRun {W E : Type 0} (contents : W → Option (List ℕ)) (bytes_of : List ℕ → Option (List ℕ)) (options : Options) (taken : Bool) (next : Next) (before after : Streams W E) : Type 0 where
   pub paths : List JsonPath
   pub are : ArePaths (rule_in options) (path_texts bytes_of options) paths
   pub text : List ℕ
   pub any : Bool
   pub ends : Ends (form_in options.shown) next after
-  pub whole : after.outcome.refused ≡ false → next ≡ More → AreInputsShown (IsShownFor options paths) options.lines bytes_of (names_in options) text any
-  pub part : AreInputsShown (IsShownInPartFor options paths) options.lines bytes_of (names_in options) text any
+  pub whole : after.outcome.refused ≡ false → next ≡ More → AreInputsShown (IsShownFor options taken paths) options.lines bytes_of (names_in options) text any
+  pub part : AreInputsShown (IsShownInPartFor options taken paths) options.lines bytes_of (names_in options) text any
   pub out : Appends (contents before.out) (contents after.out) text
   pub selected : after.outcome.selected ≡ any
   pub told : options.silent ≡ true → after.outcome.refused ≡ false → after.err ≡ before.err
@@ -308,12 +408,12 @@ pub record OnlyPends {W E : Type 0} (before after : Written W E) : Type 0 where
 -- where nodes are shown in lines, a node's line is added to what is pending
 abbrev pub PendsLine : {W E : Type 0} → Located → Written W E → Written W E → Type 0
 PendsLine n before after = shows_lines before.showing.now ≡ true
-    → lines.Appends (IsLine before.showing.now.output before.head.now n) (string_bytes before.streams.now.pending) (string_bytes after.streams.now.pending)
+    → lines.Appends (IsLook (look_of before.showing.now) before.head.now n) (string_bytes before.streams.now.pending) (string_bytes after.streams.now.pending)
 
 -- where nodes are shown in lines, these nodes' lines went out or are pending
 abbrev pub WritesLines : {W E : Type 0} → (W → Option (List ℕ)) → List Located → Written W E → Written W E → Type 0
 WritesLines contents nodes before after = shows_lines before.showing.now ≡ true
-    → (text : List ℕ) × IsLineOfEach before.showing.now.output before.head.now nodes text
+    → (text : List ℕ) × IsLookOfEach (look_of before.showing.now) before.head.now nodes text
     × Writes contents before.streams.now after.streams.now text
 
 -- what writing a node leaves as it was
@@ -351,7 +451,7 @@ pub record FilledNodes {W E : Type 0} (contents : W → Option (List ℕ)) (befo
 -- where nodes are shown in lines, a beginning of what was pending and of these nodes' lines is out
 pub record BeginsNodes {W E : Type 0} (contents : W → Option (List ℕ)) (nodes : List Located) (before now : Written W E) : Type 0 where
   pub rest : KeepsRest before now
-  pub lines : shows_lines before.showing.now ≡ true → (text : List ℕ) × IsLineOfEach before.showing.now.output before.head.now nodes text
+  pub lines : shows_lines before.showing.now ≡ true → (text : List ℕ) × IsLookOfEach (look_of before.showing.now) before.head.now nodes text
       × AppendsBeginning (contents before.streams.now.out) (contents now.streams.now.out) (string_bytes before.streams.now.pending ++ text)
 
 -- the same of the first of these nodes, not more than the limit, where there was none before

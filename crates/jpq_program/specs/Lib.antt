@@ -1,11 +1,15 @@
 -- What contracts cite:
 -- Run: what comes of a run.
 -- Heads: what lines begin with.
+-- Looks: how the line of a node looks.
 -- Answers: what is shown of a document.
+-- Rows: rows of tables.
 -- Inputs: what is shown of inputs.
 -- Inside: what contracts of private functions cite alone.
 pub mod Run
 pub mod Heads
+pub mod Looks
 pub mod Answers
+pub mod Rows
 pub mod Inputs
 pub mod Inside

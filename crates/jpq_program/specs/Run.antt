@@ -1,6 +1,6 @@
 -- What comes of a run: the exit status, what went out, and what was told.
 use Rattle.std.specs.List.{AllZip, filter, flat_map}
-use Rattle.std.specs.Prelude.{◌≡◌, ◌≢◌, ◌≤◌, take, ◌⊎◌, ◌&&◌, ◌||◌, not, ℕ, Bool, true, false, List, [], ◌∷◌, ◌++◌, length, map, nat_eq, nat_lt, Option, None, Ok, codes, if◌then◌else◌, string_bytes, unwrap_or}
+use Rattle.std.specs.Prelude.{◌≡◌, ◌≢◌, ◌≤◌, take, ◌⊎◌, ◌&&◌, ◌||◌, not, ℕ, Bool, true, false, List, [], ◌∷◌, ◌++◌, length, map, MatchBool, nat_eq, nat_lt, replicate, Option, None, Ok, Some, codes, if◌then◌else◌, option_map, string_bytes, unwrap_or}
 use Rattle.std.specs.Io.KnownBytes.{Appends}
 use Rattle.serde_json_path_functions.specs.Functions.{Numbers, all_numbers, whole_numbers}
 use Rattle.serde_json_path_functions.specs.Patterns.{builtin_functions}
@@ -12,6 +12,7 @@ use Rattle.jsonpath_lines.specs.Sent.{AppendsBeginning}
 use Rattle.jsonpath_lines.specs.declared.forms.Form.{Form}
 use Rattle.jsonpath_lines.specs.declared.forms.Form.TheVariants.{Json, Nothing, Raw}
 use Rattle.jsonpath_lines.specs.declared.forms.Output.{Output}
+use Rattle.jpq_options.specs.Options.{is_table}
 use Rattle.jpq_options.specs.Paths.{path_lines}
 use Rattle.jpq_options.specs.declared.options.Color.{Color}
 use Rattle.jpq_options.specs.declared.options.Color.TheVariants.{Always, Auto, Never}
@@ -19,10 +20,13 @@ use Rattle.jpq_options.specs.declared.options.Options.{Options}
 use Rattle.jpq_options.specs.declared.options.Request.{Request}
 use Rattle.jpq_options.specs.declared.options.Request.TheVariants.{Run, Print, WrongUse}
 use Rattle.jpq_options.specs.declared.options.Shown.{Shown}
-use Rattle.jpq_options.specs.declared.options.Shown.TheVariants.{Nodes}
+use Rattle.jpq_options.specs.declared.options.Shown.TheVariants.{Csv, Nodes}
 use Rattle.jpq_program.specs.Answers.{AreAnswersInPart, AreAnswersOn}
 use Rattle.jpq_program.specs.Heads.{head_text}
 use Rattle.jpq_program.specs.Inputs.{AreInputsShown, AreKnown, Opens, OpensFirst, without_mark}
+use Rattle.jpq_program.specs.Looks.{Look}
+use Rattle.jpq_program.specs.Rows.{IsRowInPart, IsRowOn, first_cells}
+use Rattle.jpq_program.specs.declared.colours.Colours.{Colours}
 use Rattle.jpq_program.specs.declared.streams.Streams.{Streams}
 
 -- the exit status of a run with options: 64 only where values are bound to names, as no path may have one; else 0 where something is
@@ -52,22 +56,40 @@ form_in _ = Raw
 abbrev pub output_in : Options → Output
 output_in options = record { form = form_in options.shown; layout = options.layout; end = options.end; unique = options.unique; most = options.most }
 
+-- what a level is indented by, where that is not two spaces
+abbrev pub unit_in : Options → Option (List ℕ)
+unit_in options = if options.tab then Some (codes "\t") else option_map (λ count. replicate count 32) options.indent
+
+-- lines have colours: always, or where the output takes them and the options do not say never
+abbrev pub is_colored : Color → Bool → Bool
+is_colored Always taken = true
+is_colored Never taken = false
+is_colored Auto taken = taken
+
+-- how nodes are shown, where the output takes colours or not
+abbrev pub look_in : Options → Bool → Look
+look_in options taken = record { output = output_in options; unit = unit_in options; ascii = options.ascii; colored = is_colored options.color taken }
+
 -- whether lines begin with the name of the input, the number of the line, and the number of the path, for so many paths
 abbrev pub has_names : Options → Bool
-has_names options = options.with_filename || (nat_lt 1 (length options.files.items) && not options.no_filename)
+has_names options = options.with_filename || (nat_lt 1 (length options.files.items) && (not options.no_filename && not (is_table options.shown)))
 
 abbrev pub has_numbers : Options → ℕ → Bool
-has_numbers options count = nat_lt 1 count && not options.no_path_number
+has_numbers options count = nat_lt 1 count && (not options.no_path_number && not (is_table options.shown))
 
 -- what is shown of a document for the paths: a name, the number of its line, its bytes, the text, and whether a node is shown
-abbrev pub IsShownFor : Options → List JsonPath → List ℕ → ℕ → List ℕ → List ℕ → Bool → Type 0
-IsShownFor options paths name number bytes text any = AreAnswersOn builtin_functions paths (output_in options)
-    (head_text (has_names options) options.line_number (has_numbers options (length paths)) name number) bytes text any
+abbrev pub IsShownFor : Options → Bool → List JsonPath → List ℕ → ℕ → List ℕ → List ℕ → Bool → Type 0
+IsShownFor options taken paths name number bytes text any = MatchBool (is_table options.shown)
+    (IsRowOn builtin_functions paths options.end (first_cells (has_names options) options.line_number name number) bytes text any)
+    (AreAnswersOn builtin_functions paths (look_in options taken)
+    (head_text (has_names options) options.line_number (has_numbers options (length paths)) name number) bytes text any)
 
 -- the same where it, or the query of a path, may be refused
-abbrev pub IsShownInPartFor : Options → List JsonPath → List ℕ → ℕ → List ℕ → List ℕ → Bool → Type 0
-IsShownInPartFor options paths name number bytes text any = AreAnswersInPart builtin_functions paths (output_in options)
-    (head_text (has_names options) options.line_number (has_numbers options (length paths)) name number) bytes text any
+abbrev pub IsShownInPartFor : Options → Bool → List JsonPath → List ℕ → ℕ → List ℕ → List ℕ → Bool → Type 0
+IsShownInPartFor options taken paths name number bytes text any = MatchBool (is_table options.shown)
+    (IsRowInPart builtin_functions paths options.end (first_cells (has_names options) options.line_number name number) bytes text any)
+    (AreAnswersInPart builtin_functions paths (look_in options taken)
+    (head_text (has_names options) options.line_number (has_numbers options (length paths)) name number) bytes text any)
 
 -- the inputs' names, in order; `-` is standard input
 abbrev pub names_in : Options → List (List ℕ)
@@ -107,18 +129,12 @@ abbrev pub OpensInOrder : Options → ℕ → Option (List (List ℕ)) → Optio
 OpensInOrder options status before after =
     OpensFirst before after (opened_in options) ⊎ ((2 ≤ status) × OpensFirst before after (looked_at_in options))
 
--- lines have colours: always, or where the output takes them and the options do not say never
-abbrev pub is_colored : Color → Bool → Bool
-is_colored Always taken = true
-is_colored Never taken = false
-is_colored Auto taken = taken
-
--- each node is shown in a line of its own, or the nodes are counted
+-- each node is shown in a line of its own, or the nodes are counted, or the first of each path are shown in a row with tabs
 abbrev pub is_each : Shown → Bool
 is_each (Nodes Json) = false
 is_each (Nodes Nothing) = false
-is_each (Nodes _) = true
-is_each _ = false
+is_each Csv = false
+is_each _ = true
 
 -- Nodes are neither summed up nor bounded over all documents, and no row of names stands before them. In the paths no values are bound to
 -- names, and they are not only checked.
@@ -129,32 +145,29 @@ pub record IsUsualRun (options : Options) : Type 0 where
   pub bindings : options.bindings.items ≡ []
   pub check : options.check ≡ false
 
--- In such a run nodes are shown so, neither indented by another unit than two spaces, nor escaped, nor in colours.
-pub record IsPlainRun (options : Options) (taken : Bool) : Type 0 where
+-- In such a run nodes are shown so, and the environment does not say which colours lines have.
+pub record IsPlainRun (options : Options) (colours : Colours) : Type 0 where
   pub usual : IsUsualRun options
   pub each : is_each options.shown ≡ true
-  pub indent : options.indent ≡ None
-  pub tab : options.tab ≡ false
-  pub ascii : options.ascii ≡ false
-  pub colored : is_colored options.color taken ≡ false
+  pub palette : colours.palette ≡ None
 
 -- What comes of such a run in which nothing is refused and no writing fails, where the bytes of the inputs are known: what is shown of
 -- them for the paths went out, and nothing else, and the status says whether a node is shown.
-pub record IsAnswered {W : Type 0} (contents : W → Option (List ℕ)) (bytes_of : List ℕ → Option (List ℕ)) (options : Options) (before after : W) (status : ℕ) : Type 0 where
+pub record IsAnswered {W : Type 0} (contents : W → Option (List ℕ)) (bytes_of : List ℕ → Option (List ℕ)) (options : Options) (taken : Bool) (before after : W) (status : ℕ) : Type 0 where
   pub paths : List JsonPath
   pub are : ArePaths (rule_in options) (path_texts bytes_of options) paths
   pub text : List ℕ
   pub any : Bool
-  pub shown : AreInputsShown (IsShownFor options paths) options.lines bytes_of (names_in options) text any
+  pub shown : AreInputsShown (IsShownFor options taken paths) options.lines bytes_of (names_in options) text any
   pub out : Appends (contents before) (contents after) text
   pub ends : status ≡ (if any then 0 else 1)
 
 -- What is out after such a run, however it ended: nothing, where no path is asked, as where one is refused; else a beginning of what is
 -- shown of the inputs for the paths, without what was refused.
-abbrev pub IsAnsweredInPart : {W : Type 0} → (W → Option (List ℕ)) → (List ℕ → Option (List ℕ)) → Options → W → W → Type 0
-IsAnsweredInPart contents bytes_of options before after = (after ≡ before)
+abbrev pub IsAnsweredInPart : {W : Type 0} → (W → Option (List ℕ)) → (List ℕ → Option (List ℕ)) → Options → Bool → W → W → Type 0
+IsAnsweredInPart contents bytes_of options taken before after = (after ≡ before)
     ⊎ ((paths : List JsonPath) × ArePaths (rule_in options) (path_texts bytes_of options) paths
-    × (text : List ℕ) × (any : Bool) × AreInputsShown (IsShownInPartFor options paths) options.lines bytes_of (names_in options) text any
+    × (text : List ℕ) × (any : Bool) × AreInputsShown (IsShownInPartFor options taken paths) options.lines bytes_of (names_in options) text any
     × AppendsBeginning (contents before) (contents after) text)
 
 -- ---- whether there is a node
@@ -164,12 +177,13 @@ abbrev pub IsQuietRun : Options → Type 0
 IsQuietRun options = IsUsualRun options × (options.shown ≡ Nodes Nothing)
 
 -- What comes of such a run that answers 0 or 1, where the bytes of the inputs are known: with 0 a path selects a node of some document,
--- and of others nothing is said; with 1 each document is read, no path selects a node of any, and nothing is refused.
-pub record IsFound (bytes_of : List ℕ → Option (List ℕ)) (options : Options) (status : ℕ) : Type 0 where
+-- and of others nothing is said; with 1 each document is read, no path selects a node of any, and nothing is refused. With `-n 0` no
+-- node counts.
+pub record IsFound (bytes_of : List ℕ → Option (List ℕ)) (options : Options) (taken : Bool) (status : ℕ) : Type 0 where
   pub paths : List JsonPath
   pub are : ArePaths (rule_in options) (path_texts bytes_of options) paths
-  pub found : status ≡ 0 → AreInputsShown (IsShownInPartFor options paths) options.lines bytes_of (names_in options) [] true
-  pub none : status ≡ 1 → AreInputsShown (IsShownFor options paths) options.lines bytes_of (names_in options) [] false
+  pub found : status ≡ 0 → AreInputsShown (IsShownInPartFor options taken paths) options.lines bytes_of (names_in options) [] true
+  pub none : status ≡ 1 → AreInputsShown (IsShownFor options taken paths) options.lines bytes_of (names_in options) [] false
 
 -- ---- paths that are only checked
 
@@ -215,19 +229,19 @@ IsPrinted out err text before after status =
     × AppendsBeginning (err before.err) (err after.err) (codes "jpq: the output failed\n"))
 
 -- What comes of a run whose words ask for this. `out` and `err` say what is known of the bytes of the two writers, and `bytes_of` of
--- the inputs, `opened` which of these are opened; the output takes colours or not. Of wrong use the message is told, or a beginning of
--- it. Neither then, nor where a text is printed, is an input opened.
-abbrev pub ComesOf : {I W E : Type 0} → (W → Option (List ℕ)) → (E → Option (List ℕ)) → (List ℕ → Option (List ℕ)) → (I → Option (List (List ℕ))) → Bool → Request → I → I → Streams W E → Streams W E → ℕ → Type 0
-ComesOf out err bytes_of opened taken (WrongUse kind text) inputs later before after status = (status ≡ 64) × (later ≡ inputs) × (after.out ≡ before.out)
+-- the inputs, `opened` which of these are opened; `colours` is what the environment says of colours. Of wrong use the message is told,
+-- or a beginning of it. Neither then, nor where a text is printed, is an input opened.
+abbrev pub ComesOf : {I W E : Type 0} → (W → Option (List ℕ)) → (E → Option (List ℕ)) → (List ℕ → Option (List ℕ)) → (I → Option (List (List ℕ))) → Colours → Request → I → I → Streams W E → Streams W E → ℕ → Type 0
+ComesOf out err bytes_of opened colours (WrongUse kind text) inputs later before after status = (status ≡ 64) × (later ≡ inputs) × (after.out ≡ before.out)
     × AppendsBeginning (err before.err) (err after.err) (string_bytes text)
-ComesOf out err bytes_of opened taken (Print text) inputs later before after status = (later ≡ inputs) × IsPrinted out err (string_bytes text) before after status
-ComesOf out err bytes_of opened taken (Run options) inputs later before after status = IsStatusOf options status
-    × (IsPlainRun options taken → AreKnown bytes_of (path_files_in options) → AreKnown bytes_of (names_in options)
-    → (status ≤ 1 → IsAnswered out bytes_of options before.out after.out status × Opens (opened inputs) (opened later) (opened_in options)
+ComesOf out err bytes_of opened colours (Print text) inputs later before after status = (later ≡ inputs) × IsPrinted out err (string_bytes text) before after status
+ComesOf out err bytes_of opened colours (Run options) inputs later before after status = IsStatusOf options status
+    × (IsPlainRun options colours → AreKnown bytes_of (path_files_in options) → AreKnown bytes_of (names_in options)
+    → (status ≤ 1 → IsAnswered out bytes_of options colours.taken before.out after.out status × Opens (opened inputs) (opened later) (opened_in options)
     × TellsNothing options before after)
-    × IsAnsweredInPart out bytes_of options before.out after.out)
+    × IsAnsweredInPart out bytes_of options colours.taken before.out after.out)
     × (IsQuietRun options → AreKnown bytes_of (path_files_in options) → AreKnown bytes_of (names_in options)
-    → Appends (out before.out) (out after.out) [] × (status ≤ 1 → IsFound bytes_of options status)
+    → Appends (out before.out) (out after.out) [] × (status ≤ 1 → IsFound bytes_of options colours.taken status)
     × (status ≡ 1 → Opens (opened inputs) (opened later) (opened_in options) × TellsNothing options before after))
     × (IsCheckRun options → AreKnown bytes_of (path_files_in options)
     → (status ≤ 1 → IsChecked out bytes_of options inputs later before.out after.out status × TellsNothing options before after)

@@ -8,7 +8,7 @@ ghost use Rattle.serde_json_path_core.specs.Inside.Words.{view, Located, OnlyMem
 ghost use Rattle.serde_json_path.specs.Paths.{path_tree, with_rule_of};
 ghost use Rattle.jsonpath_lines.specs.Inside.{once};
 ghost use Rattle.jpq_program.specs.Answers.{IsAnswerInPart};
-ghost use Rattle.jpq_program.specs.Inside.{AnswersBy, AnswersPath, AreSelected, AreShownAs, Begins, BeginsFirst, Counts, FilledNodes, IsAsked, OnlyNotes, OnlyRefuses, SendsBy, SendsDocument, ShowsAs, TookFirst, has_counts, head_by, is_array, is_plain_answer, shown_in_part_by, shows_lines};
+ghost use Rattle.jpq_program.specs.Inside.{AnswersBy, AnswersEach, AnswersPath, AreSelected, AreShownAs, Begins, BeginsFirst, Counts, FilledNodes, IsAsked, OnlyNotes, OnlyRefuses, SendsBy, SendsDocument, ShowsAs, TookFirst, asked_look, each_in_part_by, has_counts, head_by, is_array, is_plain_answer, look_of, shown_in_part_by, shows_lines};
 
 use crate::answers::push_answer;
 use crate::asked_path::AskedPath;
@@ -182,16 +182,16 @@ impl Answering<'_> {
         is_later: bool,
         streams: &mut Streams<W, E>,
     ) -> Result<bool, Stop>
-        ensures answered { IfOk result (λ _. ShowsAs self.now.showing.output
+        ensures answered { IfOk result (λ _. ShowsAs (look_of self.now.showing)
             document.entry.bytes.now (view document.entry.value.now) path.now.path
             → shows_lines self.now.showing ≡ true → streams.old.left ≡ None
-            → AnswersPath self.now.silent W.contents path.now.path self.now.showing.output head.now
-            document.entry.bytes.now streams.old streams.new) }
-        ensures begun { ShowsAs self.now.showing.output
+            → AnswersPath self.now.silent W.contents path.now.path (look_of self.now.showing)
+            head.now document.entry.bytes.now streams.old streams.new) }
+        ensures begun { ShowsAs (look_of self.now.showing)
             document.entry.bytes.now (view document.entry.value.now) path.now.path
             → shows_lines self.now.showing ≡ true → streams.old.left ≡ None
             → Begins W.contents (IsAnswerInPart builtin_functions path.now.path
-            self.now.showing.output head.now document.entry.bytes.now) streams.old streams.new }
+            (look_of self.now.showing) head.now document.entry.bytes.now) streams.old streams.new }
     {
         let limit = least(self.showing.output.most, streams.left);
         let mut written = Written {
@@ -225,15 +225,15 @@ impl Answering<'_> {
         document: Document<'_>,
         streams: &mut Streams<W, E>,
     ) -> Result<(), Stop>
-        ensures answered { IfOk result (λ _. AreShownAs self.now.showing.output
+        ensures answered { IfOk result (λ _. AreShownAs (look_of self.now.showing)
             document.entry.bytes.now (view document.entry.value.now) self.now.paths.now
             → shows_lines self.now.showing ≡ true → streams.old.left ≡ None
-            → AnswersBy W.contents self.now document.entry.source.name.now
+            → AnswersEach W.contents self.now document.entry.source.name.now
             document.entry.source.line document.entry.bytes.now streams.old streams.new) }
-        ensures begun { AreShownAs self.now.showing.output
+        ensures begun { AreShownAs (look_of self.now.showing)
             document.entry.bytes.now (view document.entry.value.now) self.now.paths.now
             → shows_lines self.now.showing ≡ true → streams.old.left ≡ None
-            → Begins W.contents (shown_in_part_by self.now document.entry.source.name.now
+            → Begins W.contents (each_in_part_by self.now document.entry.source.name.now
             document.entry.source.line document.entry.bytes.now) streams.old streams.new }
     {
         for (index, path) in self.paths.iter().enumerate() {
@@ -329,11 +329,12 @@ impl Answering<'_> {
         head: &str,
         streams: &mut Streams<W, E>,
     ) -> Result<(), Stop>
-        ensures answered { IfOk result (λ _. ShowsAs self.now.showing.output
+        ensures answered { IfOk result (λ _. ShowsAs (look_of self.now.showing)
             document.entry.bytes.now (view document.entry.value.now) path.now.path
-            → self.now.total ≡ false → streams.old.left ≡ None
-            → AnswersPath self.now.silent W.contents path.now.path self.now.showing.output head.now
-            document.entry.bytes.now streams.old streams.new) }
+            → has_counts self.now.showing.output.form ≡ true → self.now.total ≡ false
+            → streams.old.left ≡ None
+            → AnswersPath self.now.silent W.contents path.now.path (look_of self.now.showing)
+            head.now document.entry.bytes.now streams.old streams.new) }
         ensures unwritten { streams.new.out ≡ streams.old.out }
     {
         let limit = least(self.showing.output.most, streams.left);
@@ -356,11 +357,11 @@ impl Answering<'_> {
         document: Document<'_>,
         streams: &mut Streams<W, E>,
     ) -> Result<(), Stop>
-        ensures answered { IfOk result (λ _. AreShownAs self.now.showing.output
+        ensures answered { IfOk result (λ _. AreShownAs (look_of self.now.showing)
             document.entry.bytes.now (view document.entry.value.now) self.now.paths.now
             → has_counts self.now.showing.output.form ≡ true → self.now.total ≡ false
             → streams.old.left ≡ None
-            → AnswersBy W.contents self.now document.entry.source.name.now
+            → AnswersEach W.contents self.now document.entry.source.name.now
             document.entry.source.line document.entry.bytes.now streams.old streams.new) }
         ensures unwritten { streams.new.out ≡ streams.old.out }
     {
@@ -407,12 +408,12 @@ impl Answering<'_> {
         document: Document<'_>,
         streams: &mut Streams<W, E>,
     ) -> Result<Next, Stop>
-        ensures answered { IfOk result (λ next. AreShownAs self.now.showing.output
+        ensures answered { IfOk result (λ next. AreShownAs (asked_look self.now)
             document.entry.bytes.now (view document.entry.value.now) self.now.paths.now
             → is_plain_answer self.now ≡ true → streams.old.left ≡ None
             → SendsDocument W.contents self.now next document.entry.source.name.now
             document.entry.source.line document.entry.bytes.now streams.old streams.new) }
-        ensures begun { AreShownAs self.now.showing.output
+        ensures begun { AreShownAs (asked_look self.now)
             document.entry.bytes.now (view document.entry.value.now) self.now.paths.now
             → is_plain_answer self.now ≡ true → streams.old.left ≡ None
             → Begins W.contents (shown_in_part_by self.now document.entry.source.name.now
@@ -435,12 +436,12 @@ impl Answering<'_> {
         document: Document<'_>,
         streams: &mut Streams<W, E>,
     ) -> Result<(), Stop>
-        ensures answered { IfOk result (λ _. AreShownAs self.now.showing.output
+        ensures answered { IfOk result (λ _. AreShownAs (asked_look self.now)
             document.entry.bytes.now (view document.entry.value.now) self.now.paths.now
             → is_plain_answer self.now ≡ true → streams.old.left ≡ None
             → SendsBy W.contents self.now document.entry.source.name.now
             document.entry.source.line document.entry.bytes.now streams.old streams.new) }
-        ensures begun { AreShownAs self.now.showing.output
+        ensures begun { AreShownAs (asked_look self.now)
             document.entry.bytes.now (view document.entry.value.now) self.now.paths.now
             → is_plain_answer self.now ≡ true → streams.old.left ≡ None
             → Begins W.contents (shown_in_part_by self.now document.entry.source.name.now
@@ -459,12 +460,12 @@ impl Answering<'_> {
         document: Document<'_>,
         streams: &mut Streams<W, E>,
     ) -> Result<(), Stop>
-        ensures answered { IfOk result (λ _. AreShownAs self.now.showing.output
+        ensures answered { IfOk result (λ _. AreShownAs (asked_look self.now)
             document.entry.bytes.now (view document.entry.value.now) self.now.paths.now
             → is_plain_answer self.now ≡ true → streams.old.left ≡ None
             → AnswersBy W.contents self.now document.entry.source.name.now
             document.entry.source.line document.entry.bytes.now streams.old streams.new) }
-        ensures begun { AreShownAs self.now.showing.output
+        ensures begun { AreShownAs (asked_look self.now)
             document.entry.bytes.now (view document.entry.value.now) self.now.paths.now
             → is_plain_answer self.now ≡ true → streams.old.left ≡ None
             → Begins W.contents (shown_in_part_by self.now document.entry.source.name.now

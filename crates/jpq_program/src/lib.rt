@@ -12,6 +12,7 @@ mod bindings;
 mod caret;
 pub mod colours;
 mod documents;
+mod dress;
 mod empty_answer;
 mod encodings;
 mod inexact;

@@ -1,6 +1,16 @@
 //! Tables: a row for each document, with a cell for each path.
 
+ghost use Rattle.std.specs.List.{flat_map};
+ghost use Rattle.std.specs.Prelude.{◌≡◌, ◌++◌, ◌<◌, IfOk, OnOk, codes, length, map, string_bytes};
+ghost use Rattle.std.specs.Str.{chars};
+ghost use Rattle.serde_json_path_nodes.specs.Views.{located};
+ghost use Rattle.jsonpath_lines.specs.Output.{IsText, end_text};
+ghost use Rattle.jsonpath_lines.specs.declared.forms.Form.TheVariants as form;
+ghost use Rattle.jsonpath_lines.specs.declared.forms.Layout.TheVariants as layout;
+ghost use Rattle.jpq_program.specs.Rows.{cell_text, in_cell, row_text};
+
 use crate::inexact::may_be_inexact;
+use crate::showing::end_of;
 use csv::{Terminator, WriterBuilder};
 use jsonpath_lines::{Form, LineEnd, Output, push_line};
 use serde_json_path::{LocatedNode, QueryError, Sink, Taken};
@@ -27,7 +37,10 @@ pub(crate) struct FirstNode {
 }
 
 /// A node's text in a cell: of a string its own text, of any other value its JSON.
-fn cell_of(alloc: Global, node: &LocatedNode<'_>) -> Result<String, AllocError> {
+fn cell_of(alloc: Global, node: &LocatedNode<'_>) -> Result<String, AllocError>
+    ensures { IfOk result (λ cell. IsText form.Raw layout.Compact (located node.now)
+        (string_bytes cell)) }
+{
     let mut cell = String::new(alloc);
     push_line(
         alloc,
@@ -36,16 +49,17 @@ fn cell_of(alloc: Global, node: &LocatedNode<'_>) -> Result<String, AllocError> 
         &mut cell,
         node,
     )?;
-    cell.pop();
+    // A line feed ends the line.
+    cell.truncate(cell.len() - 1);
     Ok(cell)
 }
 
 impl<'b> Sink<'b> for FirstNode {
-    ghost use Rattle.std.specs.Prelude.{◌≡◌, true};
+    ghost use Rattle.jpq_program.specs.Inside.{IsFirstOf};
 
-    ghost took = { λ _ _ _. true ≡ true };
+    ghost took = { λ before nodes now. IsFirstOf nodes now.cell };
 
-    ghost filled = { λ _ _ _. true ≡ true };
+    ghost filled = { λ before nodes now. IsFirstOf nodes now.cell };
 
     fn take(&mut self, node: LocatedNode<'b>) -> Result<Taken<'b>, QueryError> {
         if self.cell.is_some() {
@@ -58,22 +72,34 @@ impl<'b> Sink<'b> for FirstNode {
     }
 }
 
+/// Appends a character of a cell of a row whose cells are parted by tabs.
+fn push_in_cell(to: &mut String, c: char) -> Result<(), AllocError>
+    ensures { OnOk result (string_bytes to.new ≡ string_bytes to.old ++ in_cell c) }
+{
+    match c {
+        '\t' => to.push_str("\\t"),
+        '\n' => to.push_str("\\n"),
+        '\r' => to.push_str("\\r"),
+        '\\' => to.push_str("\\\\"),
+        _ => to.push(c),
+    }
+}
+
 /// Appends a cell of a row whose cells are parted by tabs.
-fn push_escaped(to: &mut String, cell: &str) -> Result<(), AllocError> {
+fn push_escaped(to: &mut String, cell: &str) -> Result<(), AllocError>
+    ensures { OnOk result (string_bytes to.new ≡ string_bytes to.old ++ cell_text cell.now) }
+{
     for c in cell.chars() {
-        match c {
-            '\t' => to.push_str("\\t")?,
-            '\n' => to.push_str("\\n")?,
-            '\r' => to.push_str("\\r")?,
-            '\\' => to.push_str("\\\\")?,
-            _ => to.push(c)?,
-        }
+        push_in_cell(to, c)?;
     }
     Ok(())
 }
 
 /// Appends a row whose cells are parted by tabs, but for its end.
-fn push_tabbed(to: &mut String, cells: &[String]) -> Result<(), AllocError> {
+fn push_tabbed(to: &mut String, cells: &[String]) -> Result<(), AllocError>
+    ensures { OnOk result (string_bytes to.new
+        ≡ string_bytes to.old ++ row_text (map string_bytes cells.now)) }
+{
     for (index, cell) in cells.iter().enumerate() {
         if index > 0 {
             to.push('\t')?;
@@ -83,8 +109,12 @@ fn push_tabbed(to: &mut String, cells: &[String]) -> Result<(), AllocError> {
     Ok(())
 }
 
-/// A row whose cells are parted by commas, ended by a byte.
-fn comma_row(alloc: Global, cells: &[String], end: u8) -> Result<Vec<u8>, csv::Error> {
+/// A row whose cells are parted by commas.
+fn comma_row(alloc: Global, cells: &[String], end: LineEnd) -> Result<Vec<u8>, csv::Error> {
+    let end = match end {
+        LineEnd::LineFeed => b'\n',
+        LineEnd::Nul => b'\0',
+    };
     let mut writer = WriterBuilder::new()
         .terminator(Terminator::Any(end))
         .from_writer(Vec::new(alloc));
@@ -103,19 +133,18 @@ pub(crate) fn push_row(
     separator: Separator,
     end: LineEnd,
     cells: &[String],
-) -> Result<(), AllocError> {
-    let (end, byte) = match end {
-        LineEnd::LineFeed => ('\n', b'\n'),
-        LineEnd::Nul => ('\0', b'\0'),
-    };
+) -> Result<(), AllocError>
+    ensures { separator ≡ Separator.Tab → OnOk result (string_bytes to.new
+        ≡ string_bytes to.old ++ (row_text (map string_bytes cells.now) ++ end_text end)) }
+{
     match separator {
         Separator::Tab => {
             push_tabbed(to, cells)?;
-            to.push(end)
+            to.push(end_of(end))
         }
         Separator::Comma => {
             // What it writes to is a vector, so that only memory can be refused.
-            let Ok(row) = comma_row(alloc, cells, byte) else {
+            let Ok(row) = comma_row(alloc, cells, end) else {
                 return Err(AllocError);
             };
             to.push_str(from_utf8(&row).unwrap_or(""))

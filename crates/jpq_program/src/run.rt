@@ -1,6 +1,6 @@
 //! The program over its inputs and two writers.
 
-ghost use Rattle.std.specs.Prelude.{◌≡◌, ◌≤◌, ◌⊎◌, [], None, IfOk, IfSome, OnOk, false, map, string_bytes, true};
+ghost use Rattle.std.specs.Prelude.{◌≡◌, ◌≤◌, ◌⊎◌, [], None, IfOk, IfSome, OnOk, false, map, option_map, replicate, string_bytes, true};
 ghost use Rattle.std.specs.Io.KnownBytes.{Appends};
 ghost use Rattle.serde_json_path.specs.Paths.{path_tree};
 ghost use Rattle.serde_json_path_reach.specs.Alike.{trees_of};
@@ -9,18 +9,19 @@ ghost use Rattle.jsonpath_lines.specs.Sent.{AppendsBeginning};
 ghost use Rattle.jpq_options.specs.Options.{AsksFor};
 ghost use Rattle.jpq_options.specs.declared.options.Request as input;
 ghost use Rattle.jpq_program.specs.Inputs.{AreInputsShown, AreKnown, Opens, OpensFirst};
-ghost use Rattle.jpq_program.specs.Inside.{AnswersRun, Begins, IsKnownRun, IsPlain, OnlyTells, SendsFor, SendsInputs, heads_in, is_by_path, is_quiet, shown_in_part_by, shows_places, status_after, status_of, told_after};
-ghost use Rattle.jpq_program.specs.Run.{ComesOf, IsAnsweredInPart, IsChecked, IsCheckedInPart, IsCheckRun, IsPlainRun, IsPrinted, IsShownInPartFor, LacksMemory, canonical_lines, is_colored, looked_at_in, names_in, opened_in, output_in, path_files_in};
+ghost use Rattle.jpq_program.specs.Inside.{AnswersRun, Begins, IsKnownRun, IsPlain, OnlyTells, SendsFor, SendsInputs, has_palette, heads_in, is_by_path, is_quiet, look_with, shown_in_part_by, shows_places, status_after, status_of, told_after};
+ghost use Rattle.jpq_program.specs.Run.{ComesOf, IsAnsweredInPart, IsChecked, IsCheckedInPart, IsCheckRun, IsPrinted, IsShownInPartFor, LacksMemory, canonical_lines, is_colored, look_in, looked_at_in, names_in, opened_in, output_in, path_files_in, unit_in};
 
 use crate::answering::Answering;
 use crate::asked_path::AskedPath;
 use crate::colours::{Colours, Palette};
 use crate::documents::Documents;
+use crate::dress::Dress;
 use crate::empty_answer::Marks;
 use crate::inputs::Inputs;
 use crate::paths::asked_paths;
 use crate::patterns::no_pattern;
-use crate::showing::{Dress, Showing};
+use crate::showing::Showing;
 use crate::source::Heads;
 use crate::streams::{Next, OUTPUT_FAILED, REFUSED, SELECTED, Stop, Streams, WRONG_USE};
 use jpq_options::options::{Color, Options, Request, Shown, read};
@@ -129,10 +130,20 @@ fn output_of(options: &Options<'_>) -> Output
     }
 }
 
+/// So many spaces.
+fn spaces(alloc: Global, count: u64) -> Result<String, AllocError>
+    ensures { IfOk result (λ text. string_bytes text ≡ replicate count 32) }
+{
+    let mut text = String::new(alloc);
+    for done in 0..count {
+        text.push(' ')?;
+    }
+    Ok(text)
+}
+
 /// What a level is indented by, where the options say another than two spaces.
 fn indent_of(alloc: Global, options: &Options<'_>) -> Result<Option<String>, AllocError>
-    ensures { options.now.tab ≡ false → options.now.indent ≡ None
-        → IfOk result (λ unit. unit ≡ None) }
+    ensures { IfOk result (λ unit. option_map string_bytes unit ≡ unit_in options.now) }
 {
     if options.tab {
         return Ok(Some(String::from_str(alloc, "\t")?));
@@ -140,11 +151,7 @@ fn indent_of(alloc: Global, options: &Options<'_>) -> Result<Option<String>, All
     let Some(count) = options.indent else {
         return Ok(None);
     };
-    let mut unit = String::new(alloc);
-    for _ in 0..count {
-        unit.push(' ')?;
-    }
-    Ok(Some(unit))
+    Ok(Some(spaces(alloc, count)?))
 }
 
 /// What is written of where a node comes from, as the options say. A row has no more than they name.
@@ -180,6 +187,7 @@ fn palette_of<'a, W: Write, E: Write>(
 ) -> Option<Palette<'a>>
     ensures told { OnlyTells streams.old streams.new }
     ensures quiet { silent ≡ true → streams.new ≡ streams.old }
+    ensures none { colours.entry.palette ≡ None → result ≡ None }
 {
     let palette = Palette::of(colours.palette?);
     if palette.is_none() && !silent {
@@ -197,8 +205,10 @@ fn dress_of<'a, W: Write, E: Write>(
 ) -> Result<Option<Dress<'a>>, AllocError>
     ensures told { OnlyTells streams.old streams.new }
     ensures quiet { options.now.silent ≡ true → streams.new ≡ streams.old }
-    ensures plain { IsPlainRun options.now colours.entry.taken
-        → IfOk result (λ dress. dress ≡ None) }
+    ensures look { IfOk result (λ dress. look_with (output_in options.now) dress
+        ≡ look_in options.now colours.entry.taken) }
+    ensures usual { colours.entry.palette ≡ None
+        → IfOk result (λ dress. has_palette dress ≡ false) }
 {
     let indent = indent_of(alloc, options)?;
     let colored = is_colored(options, colours);
@@ -212,7 +222,6 @@ fn dress_of<'a, W: Write, E: Write>(
     };
     Ok(Some(Dress {
         alloc,
-        form: output_of(options).form,
         indent,
         ascii: options.ascii,
         colored,
@@ -331,16 +340,16 @@ fn answer_paths<I: Inputs, W: Write, E: Write>(
     ensures opens { OpensFirst (I.opened inputs.old) (I.opened inputs.new) (names_in options.now) }
     ensures all { IfOk result (λ next. next ≡ Next.More
         → Opens (I.opened inputs.old) (I.opened inputs.new) (names_in options.now)) }
-    ensures answered { IfOk result (λ next. IsKnownRun options.now colours.entry.taken
+    ensures answered { IfOk result (λ next. IsKnownRun options.now colours.entry
         → string_bytes streams.old.pending ≡ []
         → AreKnown (I.bytes_of inputs.old) (names_in options.now)
-        → SendsFor W.contents options.now next (map (λ path. path.path) paths.now)
+        → SendsFor W.contents options.now colours.entry.taken next (map (λ path. path.path) paths.now)
         (I.bytes_of inputs.old) streams.old streams.new) }
-    ensures begun { IsKnownRun options.now colours.entry.taken
+    ensures begun { IsKnownRun options.now colours.entry
         → string_bytes streams.old.pending ≡ []
         → AreKnown (I.bytes_of inputs.old) (names_in options.now)
         → Begins W.contents (AreInputsShown (IsShownInPartFor options.now
-        (map (λ path. path.path) paths.now)) options.now.lines (I.bytes_of inputs.old)
+        colours.entry.taken (map (λ path. path.path) paths.now)) options.now.lines (I.bytes_of inputs.old)
         (names_in options.now)) streams.old streams.new }
 {
     let store = PatternStore::new();
@@ -380,19 +389,19 @@ fn run_with<I: Inputs, W: Write, E: Write>(
     inputs: &mut I,
     streams: &mut Streams<W, E>,
 ) -> Result<Next, Stop>
-    ensures answered { IfOk result (λ next. IsKnownRun options.now colours.entry.taken
+    ensures answered { IfOk result (λ next. IsKnownRun options.now colours.entry
         → streams.old.outcome ≡ record { selected = false; refused = false }
         → string_bytes streams.old.pending ≡ []
         → AreKnown (I.bytes_of inputs.old) (path_files_in options.now)
         → AreKnown (I.bytes_of inputs.old) (names_in options.now)
-        → AnswersRun W.contents (I.bytes_of inputs.old) options.now next
-        streams.old streams.new) }
-    ensures in_part { IsKnownRun options.now colours.entry.taken
+        → AnswersRun W.contents (I.bytes_of inputs.old) options.now
+        colours.entry.taken next streams.old streams.new) }
+    ensures in_part { IsKnownRun options.now colours.entry
         → string_bytes streams.old.pending ≡ []
         → AreKnown (I.bytes_of inputs.old) (path_files_in options.now)
         → AreKnown (I.bytes_of inputs.old) (names_in options.now)
         → IsAnsweredInPart W.contents (I.bytes_of inputs.old) options.now
-        streams.old.out streams.new.out }
+        colours.entry.taken streams.old.out streams.new.out }
     ensures checked { IfOk result (λ _. IsCheckRun options.now
         → streams.old.outcome ≡ record { selected = false; refused = false }
         → string_bytes streams.old.pending ≡ []
@@ -496,7 +505,7 @@ pub fn run<I: Inputs, W: Write, E: Write>(
 ) -> u8
     ensures one_of { (result ≤ 3) ⊎ (result ≡ 64) }
     ensures comes { ((asked : input.Request) × AsksFor (map string_bytes words.now) asked
-        × ComesOf W.contents E.contents (I.bytes_of inputs.old) I.opened colours.entry.taken
+        × ComesOf W.contents E.contents (I.bytes_of inputs.old) I.opened colours.entry
         asked inputs.old inputs.new streams.old streams.new result)
         ⊎ LacksMemory E.contents inputs.old inputs.new streams.old streams.new result }
 {

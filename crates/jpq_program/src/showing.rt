@@ -1,43 +1,18 @@
-//! How nodes are shown: their lines and their objects, indented, escaped and coloured.
+//! How nodes are shown: their lines and their objects.
 
+ghost use Rattle.std.specs.Char.{encode_utf8};
 ghost use Rattle.std.specs.Prelude.{◌≡◌, OnOk, string_bytes, true};
 ghost use Rattle.serde_json_path_nodes.specs.Views.{located};
 ghost use Rattle.jsonpath_lines.specs.Inside.{Appends};
-ghost use Rattle.jsonpath_lines.specs.Output.{IsLine};
-ghost use Rattle.jpq_program.specs.Inside.{is_plain};
+ghost use Rattle.jsonpath_lines.specs.Output.{end_text};
+ghost use Rattle.jpq_program.specs.Inside.{is_plain, look_of};
+ghost use Rattle.jpq_program.specs.Looks.{IsLook};
 
-use crate::colours::{Palette, recolored};
-use jsonpath_lines::{Form, Layout, LineEnd, Output, colored, push_line};
+use crate::dress::{Dress, push_own_line};
+use jsonpath_lines::{Form, Layout, LineEnd, Output, push_line};
 use serde_json::Value;
 use serde_json_path::LocatedNode;
 use std::alloc::{AllocError, Global};
-
-/// Appends a node's line. Lines that are not shown as they are made, and values in objects, are made here, and not where each node
-/// passes, so that what is called there is inlined.
-#[inline(never)]
-fn push_own_line(
-    alloc: Global,
-    output: &Output,
-    to: &mut String,
-    node: &LocatedNode<'_>,
-) -> Result<(), AllocError> {
-    push_line(alloc, output, "", to, node)
-}
-
-/// How lines are dressed: indented by another unit, escaped and coloured.
-#[derive(Drop)]
-pub(crate) struct Dress<'a> {
-    pub(crate) alloc: Global,
-    pub(crate) form: Form,
-    /// What a level is indented by, where that is not two spaces.
-    pub(crate) indent: Option<String>,
-    /// Whether characters above U+007F are escaped.
-    pub(crate) ascii: bool,
-    /// Whether lines have colours.
-    pub(crate) colored: bool,
-    /// Which ones, where they are not the usual ones.
-    pub(crate) palette: Option<Palette<'a>>,
-}
 
 /// How nodes are shown.
 #[derive(Drop)]
@@ -49,47 +24,13 @@ pub(crate) struct Showing<'a> {
 }
 
 /// What ends a line.
-pub(crate) fn end_of(end: LineEnd) -> char {
+pub(crate) fn end_of(end: LineEnd) -> char
+    ensures { encode_utf8 result ≡ end_text end }
+{
     match end {
         LineEnd::LineFeed => '\n',
         LineEnd::Nul => '\0',
     }
-}
-
-/// JSON that is indented by two spaces a level, indented by a unit.
-fn indented_by(alloc: Global, json: &str, unit: &str) -> Result<String, AllocError> {
-    let mut text = String::new(alloc);
-    // How many spaces stand at the start of a line so far; none after another character.
-    let mut spaces = None;
-    for c in json.chars() {
-        match (c, spaces) {
-            (' ', Some(0u8)) => spaces = Some(1),
-            (' ', Some(_)) => {
-                text.push_str(unit)?;
-                spaces = Some(0);
-            }
-            _ => {
-                text.push(c)?;
-                spaces = if c == '\n' { Some(0) } else { None };
-            }
-        }
-    }
-    Ok(text)
-}
-
-/// JSON or a normalised path with an escape for each character above U+007F.
-fn escaped(alloc: Global, line: &str) -> Result<String, AllocError> {
-    let mut text = String::new(alloc);
-    for c in line.chars() {
-        if c.is_ascii() {
-            text.push(c)?;
-            continue;
-        }
-        for unit in c.encode_utf16(&mut [0; 2]).iter() {
-            write!(text, "\\u{unit:04x}")?;
-        }
-    }
-    Ok(text)
 }
 
 /// JSON with this after each line feed.
@@ -104,59 +45,6 @@ fn put_after_lines(alloc: Global, json: &str, more: &str) -> Result<String, Allo
     Ok(text)
 }
 
-impl Dress<'_> {
-    /// Whether a node is shown as JSON or as a normalised path, which have escapes.
-    fn has_escapes(&self, node: &LocatedNode<'_>) -> bool {
-        match (self.form, node.node()) {
-            (Form::Raw, Value::String(_)) | (Form::Pointer, _) => false,
-            _ => true,
-        }
-    }
-
-    /// A text of JSON, or of normalised paths, indented and escaped as is asked for.
-    fn dressed(&self, text: String) -> Result<String, AllocError> {
-        let text = match &self.indent {
-            Some(unit) => indented_by(self.alloc, text.as_str(), unit.as_str())?,
-            None => text,
-        };
-        if self.ascii {
-            return escaped(self.alloc, text.as_str());
-        }
-        Ok(text)
-    }
-
-    /// Appends a text in colours, if they are wanted. A text with an escape character of its own has the usual ones.
-    fn push_colored(&self, to: &mut String, text: &str) -> Result<(), AllocError> {
-        if !self.colored {
-            return to.push_str(text);
-        }
-        let line = colored(self.alloc, text, self.form)?;
-        match &self.palette {
-            Some(palette) if !text.contains('\u{1b}') => {
-                to.push_str(recolored(self.alloc, line.as_str(), palette)?.as_str())
-            }
-            _ => to.push_str(line.as_str()),
-        }
-    }
-
-    /// Appends a node's line, dressed, after a head.
-    fn push_line(
-        &self,
-        output: &Output,
-        to: &mut String,
-        head: &str,
-        node: &LocatedNode<'_>,
-    ) -> Result<(), AllocError> {
-        let mut line = String::new(self.alloc);
-        push_own_line(self.alloc, output, &mut line, node)?;
-        if self.has_escapes(node) {
-            line = self.dressed(line)?;
-        }
-        to.push_str(head)?;
-        self.push_colored(to, line.as_str())
-    }
-}
-
 impl Showing<'_> {
     /// Appends a node's line after a head.
     // Inlined: each node passes here.
@@ -167,7 +55,7 @@ impl Showing<'_> {
         head: &str,
         node: &LocatedNode<'_>,
     ) -> Result<(), AllocError>
-        ensures { is_plain self.now ≡ true → OnOk result (Appends (IsLine self.now.output head.now
+        ensures { is_plain self.now ≡ true → OnOk result (Appends (IsLook (look_of self.now) head.now
             (located node.now)) (string_bytes to.old) (string_bytes to.new)) }
     {
         match &self.dress {
@@ -215,7 +103,7 @@ impl Showing<'_> {
             None => to.push_str(object.as_str()),
             Some(dress) => {
                 let object = dress.dressed(object)?;
-                dress.push_colored(to, object.as_str())
+                dress.push_colored(to, object.as_str(), self.output.form)
             }
         }
     }

@@ -1,7 +1,14 @@
 //! Rows of tables: of each document one, with the first node of each path.
 
-ghost use Rattle.std.specs.Prelude.{◌≡◌, is_some};
+ghost use Rattle.std.specs.Prelude.{◌≡◌, ◌++◌, List, None, Some, IfOk, OnOk, is_some, map, string_bytes, true};
+ghost use Rattle.serde_json_path_core.specs.Inside.Words.{view, Located, OnlyMemoryOrPattern, Selects};
+ghost use Rattle.serde_json_path_functions.specs.Patterns.{builtin_functions};
+ghost use Rattle.serde_json_path.specs.Paths.{path_tree, with_rule_of};
 ghost use Rattle.jpq_options.specs.Options.{is_table};
+ghost use Rattle.serde_json.specs.Data.{Data};
+ghost use Rattle.jsonpath_lines.specs.Output.{end_text};
+ghost use Rattle.jpq_program.specs.Inside.{AnswersRow, AreShownAs, Finds, IsAsked, IsFirstOf, ShowsAs, cell_look, is_tsv};
+ghost use Rattle.jpq_program.specs.Rows.{IsCellInPart, IsCellOn, first_cells, row_text};
 
 use crate::answering::{Answering, Document};
 use crate::asked_path::AskedPath;
@@ -16,7 +23,8 @@ use std::io::Write;
 
 /// What stands between the cells of a row, where rows are shown.
 pub(crate) fn separator_of(shown: Shown) -> Option<Separator>
-    ensures { is_some result ≡ is_table shown }
+    ensures some { is_some result ≡ is_table shown }
+    ensures tab { is_tsv shown ≡ true → result ≡ Some Separator.Tab }
 {
     match shown {
         Shown::Tsv => Some(Separator::Tab),
@@ -27,7 +35,13 @@ pub(crate) fn separator_of(shown: Shown) -> Option<Separator>
 
 impl Answering<'_> {
     /// The first node of a path in a document, as a cell, and whether there are more.
-    fn first_node(&self, path: &AskedPath, document: &Value) -> Result<FirstNode, QueryError> {
+    fn first_node(&self, path: &AskedPath, document: &Value) -> Result<FirstNode, QueryError>
+        ensures found { IfOk result (λ first. (nodes : List Located)
+            × Selects (with_rule_of path.now.path builtin_functions) (path_tree path.now.path)
+            (view document.now) nodes × IsFirstOf nodes first.cell) }
+        ensures refused { OnlyMemoryOrPattern (with_rule_of path.now.path builtin_functions)
+            (path_tree path.now.path) (view document.now) result }
+    {
         let mut first = FirstNode {
             alloc: self.alloc,
             cell: None,
@@ -39,22 +53,37 @@ impl Answering<'_> {
         Ok(first)
     }
 
-    /// The same of a path of which a pattern was refused, on the whole document.
-    fn first_node_of_whole(&self, path: &AskedPath, bytes: &[u8]) -> Result<FirstNode, QueryError> {
-        match read_document(self.alloc, bytes) {
-            Ok(document) => self.first_node(path, &document),
-            Err(_) => Err(QueryError::Memory),
+    /// The same of a document. Where a pattern is refused, the whole document is asked, so that what is told is true of that.
+    fn first_of(&self, path: &AskedPath, document: Document<'_>) -> Result<FirstNode, QueryError>
+        ensures { IfOk result (λ first. (d : Data) × (nodes : List Located)
+            × IsAsked document.entry.bytes.now (view document.entry.value.now) d
+            × Selects (with_rule_of path.now.path builtin_functions) (path_tree path.now.path)
+            d nodes × IsFirstOf nodes first.cell) }
+    {
+        match self.first_node(path, document.value) {
+            Err(QueryError::Pattern) => match read_document(self.alloc, document.bytes) {
+                Ok(whole) => self.first_node(path, &whole),
+                Err(_) => Err(QueryError::Memory),
+            },
+            answer => answer,
         }
     }
 
-    /// Tells, once for a run, that a path selects several nodes of a document, of which a table has the first.
+    /// Tells, once for a run, where a path selects several nodes of a document, of which a table has the first.
     fn tell_several<W: Write, E: Write>(
         &self,
+        are_several: bool,
         source: Source<'_>,
         path: &AskedPath,
         streams: &mut Streams<W, E>,
-    ) -> Result<(), Stop> {
-        if streams.told_several || self.silent {
+    ) -> Result<(), Stop>
+        ensures told { streams.new ≡ record streams.old {
+          err = streams.new.err;
+          told_several = streams.new.told_several;
+        } }
+        ensures quiet { self.now.silent ≡ true → streams.new.err ≡ streams.old.err }
+    {
+        if !are_several || streams.told_several || self.silent {
             return Ok(());
         }
         streams.told_several = true;
@@ -72,23 +101,26 @@ impl Answering<'_> {
         document: Document<'_>,
         path: &AskedPath,
         streams: &mut Streams<W, E>,
-    ) -> Result<String, Stop> {
-        let answer = match self.first_node(path, document.value) {
-            Err(QueryError::Pattern) => self.first_node_of_whole(path, document.bytes),
-            answer => answer,
-        };
-        let first = match answer {
+    ) -> Result<String, Stop>
+        ensures found { IfOk result (λ cell. ShowsAs cell_look document.entry.bytes.now
+            (view document.entry.value.now) path.now.path → streams.old.left ≡ None
+            → Finds self.now.silent
+            (IsCellOn builtin_functions document.entry.bytes.now path.now.path (string_bytes cell))
+            (IsCellInPart builtin_functions document.entry.bytes.now path.now.path
+            (string_bytes cell)) streams.old streams.new) }
+        ensures unwritten { (streams.new.out ≡ streams.old.out)
+            × (streams.new.pending ≡ streams.old.pending) }
+    {
+        let mut first = match self.first_of(path, document) {
             Ok(first) => first,
             Err(e) => {
                 self.refuse_query(document.source, path, e, streams)?;
                 return Ok(String::new(self.alloc));
             }
         };
-        if first.has_more {
-            self.tell_several(document.source, path, streams)?;
-        }
+        self.tell_several(first.has_more, document.source, path, streams)?;
         streams.may_be_inexact |= first.may_be_inexact;
-        match first.cell {
+        match first.cell.take() {
             Some(cell) => {
                 self.keep_count(1, streams);
                 Ok(cell)
@@ -97,20 +129,37 @@ impl Answering<'_> {
         }
     }
 
+    /// The cells before those of the paths.
+    fn first_cells(&self, source: Source<'_>) -> Result<Vec<String>, Stop>
+        ensures { IfOk result (λ cells. map string_bytes cells.items
+            ≡ first_cells self.now.heads.file self.now.heads.line source.entry.name.now
+            source.entry.line) }
+    {
+        let mut cells = Vec::new(self.alloc);
+        if self.heads.file {
+            cells.push(String::from_str(self.alloc, shown_name(source.name))?)?;
+        }
+        if self.heads.line {
+            cells.push(format!(in self.alloc; "{}", source.line)?)?;
+        }
+        Ok(cells)
+    }
+
     /// Writes a document's row.
     pub(crate) fn answer_row<W: Write, E: Write>(
         &self,
         separator: Separator,
         document: Document<'_>,
         streams: &mut Streams<W, E>,
-    ) -> Result<(), Stop> {
-        let mut cells = Vec::new(self.alloc);
-        if self.heads.file {
-            cells.push(String::from_str(self.alloc, shown_name(document.source.name))?)?;
-        }
-        if self.heads.line {
-            cells.push(format!(in self.alloc; "{}", document.source.line)?)?;
-        }
+    ) -> Result<(), Stop>
+        ensures answered { IfOk result (λ _. separator ≡ Separator.Tab
+            → AreShownAs cell_look document.entry.bytes.now (view document.entry.value.now)
+            self.now.paths.now → streams.old.left ≡ None
+            → AnswersRow W.contents self.now document.entry.source.name.now
+            document.entry.source.line document.entry.bytes.now streams.old streams.new) }
+        ensures unwritten { streams.new.out ≡ streams.old.out }
+    {
+        let mut cells = self.first_cells(document.source)?;
         for path in self.paths {
             cells.push(self.cell(document, path, streams)?)?;
         }
@@ -123,7 +172,12 @@ impl Answering<'_> {
         separator: Separator,
         cells: &[String],
         streams: &mut Streams<W, E>,
-    ) -> Result<(), Stop> {
+    ) -> Result<(), Stop>
+        ensures kept { streams.new ≡ record streams.old { pending = streams.new.pending } }
+        ensures row { separator ≡ Separator.Tab → OnOk result (string_bytes streams.new.pending
+            ≡ string_bytes streams.old.pending
+            ++ (row_text (map string_bytes cells.now) ++ end_text self.now.showing.output.end)) }
+    {
         let end = self.showing.output.end;
         push_row(self.alloc, &mut streams.pending, separator, end, cells)?;
         Ok(())

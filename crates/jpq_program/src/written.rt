@@ -5,8 +5,7 @@ ghost use Rattle.serde_json_path_nodes.specs.Location.{Located};
 ghost use Rattle.serde_json_path_nodes.specs.Views.{located};
 ghost use Rattle.serde_json_path_core.specs.Selects.{OnlyMemoryOrPattern};
 ghost use Rattle.serde_json_path_core.specs.Walks.{document_of, query_of, rest, set_of};
-ghost use Rattle.jsonpath_lines.specs.Inside.{Appends, is_reached};
-ghost use Rattle.jsonpath_lines.specs.Output.{IsLine};
+ghost use Rattle.jsonpath_lines.specs.Inside.{is_reached};
 ghost use Rattle.jpq_program.specs.Inside.{BeginsFirst, BeginsNodes, FilledNodes, OnlyPends, PendsLine, TookFirst, TookNodes, WritesNode, shows_lines};
 
 use crate::inexact::may_be_inexact;

@@ -1,5 +1,5 @@
 -- What is shown of the two files.
-use Rattle.std.specs.Prelude.{◌≡◌, ◌≤◌, ◌++◌, ◌&&◌, ◌||◌, not, ℕ, Bool, true, false, List, [], ◌∷◌, Option, None, Some, codes, if◌then◌else◌, length, map, nat_eq, nat_lt}
+use Rattle.std.specs.Prelude.{◌≡◌, ◌≤◌, ◌++◌, ◌&&◌, ◌||◌, not, ℕ, Bool, true, false, List, [], ◌∷◌, Option, None, Some, codes, if◌then◌else◌, length, map, MatchBool, nat_eq, nat_lt, option_map, replicate}
 use Rattle.std.specs.List.{flat_map}
 use Rattle.std.proofs.Common.{ap, append-nil, arith, refl, suc, subst, sym, zero, ◌∙◌}
 use Rattle.std.specs.Borrow.{Bor}
@@ -16,20 +16,21 @@ use Rattle.serde_json_path_functions.specs.Patterns.{builtin_functions}
 use Rattle.serde_json_path_syntax.proofs.Words.{length-map}
 use Rattle.serde_json_path.specs.Laws.{IsNormal, Normal}
 use Rattle.serde_json_path.specs.declared.path.JsonPath.{JsonPath}
-use Rattle.jsonpath_lines.specs.Output.{compact_lines}
-use Rattle.jsonpath_lines.specs.declared.forms.Form.TheVariants.{LocationAndValue}
-use Rattle.jsonpath_lines.specs.declared.forms.Output.{Output}
 use Rattle.jpq_options.specs.Options.{AsksFor}
 use Rattle.jpq_options.specs.declared.options.Options.{Options}
 use Rattle.jpq_options.specs.declared.options.Request.{Request}
 use Rattle.jpq_program.specs.Answers.{AreAnswersOn, IsAnswerOn}
 use Rattle.jpq_program.specs.Heads.{head_text}
+use Rattle.jpq_options.specs.Options.{is_table}
+use Rattle.jpq_program.specs.Looks.{Look}
+use Rattle.jpq_program.specs.Rows.{IsRowOn, first_cells}
+use Rattle.jpq_program.specs.declared.colours.Colours.{Colours}
 use Rattle.jpq_program.specs.Inputs.{AreInputsShown, AreKnown, IsInputShown, IsLineShown, IsNamedShown, Opens, Shown}
-use Rattle.jpq_program.specs.Run.{ArePaths, ComesOf, IsPathOf, IsPlainRun, IsShownFor, form_in, known_bytes, path_texts, texts_in_file, has_names, has_numbers, is_colored, is_each, names_in, opened_in, output_in, rule_in}
+use Rattle.jpq_program.specs.Run.{ArePaths, ComesOf, IsPathOf, IsPlainRun, IsShownFor, form_in, known_bytes, path_texts, texts_in_file, has_names, has_numbers, is_colored, is_each, look_in, names_in, opened_in, rule_in}
 use Rattle.jpq_program.specs.declared.streams.Streams.{Streams}
 use Rattle.std.specs.Io.KnownBytes.{Appends}
 use Rattle.program_tests.proofs.AskedWords.{OptionsAre, asks_for_run, words}
-use Rattle.program_tests.proofs.TwoItems.{ResultIsUnique, answer_is, line_to, two_each}
+use Rattle.program_tests.proofs.TwoItems.{ResultIsUnique, answer_is, line_to, plain, two_each}
 
 -- ---- the documents
 
@@ -67,11 +68,11 @@ bytes_of name = if bytes_eq name (codes "one") then Some one else if bytes_eq na
 -- ---- what is shown of them
 
 -- lines for these paths, with heads as these say
-abbrev Shows : Output → Bool → Bool → Bool → List JsonPath → Shown
-Shows output names lines numbers paths name line bytes text any = AreAnswersOn builtin_functions paths output (head_text names lines numbers name line) bytes text any
+abbrev Shows : Look → Bool → Bool → Bool → List JsonPath → Shown
+Shows look names lines numbers paths name line bytes text any = AreAnswersOn builtin_functions paths look (head_text names lines numbers name line) bytes text any
 
 abbrev ShowsBoth : JsonPath → JsonPath → Shown
-ShowsBoth p q = Shows (compact_lines LocationAndValue) true false true (p ∷ q ∷ [])
+ShowsBoth p q = Shows plain true false true (p ∷ q ∷ [])
 
 abbrev lines_for : List ℕ → ℕ → ℕ → List ℕ
 lines_for name a b = line_to (head_text true false true name 1 1) to_a (number (unsigned a)) ++ line_to (head_text true false true name 1 2) to_b (number (unsigned b))
@@ -88,7 +89,7 @@ pub record ArePathsTo (p q : JsonPath) : Type 0 where
 document_shown : (p q : JsonPath) (name : List ℕ) (line : ℕ) (bytes text : List ℕ) (any : Bool) (a b : ℕ) → ArePathsTo p q → read bytes ≡ Some (document a b) → ShowsBoth p q name line bytes text any
     → (text ≡ lines_for name a b) × (any ≡ true)
 document_shown p q name line bytes text any a b paths reads are =
-    two_each (λ (count : ℕ) (path : JsonPath). IsAnswerOn builtin_functions path (compact_lines LocationAndValue) (head_text true false true name line count) bytes) 1 p q
+    two_each (λ (count : ℕ) (path : JsonPath). IsAnswerOn builtin_functions path plain (head_text true false true name line count) bytes) 1 p q
     (line_to (head_text true false true name line 1) to_a (number (unsigned a))) (line_to (head_text true false true name line 2) to_b (number (unsigned b))) text true true any
     (λ t s is. answer_is to_a paths.rule builtin_functions p (head_text true false true name line 1) bytes t s (document a b) (number (unsigned a)) paths.normal_a paths.unique paths.first reads refl refl is)
     (λ t s is. answer_is to_b paths.rule builtin_functions q (head_text true false true name line 2) bytes t s (document a b) (number (unsigned b)) paths.normal_b paths.unique paths.second reads refl refl is) are
@@ -131,8 +132,8 @@ nothing_in : (list : List (Bor (List ℕ))) → map (λ s. s.now) list ≡ [] �
 nothing_in [] is = refl
 nothing_in (x ∷ xs) is = absurd cc
 
-pub is_plain : (o : Options) → OptionsAre o → IsPlainRun o false
-is_plain o are = record {
+pub is_plain : (o : Options) (colours : Colours) → colours.palette ≡ None → OptionsAre o → IsPlainRun o colours
+is_plain o colours usual are = record {
   usual = record {
     header = are.header;
     total = are.total;
@@ -141,10 +142,7 @@ is_plain o are = record {
     check = are.check;
   };
   each = ap is_each are.shown;
-  indent = are.indent;
-  tab = are.tab;
-  ascii = are.ascii;
-  colored = ap (λ c. is_colored c false) are.color;
+  palette = usual;
 }
 
 two_named : (o : Options) → OptionsAre o → length o.files.items ≡ 2
@@ -153,25 +151,35 @@ two_named o are = sym (length-map o.files.items (λ (s : Bor (List ℕ)). s.now)
 pub names_are : (o : Options) → OptionsAre o → names_in o ≡ codes "one" ∷ codes "two" ∷ []
 names_are o are = λ i. if nat_eq (two_named o are i) 0 then codes "-" ∷ [] else are.files i
 
-output_is : (o : Options) → OptionsAre o → output_in o ≡ compact_lines LocationAndValue
-output_is o are = λ i. record { form = form_in (are.shown i); layout = are.layout i; end = are.end i; unique = are.unique i; most = are.most i }
+look_is : (o : Options) → OptionsAre o → look_in o false ≡ plain
+look_is o are = λ i. record {
+  output = record { form = form_in (are.shown i); layout = are.layout i; end = are.end i; unique = are.unique i; most = are.most i };
+  unit = if are.tab i then Some (codes "\t") else option_map (λ count. replicate count 32) (are.indent i);
+  ascii = are.ascii i;
+  colored = is_colored (are.color i) false;
+}
 
 has_names_is : (o : Options) → OptionsAre o → has_names o ≡ true
-has_names_is o are = λ i. are.with_filename i || (nat_lt 1 (two_named o are i) && not (are.no_filename i))
+has_names_is o are = λ i. are.with_filename i || (nat_lt 1 (two_named o are i) && (not (are.no_filename i) && not (is_table (are.shown i))))
 
 has_numbers_is : (o : Options) → OptionsAre o → has_numbers o 2 ≡ true
-has_numbers_is o are = λ i. nat_lt 1 2 && not (are.no_path_number i)
+has_numbers_is o are = λ i. nat_lt 1 2 && (not (are.no_path_number i) && not (is_table (are.shown i)))
 
 -- what is shown for two paths by these options is what is written
-pub run_shown : (o : Options) (p q : JsonPath) (known : List ℕ → Option (List ℕ)) (text : List ℕ) (any : Bool) → OptionsAre o → ArePathsTo p q → known (codes "one") ≡ Some one → known (codes "two") ≡ Some two
-    → AreInputsShown (IsShownFor o (p ∷ q ∷ [])) o.lines known (names_in o) text any → (text ≡ written) × (any ≡ true)
-run_shown o p q known text any are paths is_one is_two shown = files_shown p q known text any paths is_one is_two
+pub run_shown : (o : Options) (taken : Bool) (p q : JsonPath) (known : List ℕ → Option (List ℕ)) (text : List ℕ) (any : Bool) → taken ≡ false → OptionsAre o → ArePathsTo p q → known (codes "one") ≡ Some one → known (codes "two") ≡ Some two
+    → AreInputsShown (IsShownFor o taken (p ∷ q ∷ [])) o.lines known (names_in o) text any → (text ≡ written) × (any ≡ true)
+run_shown o taken p q known text any none are paths is_one is_two shown = files_shown p q known text any paths is_one is_two
     (subst (λ (names : List (List ℕ)). AreInputsShown (ShowsBoth p q) true known names text any) (names_are o are)
     (subst (λ (lines : Bool). AreInputsShown (ShowsBoth p q) lines known (names_in o) text any) are.lines
-    (subst (λ (numbers : Bool). AreInputsShown (Shows (compact_lines LocationAndValue) true false numbers (p ∷ q ∷ [])) o.lines known (names_in o) text any) (has_numbers_is o are)
-    (subst (λ (lines : Bool). AreInputsShown (Shows (compact_lines LocationAndValue) true lines (has_numbers o 2) (p ∷ q ∷ [])) o.lines known (names_in o) text any) are.line_number
-    (subst (λ (names : Bool). AreInputsShown (Shows (compact_lines LocationAndValue) names o.line_number (has_numbers o 2) (p ∷ q ∷ [])) o.lines known (names_in o) text any) (has_names_is o are)
-    (subst (λ (output : Output). AreInputsShown (Shows output (has_names o) o.line_number (has_numbers o 2) (p ∷ q ∷ [])) o.lines known (names_in o) text any) (output_is o are) shown))))))
+    (subst (λ (numbers : Bool). AreInputsShown (Shows plain true false numbers (p ∷ q ∷ [])) o.lines known (names_in o) text any) (has_numbers_is o are)
+    (subst (λ (lines : Bool). AreInputsShown (Shows plain true lines (has_numbers o 2) (p ∷ q ∷ [])) o.lines known (names_in o) text any) are.line_number
+    (subst (λ (names : Bool). AreInputsShown (Shows plain names o.line_number (has_numbers o 2) (p ∷ q ∷ [])) o.lines known (names_in o) text any) (has_names_is o are)
+    (subst (λ (look : Look). AreInputsShown (Shows look (has_names o) o.line_number (has_numbers o 2) (p ∷ q ∷ [])) o.lines known (names_in o) text any) (ap (look_in o) none ∙ look_is o are)
+    (subst (λ (table : Bool). AreInputsShown (by_table table) o.lines known (names_in o) text any) (ap is_table are.shown) shown)))))))
+  where
+    by_table : Bool → Shown
+    by_table table name line bytes text any = MatchBool table (IsRowOn builtin_functions (p ∷ q ∷ []) o.end (first_cells (has_names o) o.line_number name line) bytes text any)
+        (Shows (look_in o taken) (has_names o) o.line_number (has_numbers o 2) (p ∷ q ∷ []) name line bytes text any)
 
 -- two texts were read as two paths
 pub two_paths : (rule : Numbers) (texts : List (List ℕ)) (paths : List JsonPath) (a b : List ℕ) → texts ≡ a ∷ b ∷ [] → ArePaths rule texts paths → (p q : JsonPath) × (paths ≡ p ∷ q ∷ []) × IsPathOf rule a p × IsPathOf rule b q
@@ -222,18 +230,18 @@ unfolding chars encode_utf8 in_decimal
 text_of_b = refl
 
 -- what comes of words that ask for the run
-pub run_comes : {I W E : Type 0} (out : W → Option (List ℕ)) (err : E → Option (List ℕ)) (known : List ℕ → Option (List ℕ)) (opened : I → Option (List (List ℕ))) (asked : Request) (inputs later : I) (before after : Streams W E) (status : ℕ) → Normal → ResultIsUnique
-    → AsksFor words asked → ComesOf out err known opened false asked inputs later before after status → known (codes "one") ≡ Some one → known (codes "two") ≡ Some two → status ≤ 1
+pub run_comes : {I W E : Type 0} (out : W → Option (List ℕ)) (err : E → Option (List ℕ)) (known : List ℕ → Option (List ℕ)) (opened : I → Option (List (List ℕ))) (colours : Colours) (asked : Request) (inputs later : I) (before after : Streams W E) (status : ℕ) → colours.taken ≡ false → colours.palette ≡ None → Normal → ResultIsUnique
+    → AsksFor words asked → ComesOf out err known opened colours asked inputs later before after status → known (codes "one") ≡ Some one → known (codes "two") ≡ Some two → status ≤ 1
     → (status ≡ 0) × Appends (out before.out) (out after.out) written × Opens (opened inputs) (opened later) (codes "one" ∷ codes "two" ∷ [])
 unfolding encode_utf8
-run_comes {I} {W} {E} out err known opened asked inputs later before after status normal_law unique asks comes is_one is_two few =
+run_comes {I} {W} {E} out err known opened colours asked inputs later before after status none usual normal_law unique asks comes is_one is_two few =
     let run = asks_for_run asked asks in
     let o = run.0 in
     let are = run.2 in
-    let came = subst (λ (a : Request). ComesOf out err known opened false a inputs later before after status) run.1 comes in
+    let came = subst (λ (a : Request). ComesOf out err known opened colours a inputs later before after status) run.1 comes in
     let files_known = subst (λ (files : List (List ℕ)). AreKnown known files) (sym are.paths_files) (none_known known) in
     let are_known = subst (λ (names : List (List ℕ)). AreKnown known names) (sym (names_are o are)) (both_known known is_one is_two) in
-    let ended = (came.1 (is_plain o are) files_known are_known).0 few in
+    let ended = (came.1 (is_plain o colours usual are) files_known are_known).0 few in
     let answered = ended.0 in
     let both = two_paths (rule_in o) (path_texts known o) answered.paths (codes "$['a']") (codes "$['b'][0]") (texts_are known o are) answered.are in
     let paths : ArePathsTo both.0 both.1 = record {
@@ -244,8 +252,8 @@ run_comes {I} {W} {E} out err known opened asked inputs later before after statu
       normal_b = normal_law to_b ((98 ∷ [], (refl, refl)), tt) (grind arith, tt);
       unique = unique;
     } in
-    let shown = run_shown o both.0 both.1 known answered.text answered.any are paths is_one is_two
-    (subst (λ (ps : List JsonPath). AreInputsShown (IsShownFor o ps) o.lines known (names_in o) answered.text answered.any) both.2 answered.shown) in (
+    let shown = run_shown o colours.taken both.0 both.1 known answered.text answered.any none are paths is_one is_two
+    (subst (λ (ps : List JsonPath). AreInputsShown (IsShownFor o colours.taken ps) o.lines known (names_in o) answered.text answered.any) both.2 answered.shown) in (
       answered.ends ∙ ap (λ (any : Bool). if any then 0 else 1) shown.1,
       subst (λ (text : List ℕ). Appends (out before.out) (out after.out) text) shown.0 answered.out,
       subst (Opens (opened inputs) (opened later)) (opened_are o are) ended.1,

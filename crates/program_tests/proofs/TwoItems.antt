@@ -1,5 +1,5 @@
 -- What is shown of lists of two, and of a document by a normalised path.
-use Rattle.std.specs.Prelude.{◌≡◌, ◌+◌, ◌++◌, ◌||◌, ℕ, Bool, true, false, List, [], ◌∷◌, Some, codes, length, nat_lt}
+use Rattle.std.specs.Prelude.{◌≡◌, ◌+◌, ◌++◌, ◌||◌, ℕ, Bool, true, false, List, [], ◌∷◌, None, Some, codes, length, nat_lt}
 use Rattle.std.proofs.Common.{ap, refl, subst, sym, ◌∙◌}
 use Rattle.serde_json.specs.Data.{Data}
 use Rattle.serde_json.specs.Read.{read}
@@ -13,9 +13,10 @@ use Rattle.serde_json_path_core.specs.Meaning.{IsResult}
 use Rattle.serde_json_path.specs.Laws.{IsNormal, tree_to}
 use Rattle.serde_json_path.specs.Paths.{path_tree, with_rule_of}
 use Rattle.serde_json_path.specs.declared.path.JsonPath.{JsonPath}
-use Rattle.jsonpath_lines.specs.Output.{IsLineOfEach, compact_lines}
+use Rattle.jsonpath_lines.specs.Output.{compact_lines}
 use Rattle.jsonpath_lines.specs.declared.forms.Form.TheVariants.{LocationAndValue}
 use Rattle.jpq_program.specs.Answers.{AreEach, IsAnswerOn}
+use Rattle.jpq_program.specs.Looks.{IsLookOfEach, Look}
 use Rattle.jpq_program.specs.Run.{IsPathOf}
 use Rattle.jsonpath_lines.proofs.Words.{append-nil}
 
@@ -39,6 +40,10 @@ two_each Is number one other first second text is also any front back are =
       are.7 ∙ ap (λ b. b || are.3) here.1 ∙ ap (λ b. is || b) (later.7 ∙ ap (λ b. b || later.3) there.1 ∙ ap (λ b. also || b) later.5.1 ∙ sym (or_false also)),
     )
 
+-- lines with location and value, as they are made
+abbrev pub plain : Look
+plain = record { output = compact_lines LocationAndValue; unit = None; ascii = false; colored = false }
+
 -- the line of a node by a path to it, after a head
 abbrev pub line_to : List ℕ → List Step → Data → List ℕ
 line_to head location v = head ++ ((normal location ++ (codes "\t" ++ compact_text v)) ++ codes "\n")
@@ -48,7 +53,7 @@ same_document d e same = cc
 
 -- what is shown of a document by the normalised path of a node without doubles
 pub answer_is : (location : List Step) (rule : Numbers) (F : FunctionSet) (path : JsonPath) (head bytes text : List ℕ) (any : Bool) (d v : Data) → IsNormal location → ResultIsUnique → IsPathOf rule (normal location) path
-    → read bytes ≡ Some d → at d location ≡ Some v → has_float v ≡ false → IsAnswerOn F path (compact_lines LocationAndValue) head bytes text any → (text ≡ line_to head location v) × (any ≡ true)
+    → read bytes ≡ Some d → at d location ≡ Some v → has_float v ≡ false → IsAnswerOn F path plain head bytes text any → (text ≡ line_to head location v) × (any ≡ true)
 answer_is location rule F path head bytes text any d v law unique parsed reads there whole shown =
     let is = shown.2 in
     let tree : tree_to location ≡ path_tree path = parsed.only (tree_to location) (law.accepted rule builtin_functions.signature) in
@@ -57,12 +62,13 @@ answer_is location rule F path head bytes text any d v law unique parsed reads t
     let result : IsResult (with_rule_of path F) d (path_tree path) d (node ∷ []) = subst (λ q. IsResult (with_rule_of path F) d q d (node ∷ [])) tree (law.selects (with_rule_of path F) d v there) in
     let found : IsResult (with_rule_of path F) d (path_tree path) d is.0 = subst (λ own. IsResult (with_rule_of path F) own (path_tree path) own is.0) same is.1 in
     let only : is.0 ≡ node ∷ [] = unique (with_rule_of path F) d (path_tree path) d is.0 (node ∷ []) found result in
-    let line : IsLineOfEach (compact_lines LocationAndValue) head (node ∷ []) text = subst (λ ns. IsLineOfEach (compact_lines LocationAndValue) head ns text) only is.2 in (
+    let line : IsLookOfEach plain head (node ∷ []) text = subst (λ ns. IsLookOfEach plain head ns text) only is.2 in (
       line_is node text whole line,
       is.3 ∙ ap (λ (ns : List Located). nat_lt 0 (length ns)) only,
     )
   where
-    line_is : (node : Located) (text : List ℕ) → has_float node.value ≡ false → IsLineOfEach (compact_lines LocationAndValue) head (node ∷ []) text → text ≡ line_to head node.location node.value
+    line_is : (node : Located) (text : List ℕ) → has_float node.value ≡ false → IsLookOfEach plain head (node ∷ []) text → text ≡ line_to head node.location node.value
     line_is node text whole h =
-        h.4 ∙ ap (λ rest. h.0 ++ rest) h.3 ∙ append-nil h.0 ∙ h.2.2
-        ∙ ap (λ t. head ++ (t ++ codes "\n")) (h.2.1.2 ∙ ap (λ json. normal node.location ++ (codes "\t" ++ json)) (h.2.1.1.0 whole))
+        let own = h.2 in
+        h.4 ∙ ap (λ rest. h.0 ++ rest) h.3 ∙ append-nil h.0 ∙ own.4 ∙ ap (λ seen. head ++ seen) (own.3 ∙ own.2.2)
+        ∙ ap (λ t. head ++ (t ++ codes "\n")) (own.2.1.2 ∙ ap (λ json. normal node.location ++ (codes "\t" ++ json)) (own.2.1.1.0 whole))

@@ -10,14 +10,14 @@ returns-clause-answered g c = λ run fresh empty files known.
     let ended = c.hint_at_nothing.ensures.told in
     let same : g.I.Inputs.bytes_of c.asked_paths.new.inputs ≡ g.I.Inputs.bytes_of c.args.inputs.now = λ i name. c.in_ok-paths.ensures.same name i in
     let nothing = ap (λ (s : Streams g.row.W.Denot g.row.E.Denot). string_bytes s.pending) hinted ∙ ap (λ (s : Streams g.row.W.Denot g.row.E.Denot). string_bytes s.pending) asked ∙ empty in
-    let are = c.in_ok-paths.ensures.read (usual_of c.args.options.now c.args.colours.taken run).bindings files in
-    run_answered g.W.Write.contents (g.I.Inputs.bytes_of c.args.inputs.now) c.args.options.now c.in_ok-next.next c.deref-2.result.now c.args.streams.now c.hint_at_patterns.new.streams c.answer_paths.new.streams c.hint_at_nothing.new.streams
+    let are = c.in_ok-paths.ensures.read (usual_of c.args.options.now c.args.colours run).bindings files in
+    run_answered g.W.Write.contents (g.I.Inputs.bytes_of c.args.inputs.now) c.args.options.now c.args.colours.taken c.in_ok-next.next c.deref-2.result.now c.args.streams.now c.hint_at_patterns.new.streams c.answer_paths.new.streams c.hint_at_nothing.new.streams
     (subst (λ (paths : List AskedPath). ArePaths (rule_in c.args.options.now) (path_texts (g.I.Inputs.bytes_of c.args.inputs.now) c.args.options.now) (map (λ (path : AskedPath). path.path) paths)) (sym c.deref-2.ensures.value) are)
     fresh (ap (λ (s : Streams g.row.W.Denot g.row.E.Denot). s.out) hinted ∙ ap (λ (s : Streams g.row.W.Denot g.row.E.Denot). s.out) asked)
     (ap (λ (s : Streams g.row.W.Denot g.row.E.Denot). s.outcome) hinted ∙ ap (λ (s : Streams g.row.W.Denot g.row.E.Denot). s.outcome) asked) nothing
     (ap (λ (s : Streams g.row.W.Denot g.row.E.Denot). s.out) ended) (ap (λ (s : Streams g.row.W.Denot g.row.E.Denot). s.outcome) ended)
     (λ silent. (ap (λ (s : Streams g.row.W.Denot g.row.E.Denot). s.err) (c.hint_at_patterns.ensures.quiet silent ∙ asked), ap (λ (s : Streams g.row.W.Denot g.row.E.Denot). s.err) (c.hint_at_nothing.ensures.quiet silent)))
-    (subst (λ (bytes_of : List ℕ → Option (List ℕ)). SendsFor g.W.Write.contents c.args.options.now c.in_ok-next.next (map (λ (path : AskedPath). path.path) c.deref-2.result.now) bytes_of c.hint_at_patterns.new.streams c.answer_paths.new.streams) same
+    (subst (λ (bytes_of : List ℕ → Option (List ℕ)). SendsFor g.W.Write.contents c.args.options.now c.args.colours.taken c.in_ok-next.next (map (λ (path : AskedPath). path.path) c.deref-2.result.now) bytes_of c.hint_at_patterns.new.streams c.answer_paths.new.streams) same
     (c.in_ok-next.ensures.answered run nothing (subst (λ (bytes_of : List ℕ → Option (List ℕ)). AreKnown bytes_of (names_in c.args.options.now)) (sym same) known)))
 
 pub returns-clause-all : goal.returns-clause-all
@@ -32,10 +32,10 @@ returns-clause-in_part g c = λ run empty files known.
     let hinted = c.hint_at_patterns.ensures.told in
     let same : g.I.Inputs.bytes_of c.asked_paths.new.inputs ≡ g.I.Inputs.bytes_of c.args.inputs.now = λ i name. c.in_ok-paths.ensures.same name i in
     let nothing = ap (λ (s : Streams g.row.W.Denot g.row.E.Denot). string_bytes s.pending) hinted ∙ ap (λ (s : Streams g.row.W.Denot g.row.E.Denot). string_bytes s.pending) asked ∙ empty in
-    run_begun g.W.Write.contents (g.I.Inputs.bytes_of c.args.inputs.now) c.args.options.now c.deref-2.result.now c.args.streams.now c.hint_at_patterns.new.streams c.answer_paths.new.streams c.hint_at_nothing.new.streams
-    (subst (λ (paths : List AskedPath). ArePaths (rule_in c.args.options.now) (path_texts (g.I.Inputs.bytes_of c.args.inputs.now) c.args.options.now) (map (λ (path : AskedPath). path.path) paths)) (sym c.deref-2.ensures.value) (c.in_ok-paths.ensures.read (usual_of c.args.options.now c.args.colours.taken run).bindings files))
+    run_begun g.W.Write.contents (g.I.Inputs.bytes_of c.args.inputs.now) c.args.options.now c.args.colours.taken c.deref-2.result.now c.args.streams.now c.hint_at_patterns.new.streams c.answer_paths.new.streams c.hint_at_nothing.new.streams
+    (subst (λ (paths : List AskedPath). ArePaths (rule_in c.args.options.now) (path_texts (g.I.Inputs.bytes_of c.args.inputs.now) c.args.options.now) (map (λ (path : AskedPath). path.path) paths)) (sym c.deref-2.ensures.value) (c.in_ok-paths.ensures.read (usual_of c.args.options.now c.args.colours run).bindings files))
     (ap (λ (s : Streams g.row.W.Denot g.row.E.Denot). s.out) hinted ∙ ap (λ (s : Streams g.row.W.Denot g.row.E.Denot). s.out) asked) nothing (ap (λ (s : Streams g.row.W.Denot g.row.E.Denot). s.out) c.hint_at_nothing.ensures.told)
-    (subst (λ (bytes_of : List ℕ → Option (List ℕ)). Begins g.W.Write.contents (AreInputsShown (IsShownInPartFor c.args.options.now (map (λ (path : AskedPath). path.path) c.deref-2.result.now)) c.args.options.now.lines bytes_of (names_in c.args.options.now)) c.hint_at_patterns.new.streams c.answer_paths.new.streams) same
+    (subst (λ (bytes_of : List ℕ → Option (List ℕ)). Begins g.W.Write.contents (AreInputsShown (IsShownInPartFor c.args.options.now c.args.colours.taken (map (λ (path : AskedPath). path.path) c.deref-2.result.now)) c.args.options.now.lines bytes_of (names_in c.args.options.now)) c.hint_at_patterns.new.streams c.answer_paths.new.streams) same
     (c.answer_paths.ensures.begun run nothing (subst (λ (bytes_of : List ℕ → Option (List ℕ)). AreKnown bytes_of (names_in c.args.options.now)) (sym same) known)))
 
 pub returns-in_err-hint_at_nothing-clause-in_part : goal.returns-in_err-hint_at_nothing-clause-in_part
@@ -44,10 +44,10 @@ returns-in_err-hint_at_nothing-clause-in_part g c = λ run empty files known.
     let hinted = c.hint_at_patterns.ensures.told in
     let same : g.I.Inputs.bytes_of c.asked_paths.new.inputs ≡ g.I.Inputs.bytes_of c.args.inputs.now = λ i name. c.in_ok-paths.ensures.same name i in
     let nothing = ap (λ (s : Streams g.row.W.Denot g.row.E.Denot). string_bytes s.pending) hinted ∙ ap (λ (s : Streams g.row.W.Denot g.row.E.Denot). string_bytes s.pending) asked ∙ empty in
-    run_begun g.W.Write.contents (g.I.Inputs.bytes_of c.args.inputs.now) c.args.options.now c.deref-2.result.now c.args.streams.now c.hint_at_patterns.new.streams c.answer_paths.new.streams c.hint_at_nothing.new.streams
-    (subst (λ (paths : List AskedPath). ArePaths (rule_in c.args.options.now) (path_texts (g.I.Inputs.bytes_of c.args.inputs.now) c.args.options.now) (map (λ (path : AskedPath). path.path) paths)) (sym c.deref-2.ensures.value) (c.in_ok-paths.ensures.read (usual_of c.args.options.now c.args.colours.taken run).bindings files))
+    run_begun g.W.Write.contents (g.I.Inputs.bytes_of c.args.inputs.now) c.args.options.now c.args.colours.taken c.deref-2.result.now c.args.streams.now c.hint_at_patterns.new.streams c.answer_paths.new.streams c.hint_at_nothing.new.streams
+    (subst (λ (paths : List AskedPath). ArePaths (rule_in c.args.options.now) (path_texts (g.I.Inputs.bytes_of c.args.inputs.now) c.args.options.now) (map (λ (path : AskedPath). path.path) paths)) (sym c.deref-2.ensures.value) (c.in_ok-paths.ensures.read (usual_of c.args.options.now c.args.colours run).bindings files))
     (ap (λ (s : Streams g.row.W.Denot g.row.E.Denot). s.out) hinted ∙ ap (λ (s : Streams g.row.W.Denot g.row.E.Denot). s.out) asked) nothing (ap (λ (s : Streams g.row.W.Denot g.row.E.Denot). s.out) c.hint_at_nothing.ensures.told)
-    (subst (λ (bytes_of : List ℕ → Option (List ℕ)). Begins g.W.Write.contents (AreInputsShown (IsShownInPartFor c.args.options.now (map (λ (path : AskedPath). path.path) c.deref-2.result.now)) c.args.options.now.lines bytes_of (names_in c.args.options.now)) c.hint_at_patterns.new.streams c.answer_paths.new.streams) same
+    (subst (λ (bytes_of : List ℕ → Option (List ℕ)). Begins g.W.Write.contents (AreInputsShown (IsShownInPartFor c.args.options.now c.args.colours.taken (map (λ (path : AskedPath). path.path) c.deref-2.result.now)) c.args.options.now.lines bytes_of (names_in c.args.options.now)) c.hint_at_patterns.new.streams c.answer_paths.new.streams) same
     (c.answer_paths.ensures.begun run nothing (subst (λ (bytes_of : List ℕ → Option (List ℕ)). AreKnown bytes_of (names_in c.args.options.now)) (sym same) known)))
 
 pub returns-in_err-next-clause-in_part : goal.returns-in_err-next-clause-in_part
@@ -56,10 +56,10 @@ returns-in_err-next-clause-in_part g c = λ run empty files known.
     let hinted = c.hint_at_patterns.ensures.told in
     let same : g.I.Inputs.bytes_of c.asked_paths.new.inputs ≡ g.I.Inputs.bytes_of c.args.inputs.now = λ i name. c.in_ok-paths.ensures.same name i in
     let nothing = ap (λ (s : Streams g.row.W.Denot g.row.E.Denot). string_bytes s.pending) hinted ∙ ap (λ (s : Streams g.row.W.Denot g.row.E.Denot). string_bytes s.pending) asked ∙ empty in
-    run_begun g.W.Write.contents (g.I.Inputs.bytes_of c.args.inputs.now) c.args.options.now c.deref-2.result.now c.args.streams.now c.hint_at_patterns.new.streams c.answer_paths.new.streams c.answer_paths.new.streams
-    (subst (λ (paths : List AskedPath). ArePaths (rule_in c.args.options.now) (path_texts (g.I.Inputs.bytes_of c.args.inputs.now) c.args.options.now) (map (λ (path : AskedPath). path.path) paths)) (sym c.deref-2.ensures.value) (c.in_ok-paths.ensures.read (usual_of c.args.options.now c.args.colours.taken run).bindings files))
+    run_begun g.W.Write.contents (g.I.Inputs.bytes_of c.args.inputs.now) c.args.options.now c.args.colours.taken c.deref-2.result.now c.args.streams.now c.hint_at_patterns.new.streams c.answer_paths.new.streams c.answer_paths.new.streams
+    (subst (λ (paths : List AskedPath). ArePaths (rule_in c.args.options.now) (path_texts (g.I.Inputs.bytes_of c.args.inputs.now) c.args.options.now) (map (λ (path : AskedPath). path.path) paths)) (sym c.deref-2.ensures.value) (c.in_ok-paths.ensures.read (usual_of c.args.options.now c.args.colours run).bindings files))
     (ap (λ (s : Streams g.row.W.Denot g.row.E.Denot). s.out) hinted ∙ ap (λ (s : Streams g.row.W.Denot g.row.E.Denot). s.out) asked) nothing refl
-    (subst (λ (bytes_of : List ℕ → Option (List ℕ)). Begins g.W.Write.contents (AreInputsShown (IsShownInPartFor c.args.options.now (map (λ (path : AskedPath). path.path) c.deref-2.result.now)) c.args.options.now.lines bytes_of (names_in c.args.options.now)) c.hint_at_patterns.new.streams c.answer_paths.new.streams) same
+    (subst (λ (bytes_of : List ℕ → Option (List ℕ)). Begins g.W.Write.contents (AreInputsShown (IsShownInPartFor c.args.options.now c.args.colours.taken (map (λ (path : AskedPath). path.path) c.deref-2.result.now)) c.args.options.now.lines bytes_of (names_in c.args.options.now)) c.hint_at_patterns.new.streams c.answer_paths.new.streams) same
     (c.answer_paths.ensures.begun run nothing (subst (λ (bytes_of : List ℕ → Option (List ℕ)). AreKnown bytes_of (names_in c.args.options.now)) (sym same) known)))
 
 pub returns-in_err-paths-clause-in_part : goal.returns-in_err-paths-clause-in_part

@@ -1,12 +1,12 @@
-use Rattle.jpq_program.proofs.Words.{◌≡◌, ◌∙◌, ◌+◌, List, ℕ, JsonPath, ap, inl, refl, subst, arith, common_steps, builtin_functions, AnswersPath, AskedPath, Begins, Bool, IsAnswerInPart, IsAnswerOn, drop, head_by, map, suc}
+use Rattle.jpq_program.proofs.Words.{◌≡◌, ◌∙◌, ◌+◌, List, ℕ, JsonPath, ap, inl, refl, subst, arith, common_steps, builtin_functions, look_of, AnswersPath, AskedPath, Begins, Bool, IsAnswerInPart, IsAnswerOn, drop, head_by, map, suc}
 use Rattle.jpq_program.proofs.Shown.{all_answered, each_nothing, mapped_begun, mapped_further, no_array, none_answered, rest_begun}
 use Rattle.jpq_program.proofs.answering.Answering.answer_lines.Goals as goal
 
 pub loop-index-init : goal.loop-index-init
 loop-index-init g c =
     let head = head_by c.args.self.now.heads c.args.document.source.name.now c.args.document.source.line in
-    λ are plain left. none_answered g.W.Write.contents (λ (number : ℕ) (path : JsonPath). IsAnswerOn builtin_functions path c.args.self.now.showing.output (head number) c.args.document.bytes.now)
-    (λ (number : ℕ) (path : JsonPath). IsAnswerInPart builtin_functions path c.args.self.now.showing.output (head number) c.args.document.bytes.now) 1 c.args.streams.now left
+    λ are plain left. none_answered g.W.Write.contents (λ (number : ℕ) (path : JsonPath). IsAnswerOn builtin_functions path (look_of c.args.self.now.showing) (head number) c.args.document.bytes.now)
+    (λ (number : ℕ) (path : JsonPath). IsAnswerInPart builtin_functions path (look_of c.args.self.now.showing) (head number) c.args.document.bytes.now) 1 c.args.streams.now left
 
 pub loop-index-preserved : goal.loop-index-preserved
 loop-index-preserved g c =
@@ -18,31 +18,31 @@ loop-index-preserved g c =
     let first = c.loop-index.invariant are plain left in
     let second = c.in_ok-answer_path.ensures.answered here plain first.left in
     let head_is = c.as_str.ensures.value ∙ c.in_ok-head.ensures (no_array c.args.self.now.showing plain) ∙ ap head number in
-    mapped_further g.W.Write.contents (λ (number : ℕ) (path : JsonPath). IsAnswerOn builtin_functions path c.args.self.now.showing.output (head number) c.args.document.bytes.now)
-    (λ (number : ℕ) (path : JsonPath). IsAnswerInPart builtin_functions path c.args.self.now.showing.output (head number) c.args.document.bytes.now) (λ (path : AskedPath). path.path)
+    mapped_further g.W.Write.contents (λ (number : ℕ) (path : JsonPath). IsAnswerOn builtin_functions path (look_of c.args.self.now.showing) (head number) c.args.document.bytes.now)
+    (λ (number : ℕ) (path : JsonPath). IsAnswerInPart builtin_functions path (look_of c.args.self.now.showing) (head number) c.args.document.bytes.now) (λ (path : AskedPath). path.path)
     c.args.self.now.paths.now c.loop-index.index path c.args.streams.now c.loop-index.streams c.answer_path.new.streams c.loop-index-test.true c.path-item.is first
-    (subst (λ (h : List ℕ). AnswersPath c.args.self.now.silent g.W.Write.contents path.path c.args.self.now.showing.output h c.args.document.bytes.now c.loop-index.streams c.answer_path.new.streams) head_is second)
+    (subst (λ (h : List ℕ). AnswersPath c.args.self.now.silent g.W.Write.contents path.path (look_of c.args.self.now.showing) h c.args.document.bytes.now c.loop-index.streams c.answer_path.new.streams) head_is second)
 
 pub returns-clause-answered : goal.returns-clause-answered
 returns-clause-answered g c = λ are plain left.
     let head = head_by c.args.self.now.heads c.args.document.source.name.now c.args.document.source.line in
-    all_answered g.W.Write.contents (λ (number : ℕ) (path : JsonPath). IsAnswerOn builtin_functions path c.args.self.now.showing.output (head number) c.args.document.bytes.now)
-    (λ (number : ℕ) (path : JsonPath). IsAnswerInPart builtin_functions path c.args.self.now.showing.output (head number) c.args.document.bytes.now) (λ (path : AskedPath). path.path)
+    all_answered g.W.Write.contents (λ (number : ℕ) (path : JsonPath). IsAnswerOn builtin_functions path (look_of c.args.self.now.showing) (head number) c.args.document.bytes.now)
+    (λ (number : ℕ) (path : JsonPath). IsAnswerInPart builtin_functions path (look_of c.args.self.now.showing) (head number) c.args.document.bytes.now) (λ (path : AskedPath). path.path)
     c.args.self.now.paths.now c.loop-index.index c.args.streams.now c.loop-index.streams c.loop-index-test.false (c.loop-index.invariant are plain left)
 
 -- of the paths that are left nothing is shown
 pub returns-clause-begun : goal.returns-clause-begun
 returns-clause-begun g c = λ are plain left.
     let head = head_by c.args.self.now.heads c.args.document.source.name.now c.args.document.source.line in
-    rest_begun g.W.Write.contents (λ (number : ℕ) (path : JsonPath). IsAnswerOn builtin_functions path c.args.self.now.showing.output (head number) c.args.document.bytes.now)
-    (λ (number : ℕ) (path : JsonPath). IsAnswerInPart builtin_functions path c.args.self.now.showing.output (head number) c.args.document.bytes.now) (λ (path : AskedPath). path.path)
+    rest_begun g.W.Write.contents (λ (number : ℕ) (path : JsonPath). IsAnswerOn builtin_functions path (look_of c.args.self.now.showing) (head number) c.args.document.bytes.now)
+    (λ (number : ℕ) (path : JsonPath). IsAnswerInPart builtin_functions path (look_of c.args.self.now.showing) (head number) c.args.document.bytes.now) (λ (path : AskedPath). path.path)
     c.args.self.now.paths.now c.loop-index.index c.args.streams.now c.loop-index.streams (λ number path. inl (refl, refl)) (c.loop-index.invariant are plain left)
 
 pub returns-in_err-head-clause-begun : goal.returns-in_err-head-clause-begun
 returns-in_err-head-clause-begun g c = λ are plain left.
     let head = head_by c.args.self.now.heads c.args.document.source.name.now c.args.document.source.line in
-    rest_begun g.W.Write.contents (λ (number : ℕ) (path : JsonPath). IsAnswerOn builtin_functions path c.args.self.now.showing.output (head number) c.args.document.bytes.now)
-    (λ (number : ℕ) (path : JsonPath). IsAnswerInPart builtin_functions path c.args.self.now.showing.output (head number) c.args.document.bytes.now) (λ (path : AskedPath). path.path)
+    rest_begun g.W.Write.contents (λ (number : ℕ) (path : JsonPath). IsAnswerOn builtin_functions path (look_of c.args.self.now.showing) (head number) c.args.document.bytes.now)
+    (λ (number : ℕ) (path : JsonPath). IsAnswerInPart builtin_functions path (look_of c.args.self.now.showing) (head number) c.args.document.bytes.now) (λ (path : AskedPath). path.path)
     c.args.self.now.paths.now c.loop-index.index c.args.streams.now c.loop-index.streams (λ number path. inl (refl, refl)) (c.loop-index.invariant are plain left)
 
 pub returns-in_err-answer_path-clause-begun : goal.returns-in_err-answer_path-clause-begun
@@ -52,9 +52,9 @@ returns-in_err-answer_path-clause-begun g c = λ are plain left.
     let number : c.saturating_add.result ≡ c.loop-index.index + 1 = grind (arith, common_steps, c.saturating_add.ensures) in
     let first = c.loop-index.invariant are plain left in
     let head_is = c.as_str.ensures.value ∙ c.in_ok-head.ensures (no_array c.args.self.now.showing plain) ∙ ap head number in
-    let InPart : ℕ → JsonPath → List ℕ → Bool → Type 0 = λ number path. IsAnswerInPart builtin_functions path c.args.self.now.showing.output (head number) c.args.document.bytes.now in
-    mapped_begun g.W.Write.contents (λ (number : ℕ) (path : JsonPath). IsAnswerOn builtin_functions path c.args.self.now.showing.output (head number) c.args.document.bytes.now) InPart (λ (path : AskedPath). path.path)
+    let InPart : ℕ → JsonPath → List ℕ → Bool → Type 0 = λ number path. IsAnswerInPart builtin_functions path (look_of c.args.self.now.showing) (head number) c.args.document.bytes.now in
+    mapped_begun g.W.Write.contents (λ (number : ℕ) (path : JsonPath). IsAnswerOn builtin_functions path (look_of c.args.self.now.showing) (head number) c.args.document.bytes.now) InPart (λ (path : AskedPath). path.path)
     c.args.self.now.paths.now c.loop-index.index path c.args.streams.now c.loop-index.streams c.answer_path.new.streams (each_nothing InPart (map (λ (path : AskedPath). path.path) (drop (suc c.loop-index.index) c.args.self.now.paths.now)) (λ number path. inl (refl, refl)))
     c.loop-index-test.true c.path-item.is first
-    (subst (λ (h : List ℕ). Begins g.W.Write.contents (IsAnswerInPart builtin_functions path.path c.args.self.now.showing.output h c.args.document.bytes.now) c.loop-index.streams c.answer_path.new.streams) head_is
+    (subst (λ (h : List ℕ). Begins g.W.Write.contents (IsAnswerInPart builtin_functions path.path (look_of c.args.self.now.showing) h c.args.document.bytes.now) c.loop-index.streams c.answer_path.new.streams) head_is
     (c.answer_path.ensures.begun (are c.loop-index.index path c.loop-index-test.true c.path-item.is) plain first.left))

@@ -1,15 +1,41 @@
-use Rattle.jpq_program.proofs.Words.{IfOk-weaker, rules, shown_in_part_by}
+use Rattle.jpq_program.specs.declared.rows.Separator.TheVariants.{Tab}
+use Rattle.jpq_program.proofs.Words.{◌≡◌, Some, has_counts, is_table, is_tsv, ◌∙◌, IfOk-weaker, false, rules, sym, true, view, shown_in_part_by}
+use Rattle.jpq_program.proofs.Cells.{as_each, as_row, begun_as_each, has_tabs, looked_at, no_table}
 use Rattle.jpq_program.proofs.Sending.{no_answer}
-use Rattle.jpq_program.proofs.Shown.{nothing_begun, plain_lines}
+use Rattle.jpq_program.proofs.Shown.{nothing_begun, plain_counts, plain_lines}
 use Rattle.jpq_program.proofs.answering.Answering.make_answer.Goals as goal
 
-pub returns-in-None-Count-clause-begun : goal.returns-in-None-Count-clause-begun
-returns-in-None-Count-clause-begun g c = λ are plain left.
-    nothing_begun g.W.Write.contents (shown_in_part_by c.args.self.now c.args.document.source.name.now c.args.document.source.line c.args.document.bytes.now) c.args.streams.now c.answer_counts.new.streams
-    (no_answer c.args.self.now c.args.document.source.name.now c.args.document.source.line c.args.document.bytes.now) c.answer_counts.ensures.unwritten
+some_same : {A : Type 0} {x y : A} → Some x ≡ Some y → x ≡ y
+some_same same = cc
+
+pub returns-in-Some-default : goal.returns-in-Some-default
+returns-in-Some-default g c =
+    let table : is_table c.args.self.now.shown ≡ true = search rules in record {
+      answered = let tab_is : is_tsv c.args.self.now.shown ≡ true → c.in-Some-default.separator ≡ Tab = λ tsv. some_same (c.in-Some-default.ensures.tab tsv) in IfOk-weaker c.answer_row.result _ _ (λ _ answered are plain left.
+          as_row g.W.Write.contents c.args.self.now c.args.document.source.name.now c.args.document.source.line c.args.document.bytes.now c.args.streams.now c.answer_row.new.streams table
+          (answered (tab_is (has_tabs c.args.self.now.shown _ plain table)) (looked_at c.args.self.now c.args.document.bytes.now (view c.args.document.value.now) true table are) left)) c.answer_row.ensures.answered;
+      begun = λ are plain left. nothing_begun g.W.Write.contents (shown_in_part_by c.args.self.now c.args.document.source.name.now c.args.document.source.line c.args.document.bytes.now) c.args.streams.now c.answer_row.new.streams
+          (no_answer c.args.self.now c.args.document.source.name.now c.args.document.source.line c.args.document.bytes.now) c.answer_row.ensures.unwritten;
+    }
+
+pub returns-in-None-Count : goal.returns-in-None-Count
+returns-in-None-Count g c =
+    let table : is_table c.args.self.now.shown ≡ false = search rules in
+    let counts : has_counts c.args.self.now.showing.output.form ≡ true = search rules in record {
+      answered = IfOk-weaker c.answer_counts.result _ _ (λ _ answered are plain left.
+          let each = no_table c.args.self.now.shown _ plain table in
+          as_each g.W.Write.contents c.args.self.now c.args.document.source.name.now c.args.document.source.line c.args.document.bytes.now c.args.streams.now c.answer_counts.new.streams table
+          (answered (looked_at c.args.self.now c.args.document.bytes.now (view c.args.document.value.now) false table are) counts (plain_counts c.args.self.now.showing c.args.self.now.total each counts) left)) c.answer_counts.ensures.answered;
+      begun = λ are plain left. nothing_begun g.W.Write.contents (shown_in_part_by c.args.self.now c.args.document.source.name.now c.args.document.source.line c.args.document.bytes.now) c.args.streams.now c.answer_counts.new.streams
+          (no_answer c.args.self.now c.args.document.source.name.now c.args.document.source.line c.args.document.bytes.now) c.answer_counts.ensures.unwritten;
+    }
 
 pub returns-in-None-default : goal.returns-in-None-default
-returns-in-None-default g c = record {
-  answered = IfOk-weaker c.answer_lines.result _ _ (λ _ answered are plain left. answered are (plain_lines c.args.self.now plain (search rules)) left) c.answer_lines.ensures.answered;
-  begun = λ are plain left. c.answer_lines.ensures.begun are (plain_lines c.args.self.now plain (search rules)) left;
-}
+returns-in-None-default g c =
+    let table : is_table c.args.self.now.shown ≡ false = search rules in record {
+      answered = IfOk-weaker c.answer_lines.result _ _ (λ _ answered are plain left.
+          as_each g.W.Write.contents c.args.self.now c.args.document.source.name.now c.args.document.source.line c.args.document.bytes.now c.args.streams.now c.answer_lines.new.streams table
+          (answered (looked_at c.args.self.now c.args.document.bytes.now (view c.args.document.value.now) false table are) (plain_lines c.args.self.now.showing c.args.self.now.total (no_table c.args.self.now.shown _ plain table) (search rules)) left)) c.answer_lines.ensures.answered;
+      begun = λ are plain left. begun_as_each g.W.Write.contents c.args.self.now c.args.document.source.name.now c.args.document.source.line c.args.document.bytes.now c.args.streams.now c.answer_lines.new.streams table
+          (c.answer_lines.ensures.begun (looked_at c.args.self.now c.args.document.bytes.now (view c.args.document.value.now) false table are) (plain_lines c.args.self.now.showing c.args.self.now.total (no_table c.args.self.now.shown _ plain table) (search rules)) left);
+    }

@@ -1,0 +1,242 @@
+-- Rows of tables, cell by cell.
+use Rattle.jpq_program.proofs.Words.{◌≡◌, ◌∙◌, ◌||◌, ◌⊎◌, ◌+◌, ◌<◌, ◌++◌, ◌∷◌, ℕ, Bool, true, false, List, [], Option, None, Some, String, Global, length, nat_lt, map, refl, sym, ap, subst, inl, inr, suc, zero, ◌-◌, ◌≤◌, Err, IfOk, Ok, OnOk, Result, arith, is_some, length-append, length-map, length-take-le, nat_tests, take-append-le, take_all, append-nil, append_assoc, append_cancel_right, codes, flat_map, flat_map-append, if◌then◌else◌, string_bytes, true≢false, Adds, Answered, AreCells, AskedPath, Bor, Compact, Data, Finds, FunctionSet, IsAnswer, IsAnswerOn, IsAsked, IsCell, IsCellInPart, IsCellOf, IsCellOn, IsFirstOf, IsLook, IsLookOfEach, IsRowInPart, IsRowOn, IsText, Answering, AnswersBy, AnswersEach, AnswersRow, AreShownAs, Begins, Csv, MatchBool, Nodes, OptionShown, Tsv, asked_look, each_by, each_in_part_by, is_table, is_tsv, look_of, not, ◌&&◌, row_by, row_in_part_by, shown_in_part_by, JsonPath, LineEnd, Located, OnlyRefuses, Outcome, Raw, Selects, ShowsAs, Streams, builtin_functions, cell_look, cell_text, dressed, end_text, get_or, has_escapes, path_tree, row_text, take, with_most, with_rule_of}
+use Rattle.jpq_program.proofs.Dressed.{bare_line}
+use Rattle.jpq_program.proofs.Nodes.{adds_nothing, appends_nothing, further_mapped}
+use Rattle.jpq_program.proofs.Shown.{or_assoc, or_false, shown_of_asked}
+
+-- ---- texts
+
+-- one more cell after so many
+row_after : (cells : List (List ℕ)) (cell : List ℕ) (index : ℕ) → length cells ≡ index → row_text (cells ++ cell ∷ []) ≡ row_text cells ++ ((if nat_lt 0 index then codes "\t" else []) ++ cell_text cell)
+row_after [] cell index many = append-nil (cell_text cell) ∙ ap (λ (i : ℕ). (if nat_lt 0 i then codes "\t" else []) ++ cell_text cell) many
+row_after (first ∷ cells) cell index many =
+    let tabbed : List ℕ → List ℕ = λ next. codes "\t" ++ cell_text next in
+    ap (λ (t : List ℕ). cell_text first ++ t) (flat_map-append tabbed cells (cell ∷ []) ∙ ap (λ (t : List ℕ). flat_map tabbed cells ++ t) (append-nil (tabbed cell)))
+    ∙ sym (append_assoc (cell_text first) (flat_map tabbed cells) (tabbed cell))
+    ∙ ap (λ (later : Bool). row_text (first ∷ cells) ++ ((if later then codes "\t" else []) ++ cell_text cell)) (sym (some index many))
+  where
+    some : (index : ℕ) → suc (length cells) ≡ index → nat_lt 0 index ≡ true
+    some index many = grind (arith, nat_tests)
+
+pub row_further : (cells : List (String Global)) (index : ℕ) (item : String Global) (start old between now : List ℕ) → index < length cells → item ≡ get_or cells index item → old ≡ start ++ row_text (map string_bytes (take index cells))
+    → between ≡ old ++ (if nat_lt 0 index then codes "\t" else []) → now ≡ between ++ cell_text (string_bytes item) → now ≡ start ++ row_text (map string_bytes (take (index + 1) cells))
+row_further cells index item start old between now within is so_far tab own =
+    let before = map string_bytes (take index cells) in
+    let tabs : List ℕ = if nat_lt 0 index then codes "\t" else [] in
+    let many : length before ≡ index = length-map (take index cells) string_bytes ∙ length-take-le index cells (omega (arith, within)) in
+    own ∙ ap (λ (t : List ℕ). t ++ cell_text (string_bytes item)) (tab ∙ ap (λ (t : List ℕ). t ++ tabs) so_far)
+    ∙ append_assoc (start ++ row_text before) tabs (cell_text (string_bytes item)) ∙ append_assoc start (row_text before) (tabs ++ cell_text (string_bytes item))
+    ∙ ap (λ (t : List ℕ). start ++ t) (sym (row_after before (string_bytes item) index many) ∙ ap row_text (sym (further_mapped string_bytes cells index item within is)))
+
+-- ---- cells
+
+-- one more cell, of one more path
+cells_further : (Is : JsonPath → List ℕ → Bool → Type 0) (paths : List JsonPath) (path : JsonPath) (cells : List (List ℕ)) (cell : List ℕ) (any one : Bool) → AreCells Is paths cells any → Is path cell one → AreCells Is (paths ++ path ∷ []) (cells ++ cell ∷ []) (any || one)
+cells_further Is [] path cells cell any one are is =
+    (cell, [], one, false, is, (refl, refl), ap (λ (cs : List (List ℕ)). cs ++ cell ∷ []) are.0, ap (λ (b : Bool). b || one) are.1 ∙ or_false one)
+cells_further Is (first ∷ paths) path cells cell any one are is = (
+  are.0,
+  are.1 ++ cell ∷ [],
+  are.2,
+  are.3 || one,
+  are.4,
+  cells_further Is paths path are.1 cell are.3 one are.5 is,
+  ap (λ (cs : List (List ℕ)). cs ++ cell ∷ []) are.6,
+  ap (λ (b : Bool). b || one) are.7 ∙ or_assoc are.2 are.3 one,
+)
+
+-- ---- the first node
+
+-- the text of a cell, as a line
+abbrev line_of : List ℕ → Bool → List ℕ
+line_of cell any = if any then cell ++ codes "\n" else []
+
+first_shown : (n : Located) (cell : List ℕ) → IsText Raw Compact n cell → IsLookOfEach cell_look [] (n ∷ []) (cell ++ codes "\n")
+first_shown n cell is = (cell ++ codes "\n", [], (cell ++ codes "\n", cell ++ codes "\n", (cell, is, refl), sym (bare_line cell_look n.value (cell ++ codes "\n") refl refl), refl), refl, sym (append-nil (cell ++ codes "\n")))
+
+cell_answers : (F : FunctionSet) (path : JsonPath) (d : Data) (nodes : List Located) (cell : List ℕ) (any : Bool) → Selects (with_rule_of path F) (path_tree path) d nodes → IsCellOf nodes cell any → IsAnswer F path (with_most cell_look (Some 1)) [] d (line_of cell any) any
+cell_answers F path d [] cell any selects is = ([], selects, ap (line_of cell) is.1, is.1)
+cell_answers F path d (n ∷ ns) cell any selects is =
+    (n ∷ ns, selects, subst (λ (a : Bool). IsLookOfEach cell_look [] (n ∷ []) (line_of cell a)) (sym is.1) (first_shown n cell is.0), is.1)
+
+cell_answered : (nodes : List Located) (cell : List ℕ) (any : Bool) → (any ≡ false → cell ≡ []) → IsLookOfEach cell_look [] (take 1 nodes) (line_of cell any) → any ≡ nat_lt 0 (length (take 1 nodes)) → IsCellOf nodes cell any
+cell_answered [] cell any none are is = (none is, is)
+cell_answered (n ∷ ns) cell any none are is =
+    let lines = subst (λ (a : Bool). IsLookOfEach cell_look [] (n ∷ []) (line_of cell a)) is are in
+    let own = lines.2 in
+    let text : cell ++ codes "\n" ≡ own.2.0 ++ codes "\n" = lines.4 ∙ ap (λ (t : List ℕ). lines.0 ++ t) lines.3 ∙ append-nil lines.0 ∙ own.4 ∙ own.3 ∙ bare_line cell_look n.value own.0 refl refl ∙ own.2.2 in
+    (subst (IsText Raw Compact n) (sym (append_cancel_right cell own.2.0 (codes "\n") text)) own.2.1, is)
+
+-- the cell of what was read of a document is that of the document
+cell_on : (bytes : List ℕ) (value asked : Data) (path : JsonPath) (nodes : List Located) (cell : List ℕ) (any : Bool) → ShowsAs cell_look bytes value path → IsAsked bytes value asked → Selects (with_rule_of path builtin_functions) (path_tree path) asked nodes → IsCellOf nodes cell any
+    → IsCellOn builtin_functions bytes path cell any
+cell_on bytes value asked path nodes cell any shows of selects is =
+    let shown = shown_of_asked cell_look bytes value asked path (Some 1) [] (line_of cell any) any shows of (cell_answers builtin_functions path asked nodes cell any selects is) in
+    (shown.0, shown.1, (shown.2.0, shown.2.1, cell_answered shown.2.0 cell any (no_cell nodes is) shown.2.2 shown.2.3))
+  where
+    no_cell : (nodes : List Located) → IsCellOf nodes cell any → any ≡ false → cell ≡ []
+    no_cell [] is none = is.0
+    no_cell (n ∷ ns) is none = absurd (true≢false (sym is.1 ∙ none))
+
+-- what is taken of a line, without its end
+pub cut_line : (text line whole cut : List ℕ) (len : ℕ) → line ≡ text ++ codes "\n" → whole ≡ line → len ≡ length whole → cut ≡ take (len - 1) whole → cut ≡ text
+cut_line text line whole cut len is same many taken =
+    taken ∙ ap (λ (n : ℕ). take (n - 1) whole) many ∙ ap (λ (l : List ℕ). take (length l - 1) l) (same ∙ is) ∙ ap (λ (n : ℕ). take n (text ++ codes "\n")) one_less
+    ∙ take-append-le (length text) text (codes "\n") (omega arith) ∙ take_all (length text) text (omega arith)
+  where
+    one_less : length (text ++ codes "\n") - 1 ≡ length text
+    one_less = omega (arith, length-append text (codes "\n"))
+
+-- the first node, once it was taken, and as it is taken
+pub first_kept : (nodes more : List Located) (cell : Option (String Global)) → is_some cell ≡ true → IsFirstOf nodes cell → IsFirstOf (nodes ++ more) cell
+first_kept [] more cell has first = absurd (true≢false (sym has ∙ ap is_some first))
+first_kept (n ∷ ns) more cell has first = first
+
+pub first_taken : (nodes : List Located) (n : Located) (old : Option (String Global)) (text : String Global) → is_some old ≡ false → IsFirstOf nodes old → IsText Raw Compact n (string_bytes text) → IsFirstOf (nodes ++ n ∷ []) (Some text)
+first_taken [] n old text none first is = (text, refl, is)
+first_taken (m ∷ ms) n old text none first is = absurd (true≢false (sym (ap is_some first.1) ∙ none))
+
+-- what follows where a call goes well, if something holds
+pub ok_where : {A E : Type 0} (r : Result A E) (T P Q : Type 0) → (T → OnOk r P) → (T → P → Q) → IfOk r (λ _. T → Q)
+ok_where (Ok x) T P Q holds step = λ t. step t (holds t)
+ok_where (Err e) T P Q holds step = tt
+
+-- what a call gave is one or the other
+pub of_either : {E : Type 0} {P : Type 0} (r : Result Bool E) (b : Bool) → r ≡ Ok b → (r ≡ Ok true → P) → (r ≡ Ok false → P) → P
+of_either r true is one other = one is
+of_either r false is one other = other is
+
+-- the cell of nodes of which the first was looked for
+pub some_cell : (nodes : List Located) (cell : String Global) → IsFirstOf nodes (Some cell) → IsCellOf nodes (string_bytes cell) true
+some_cell [] cell is = absurd cc
+some_cell (n ∷ ns) cell is = (subst (λ (c : String Global). IsText Raw Compact n (string_bytes c)) (sym (same_text is.0 is.1)) is.2, refl)
+  where
+    same_text : (text : String Global) → Some cell ≡ Some text → cell ≡ text
+    same_text text same = cc
+
+pub no_node : (nodes : List Located) → IsFirstOf nodes None → IsCellOf nodes [] false
+no_node [] is = (refl, refl)
+no_node (n ∷ ns) is = absurd (no_text is.0 is.1)
+  where
+    no_text : (text : String Global) → None ≡ Some text → ⊥
+    no_text text same = absurd cc
+
+-- a cell was found
+pub cell_found : {W E : Type 0} {silent : Bool} (bytes : List ℕ) (value asked : Data) (path : JsonPath) (nodes : List Located) (cell : List ℕ) (any : Bool) (before now : Streams W E) → ShowsAs cell_look bytes value path → IsAsked bytes value asked
+    → Selects (with_rule_of path builtin_functions) (path_tree path) asked nodes → IsCellOf nodes cell any → now.out ≡ before.out → now.pending ≡ before.pending → now.outcome ≡ record before.outcome { selected = before.outcome.selected || any }
+    → now.left ≡ None → (silent ≡ true → now.err ≡ before.err) → Finds silent (IsCellOn builtin_functions bytes path cell) (IsCellInPart builtin_functions bytes path cell) before now
+cell_found bytes value asked path nodes cell any before now shows of selects is out pending outcome left told =
+    let found = cell_on bytes value asked path nodes cell any shows of selects is in record {
+      any = any;
+      whole = λ right. (sym (ap (λ (o : Outcome). o.refused) outcome) ∙ right, found);
+      part = inr found;
+      out = out;
+      pending = pending;
+      selected = ap (λ (o : Outcome). o.selected) outcome;
+      left = left;
+      told = λ silent right. told silent;
+    }
+
+-- the query was refused, and the cell is empty
+pub cell_refused : {W E : Type 0} {silent : Bool} (bytes : List ℕ) (path : JsonPath) (cell : List ℕ) (before now : Streams W E) → cell ≡ [] → OnlyRefuses before now → now.outcome.refused ≡ true → before.left ≡ None
+    → Finds silent (IsCellOn builtin_functions bytes path cell) (IsCellInPart builtin_functions bytes path cell) before now
+cell_refused {W} {E} bytes path cell before now empty kept refused left = record {
+  any = false;
+  whole = λ right. absurd (true≢false (sym refused ∙ right));
+  part = inl (empty, refl);
+  out = ap (λ (s : Streams W E). s.out) kept;
+  pending = ap (λ (s : Streams W E). s.pending) kept;
+  selected = ap (λ (s : Streams W E). s.outcome.selected) kept ∙ or_false before.outcome.selected;
+  left = ap (λ (s : Streams W E). s.left) kept ∙ left;
+  told = λ silent right. absurd (true≢false (sym refused ∙ right));
+}
+
+-- ---- the cells of a row
+
+-- the cells of paths were found
+abbrev pub FindsCells : {W E : Type 0} → Bool → List ℕ → List JsonPath → List (List ℕ) → Streams W E → Streams W E → Type 0
+FindsCells silent bytes paths cells before now = Finds silent (AreCells (IsCellOn builtin_functions bytes) paths cells) (AreCells (IsCellInPart builtin_functions bytes) paths cells) before now
+
+-- none was yet
+pub no_cells : {W E : Type 0} {silent : Bool} (bytes : List ℕ) (streams : Streams W E) → streams.left ≡ None → FindsCells silent bytes [] [] streams streams
+no_cells bytes streams left = record {
+  any = false;
+  whole = λ right. (right, (refl, refl));
+  part = (refl, refl);
+  out = refl;
+  pending = refl;
+  selected = or_false streams.outcome.selected;
+  left = left;
+  told = λ silent right. refl;
+}
+
+-- one more was
+pub cells_found : {W E : Type 0} {silent : Bool} (bytes : List ℕ) (paths : List JsonPath) (path : JsonPath) (cells : List (List ℕ)) (cell : List ℕ) (before old now : Streams W E) → FindsCells silent bytes paths cells before old
+    → Finds silent (IsCellOn builtin_functions bytes path cell) (IsCellInPart builtin_functions bytes path cell) old now → FindsCells silent bytes (paths ++ path ∷ []) (cells ++ cell ∷ []) before now
+cells_found bytes paths path cells cell before old now first second = record {
+  any = first.any || second.any;
+  whole = λ right.
+      let own = second.whole right in
+      let earlier = first.whole own.0 in
+      (earlier.0, cells_further (IsCellOn builtin_functions bytes) paths path cells cell first.any second.any earlier.1 own.1);
+  part = cells_further (IsCellInPart builtin_functions bytes) paths path cells cell first.any second.any first.part second.part;
+  out = second.out ∙ first.out;
+  pending = second.pending ∙ first.pending;
+  selected = second.selected ∙ ap (λ (b : Bool). b || second.any) first.selected ∙ or_assoc before.outcome.selected first.any second.any;
+  left = second.left;
+  told = λ silent right. second.told silent right ∙ first.told silent (second.whole right).0;
+}
+
+-- those of all paths, and their row was added
+pub row_answered : {W E : Type 0} {silent : Bool} (contents : W → Option (List ℕ)) (paths : List JsonPath) (end : LineEnd) (firsts cells : List (List ℕ)) (bytes : List ℕ) (before old now : Streams W E) → FindsCells silent bytes paths cells before old
+    → now ≡ record old { pending = now.pending } → string_bytes now.pending ≡ string_bytes old.pending ++ (row_text (firsts ++ cells) ++ end_text end)
+    → Answered silent contents (IsRowOn builtin_functions paths end firsts bytes) (IsRowInPart builtin_functions paths end firsts bytes) before now
+row_answered {W} {E} contents paths end firsts cells bytes before old now found kept pushed = record {
+  text = text;
+  any = found.any;
+  whole = λ right.
+      let own = found.whole (sym (ap (λ (s : Streams W E). s.outcome.refused) kept) ∙ right) in
+      (own.0, (cells, own.1, refl));
+  part = inr (cells, found.part, refl);
+  writes = subst (λ (o : W). Adds (contents before.out) (string_bytes before.pending) (contents o) (string_bytes now.pending) text) (sym (ap (λ (s : Streams W E). s.out) kept ∙ found.out))
+      ([], appends_nothing (contents before.out), sym (pushed ∙ ap (λ (p : String Global). string_bytes p ++ text) found.pending));
+  selected = ap (λ (s : Streams W E). s.outcome.selected) kept ∙ found.selected;
+  left = ap (λ (s : Streams W E). s.left) kept ∙ found.left;
+  told = λ silent right. ap (λ (s : Streams W E). s.err) kept ∙ found.told silent (sym (ap (λ (s : Streams W E). s.outcome.refused) kept) ∙ right);
+}
+  where
+    text : List ℕ
+    text = row_text (firsts ++ cells) ++ end_text end
+
+-- ---- what is shown of a document
+
+-- what is shown in a row, or for each path, is what is asked to be shown
+pub as_row : {W E : Type 0} (contents : W → Option (List ℕ)) (answering : Answering) (name : List ℕ) (number : ℕ) (bytes : List ℕ) (before now : Streams W E) → is_table answering.shown ≡ true
+    → AnswersRow contents answering name number bytes before now → AnswersBy contents answering name number bytes before now
+as_row contents answering name number bytes before now table answered = subst (λ (t : Bool). Answered answering.silent contents (λ text any. MatchBool t (row_by answering name number bytes text any) (each_by answering name number bytes text any))
+    (λ text any. MatchBool t (row_in_part_by answering name number bytes text any) (each_in_part_by answering name number bytes text any)) before now) (sym table) answered
+
+pub as_each : {W E : Type 0} (contents : W → Option (List ℕ)) (answering : Answering) (name : List ℕ) (number : ℕ) (bytes : List ℕ) (before now : Streams W E) → is_table answering.shown ≡ false
+    → AnswersEach contents answering name number bytes before now → AnswersBy contents answering name number bytes before now
+as_each contents answering name number bytes before now table answered = subst (λ (t : Bool). Answered answering.silent contents (λ text any. MatchBool t (row_by answering name number bytes text any) (each_by answering name number bytes text any))
+    (λ text any. MatchBool t (row_in_part_by answering name number bytes text any) (each_in_part_by answering name number bytes text any)) before now) (sym table) answered
+
+pub begun_as_each : {W E : Type 0} (contents : W → Option (List ℕ)) (answering : Answering) (name : List ℕ) (number : ℕ) (bytes : List ℕ) (before now : Streams W E) → is_table answering.shown ≡ false
+    → Begins contents (each_in_part_by answering name number bytes) before now → Begins contents (shown_in_part_by answering name number bytes) before now
+begun_as_each contents answering name number bytes before now table begun = subst (λ (t : Bool). Begins contents (λ text any. MatchBool t (row_in_part_by answering name number bytes text any) (each_in_part_by answering name number bytes text any)) before now) (sym table) begun
+
+-- the nodes are looked at so
+pub looked_at : (answering : Answering) (bytes : List ℕ) (value : Data) (table : Bool) → is_table answering.shown ≡ table → AreShownAs (asked_look answering) bytes value answering.paths.now
+    → AreShownAs (if table then cell_look else look_of answering.showing) bytes value answering.paths.now
+looked_at answering bytes value table is are = subst (λ (t : Bool). AreShownAs (if t then cell_look else look_of answering.showing) bytes value answering.paths.now) is are
+
+-- a plain answer in rows has tabs, and others are lines or counts
+pub has_tabs : (shown : OptionShown) (rest : Bool) → (is_tsv shown || (not (is_table shown) && rest)) ≡ true → is_table shown ≡ true → is_tsv shown ≡ true
+has_tabs (Nodes form) rest plain table = absurd cc
+has_tabs Tsv rest plain table = refl
+has_tabs Csv rest plain table = absurd cc
+
+pub no_table : (shown : OptionShown) (rest : Bool) → (is_tsv shown || (not (is_table shown) && rest)) ≡ true → is_table shown ≡ false → rest ≡ true
+no_table (Nodes form) rest plain table = plain
+no_table Tsv rest plain table = absurd cc
+no_table Csv rest plain table = absurd cc

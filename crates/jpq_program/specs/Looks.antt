@@ -1,0 +1,76 @@
+-- How the line of a node looks: indented by a unit, escaped, and in colours.
+use Rattle.std.specs.Char.{encode_utf8, is_ascii}
+use Rattle.std.specs.Char.Escape.{encode_utf16}
+use Rattle.std.specs.Fmt.{digit_glyph}
+use Rattle.std.specs.List.{flat_map}
+use Rattle.std.specs.Prelude.{◌≡◌, ◌==◌, ◌&&◌, ◌/◌, ◌%◌, ℕ, Bool, true, false, List, [], ◌∷◌, ◌++◌, MatchBool, Option, None, Some, codes, if◌then◌else◌}
+use Rattle.std.specs.Str.{chars, encode_utf8_all}
+use Rattle.serde_json.specs.Data.{Data, string}
+use Rattle.serde_json_path_nodes.specs.Location.{Located}
+use Rattle.jsonpath_lines.specs.Coloured.{IsColoured}
+use Rattle.jsonpath_lines.specs.Output.{IsLine}
+use Rattle.jsonpath_lines.specs.declared.forms.Form.{Form}
+use Rattle.jsonpath_lines.specs.declared.forms.Form.TheVariants.{Pointer, Raw}
+use Rattle.jsonpath_lines.specs.declared.forms.Output.{Output}
+
+-- what is shown of nodes, and how: by what a level is indented where that is not two spaces, whether characters above U+007F are
+-- escaped, and whether lines have colours
+pub record Look : Type 0 where
+  pub output : Output
+  pub unit : Option (List ℕ)
+  pub ascii : Bool
+  pub colored : Bool
+
+-- ---- indentation
+
+-- some characters, which may stand at the start of a line, with this unit in place of each two spaces there
+abbrev pub led_by : List ℕ → Bool → List ℕ → List ℕ
+led_by unit starts [] = []
+led_by unit starts (one ∷ []) = encode_utf8 one
+led_by unit starts (one ∷ other ∷ cs) =
+    if starts && ((one == 32) && (other == 32)) then unit ++ led_by unit true cs else encode_utf8 one ++ led_by unit (one == 10) (other ∷ cs)
+
+-- a text with this unit, where there is one, in place of each two spaces at the start of a line
+abbrev pub indented : Option (List ℕ) → List ℕ → List ℕ
+indented None text = text
+indented (Some unit) text = led_by unit true (chars text)
+
+-- ---- escapes
+
+-- the escape of a code unit of UTF-16, by its four digits
+abbrev pub unit_escape : ℕ → List ℕ
+unit_escape unit = codes "\\u" ++ (digit_glyph false (unit / 4096) ∷ digit_glyph false (unit / 256 % 16) ∷ digit_glyph false (unit / 16 % 16) ∷ digit_glyph false (unit % 16) ∷ [])
+
+-- a character, or above U+007F the escapes of its code units (RFC 8259, section 7)
+abbrev pub in_ascii : ℕ → List ℕ
+in_ascii c = if is_ascii c then encode_utf8 c else flat_map unit_escape (encode_utf16 c)
+
+-- a text, with such escapes where they are asked for
+abbrev pub escaped : Bool → List ℕ → List ℕ
+escaped ascii text = if ascii then flat_map in_ascii (chars text) else text
+
+-- ---- a node's line
+
+-- a node is shown as JSON or as a normalised path, which have escapes; a string's own text and a pointer have none
+abbrev pub has_escapes : Form → Data → Bool
+has_escapes Pointer d = false
+has_escapes Raw (string own) = false
+has_escapes form d = true
+
+-- a node's line, indented and escaped
+abbrev pub dressed : Look → Data → List ℕ → List ℕ
+dressed look d line = if has_escapes look.output.form d then escaped look.ascii (indented look.unit line) else line
+
+-- what is seen is the line, or the line with the sequences of colours before, between and after its bytes
+abbrev pub IsSeenIn : Bool → List ℕ → List ℕ → Type 0
+IsSeenIn colored line text = MatchBool colored (IsColoured line text) (text ≡ line)
+
+-- a node's line after a head, in this look
+abbrev pub IsLook : Look → List ℕ → Located → List ℕ → Type 0
+IsLook look head n text = (line seen : List ℕ) × IsLine look.output [] n line
+    × IsSeenIn look.colored (dressed look n.value line) seen × (text ≡ head ++ seen)
+
+-- such a line for each node, in order, joined
+abbrev pub IsLookOfEach : Look → List ℕ → List Located → List ℕ → Type 0
+IsLookOfEach look head [] text = text ≡ []
+IsLookOfEach look head (n ∷ ns) text = (own rest : List ℕ) × IsLook look head n own × IsLookOfEach look head ns rest × (text ≡ own ++ rest)

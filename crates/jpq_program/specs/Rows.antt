@@ -1,0 +1,74 @@
+-- Rows of tables: of each document one, with the first node of each path in a cell.
+use Rattle.std.specs.Char.{encode_utf8}
+use Rattle.std.specs.Fmt.{decimal}
+use Rattle.std.specs.List.{flat_map, join_by}
+use Rattle.std.specs.Prelude.{◌≡◌, ◌==◌, ◌⊎◌, ◌||◌, ℕ, Bool, true, false, List, [], ◌∷◌, ◌++◌, codes, if◌then◌else◌}
+use Rattle.std.specs.Str.{chars}
+use Rattle.serde_json.specs.Data.{Data}
+use Rattle.serde_json_path_nodes.specs.Location.{Located}
+use Rattle.serde_json_path_functions.specs.Functions.{FunctionSet}
+use Rattle.serde_json_path_core.specs.Selects.{Selects}
+use Rattle.serde_json_path.specs.Paths.{path_tree, with_rule_of}
+use Rattle.serde_json_path.specs.declared.path.JsonPath.{JsonPath}
+use Rattle.jsonpath_document.specs.Document.{ReadsAs}
+use Rattle.jsonpath_lines.specs.Output.{IsText, end_text}
+use Rattle.jsonpath_lines.specs.declared.forms.Form.TheVariants.{Raw}
+use Rattle.jsonpath_lines.specs.declared.forms.Layout.TheVariants.{Compact}
+use Rattle.jsonpath_lines.specs.declared.forms.LineEnd.{LineEnd}
+use Rattle.jpq_program.specs.Heads.{shown_name}
+
+-- ---- texts
+
+-- a character in a cell of a row whose cells are parted by tabs
+abbrev pub in_cell : ℕ → List ℕ
+in_cell c = if c == 9 then codes "\\t" else if c == 10 then codes "\\n" else if c == 13 then codes "\\r" else if c == 92 then codes "\\\\" else encode_utf8 c
+
+abbrev pub cell_text : List ℕ → List ℕ
+cell_text cell = flat_map in_cell (chars cell)
+
+-- cells, with a tab between
+abbrev pub row_text : List (List ℕ) → List ℕ
+row_text cells = join_by cell_text (codes "\t") cells
+
+-- the cells before those of the paths: the input's name and the number of the document's line, each where it is asked for
+abbrev pub first_cells : Bool → Bool → List ℕ → ℕ → List (List ℕ)
+first_cells has_name has_line name line = (if has_name then shown_name name ∷ [] else []) ++ (if has_line then decimal line ∷ [] else [])
+
+-- ---- cells
+
+-- the cell of some nodes: the text of the first, of a string its own and of any other value its JSON, or nothing; and whether there is one
+abbrev pub IsCellOf : List Located → List ℕ → Bool → Type 0
+IsCellOf [] cell any = (cell ≡ []) × (any ≡ false)
+IsCellOf (n ∷ ns) cell any = IsText Raw Compact n cell × (any ≡ true)
+
+-- the cell of a path's result on a document
+abbrev pub IsCell : FunctionSet → JsonPath → Data → List ℕ → Bool → Type 0
+IsCell F path d cell any = (nodes : List Located) × Selects (with_rule_of path F) (path_tree path) d nodes × IsCellOf nodes cell any
+
+-- the same of the document that the bytes are
+abbrev pub IsCellOn : FunctionSet → List ℕ → JsonPath → List ℕ → Bool → Type 0
+IsCellOn F bytes path cell any = (d : Data) × ReadsAs bytes d × IsCell F path d cell any
+
+-- the same where the query may be refused: then it is empty
+abbrev pub IsCellInPart : FunctionSet → List ℕ → JsonPath → List ℕ → Bool → Type 0
+IsCellInPart F bytes path cell any = ((cell ≡ []) × (any ≡ false)) ⊎ IsCellOn F bytes path cell any
+
+-- the cells of paths, in order, and whether there is a node in one
+abbrev pub AreCells : (JsonPath → List ℕ → Bool → Type 0) → List JsonPath → List (List ℕ) → Bool → Type 0
+AreCells Is [] cells any = (cells ≡ []) × (any ≡ false)
+AreCells Is (path ∷ paths) cells any = (cell : List ℕ) × (rest : List (List ℕ)) × (one others : Bool)
+    × Is path cell one × AreCells Is paths rest others × (cells ≡ cell ∷ rest) × (any ≡ (one || others))
+
+-- ---- rows
+
+-- a document's row, after first cells
+abbrev pub IsRow : (JsonPath → List ℕ → Bool → Type 0) → List JsonPath → LineEnd → List (List ℕ) → List ℕ → Bool → Type 0
+IsRow Is paths end firsts text any = (cells : List (List ℕ)) × AreCells Is paths cells any × (text ≡ row_text (firsts ++ cells) ++ end_text end)
+
+-- the same of the document that the bytes are
+abbrev pub IsRowOn : FunctionSet → List JsonPath → LineEnd → List (List ℕ) → List ℕ → List ℕ → Bool → Type 0
+IsRowOn F paths end firsts bytes text any = IsRow (IsCellOn F bytes) paths end firsts text any
+
+-- the same where the document may be refused, which has no row then, or the query of a path
+abbrev pub IsRowInPart : FunctionSet → List JsonPath → LineEnd → List (List ℕ) → List ℕ → List ℕ → Bool → Type 0
+IsRowInPart F paths end firsts bytes text any = ((text ≡ []) × (any ≡ false)) ⊎ IsRow (IsCellInPart F bytes) paths end firsts text any
