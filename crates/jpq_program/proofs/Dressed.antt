@@ -1,5 +1,5 @@
--- Lines that are indented by a unit, character by character.
-use Rattle.jpq_program.proofs.Words.{◌≡◌, ◌∙◌, ◌==◌, ◌&&◌, ◌++◌, ◌∷◌, ℕ, Bool, true, false, List, [], ap, refl, sym, append-nil, if◌then◌else◌, encode_utf8, led_by, Data, Dress, IsLine, IsLook, Located, Look, None, Option, Showing, Some, dressed, end_text, escaped, has_escapes, has_palette, indented, is_some, look_of, look_with, not, subst, true≢false}
+-- Lines that are dressed, character by character.
+use Rattle.jpq_program.proofs.Words.{◌≡◌, ◌∙◌, ◌==◌, ◌&&◌, ◌++◌, ◌∷◌, ℕ, Bool, true, false, List, [], ap, refl, sym, append-nil, if◌then◌else◌, encode_utf8, led_by, Data, Dress, IsLine, IsLook, Located, Look, None, Option, Showing, Some, dressed, end_text, escaped, has_escapes, has_palette, indented, is_some, look_of, look_with, not, subst, true≢false, IsUtf8, IsUtf8-past_char, append_assoc, chars, chars-nil, chars_past_char, flat_map, length, nil_from_length}
 use Rattle.jsonpath_lines.specs.Inside as lines
 
 -- a character that is not at the start of a line
@@ -16,6 +16,19 @@ start_step unit c (d ∷ cs) other = ap (λ (is : Bool). if true && (is && (d ==
 pub after_step : (unit : List ℕ) (c : ℕ) (cs : List ℕ) → (c == 32) ≡ false → led_by unit true (32 ∷ c ∷ cs) ≡ encode_utf8 32 ++ (encode_utf8 c ++ led_by unit (c == 10) cs)
 after_step unit c cs other = ap (λ (is : Bool). if true && (true && is) then unit ++ led_by unit true cs else encode_utf8 32 ++ led_by unit false (c ∷ cs)) other
     ∙ ap (λ (t : List ℕ). encode_utf8 32 ++ t) (within_step unit c cs)
+
+-- ---- what is made of each character
+
+-- one more character of a text
+pub each_further : (f : ℕ → List ℕ) (left later done now whole : List ℕ) (c : ℕ) → IsUtf8 left → left ≡ encode_utf8 c ++ later → now ≡ done ++ f c → done ++ flat_map f (chars left) ≡ whole → IsUtf8 later × (now ++ flat_map f (chars later) ≡ whole)
+each_further f left later done now whole c utf8 parts more so_far = (
+  IsUtf8-past_char left later c utf8 parts,
+  ap (λ (t : List ℕ). t ++ flat_map f (chars later)) more ∙ append_assoc done (f c) (flat_map f (chars later)) ∙ ap (λ (cs : List ℕ). done ++ flat_map f cs) (sym (chars_past_char left later c utf8 parts)) ∙ so_far,
+)
+
+-- all of them
+pub each_done : (f : ℕ → List ℕ) (left done whole : List ℕ) → length left ≡ 0 → done ++ flat_map f (chars left) ≡ whole → done ≡ whole
+each_done f left done whole none so_far = sym (append-nil done) ∙ ap (λ (bs : List ℕ). done ++ flat_map f bs) (sym (ap chars (nil_from_length left none) ∙ chars-nil)) ∙ so_far
 
 -- ---- a node's line
 
