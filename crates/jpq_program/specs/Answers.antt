@@ -56,4 +56,5 @@ AreAnswersOn F paths look head bytes text any = AreEach (λ number path. IsAnswe
 
 -- the same where queries may be refused, all of them where the document is
 abbrev pub AreAnswersInPart : FunctionSet → List JsonPath → Look → (ℕ → List ℕ) → List ℕ → List ℕ → Bool → Type 0
-AreAnswersInPart F paths look head bytes text any = AreEach (λ number path. IsAnswerInPart F path look (head number) bytes) 1 paths text any
+AreAnswersInPart F paths look head bytes text any =
+    AreEach (λ number path. IsAnswerInPart F path look (head number) bytes) 1 paths text any

@@ -93,7 +93,8 @@ ReadsFurther rule texts before after = (read : List AskedPath) × (after ≡ bef
 
 -- what is shown of the path's result on a value was appended, and the count says how many nodes are chosen
 abbrev pub Counts : FunctionSet → JsonPath → Output → List ℕ → Data → List ℕ → List ℕ → ℕ → Type 0
-Counts F path output head d old new count = (nodes : List Located) × (shown : List ℕ) × Selects (with_rule_of path F) (path_tree path) d nodes
+Counts F path output head d old new count = (nodes : List Located) × (shown : List ℕ)
+    × Selects (with_rule_of path F) (path_tree path) d nodes
     × AreLines output head nodes shown × (new ≡ old ++ shown) × IsCount output nodes count
 
 -- a text was added; what it is where nothing is refused, and where something may be; and whether it shows a node. Without notes nothing
@@ -144,8 +145,8 @@ abbrev pub AreShownAs : Look → List ℕ → Data → List AskedPath → Type 0
 AreShownAs look bytes value paths = (i : ℕ) (path : AskedPath) → i < length paths → path ≡ get_or paths i path
     → ShowsAs look bytes value path.path
 
--- Something was looked for, and nothing was written: what it comes to where nothing is refused, and where something may be, and whether
--- there is a node.
+-- Something was looked for, and nothing was written: what it comes to where nothing is refused, and where something may be, and
+-- whether there is a node.
 pub record Finds {W E : Type 0} (silent : Bool) (Is IsPart : Bool → Type 0) (before after : Streams W E) : Type 0 where
   pub any : Bool
   pub whole : after.outcome.refused ≡ false → (before.outcome.refused ≡ false) × Is any

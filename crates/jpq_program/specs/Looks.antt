@@ -28,7 +28,8 @@ abbrev pub led_by : List ℕ → Bool → List ℕ → List ℕ
 led_by unit starts [] = []
 led_by unit starts (one ∷ []) = encode_utf8 one
 led_by unit starts (one ∷ other ∷ cs) =
-    if starts && ((one == 32) && (other == 32)) then unit ++ led_by unit true cs else encode_utf8 one ++ led_by unit (one == 10) (other ∷ cs)
+    if starts && ((one == 32) && (other == 32)) then unit ++ led_by unit true cs
+    else encode_utf8 one ++ led_by unit (one == 10) (other ∷ cs)
 
 -- a text with this unit, where there is one, in place of each two spaces at the start of a line
 abbrev pub indented : Option (List ℕ) → List ℕ → List ℕ
@@ -39,7 +40,8 @@ indented (Some unit) text = led_by unit true (chars text)
 
 -- the escape of a code unit of UTF-16, by its four digits
 abbrev pub unit_escape : ℕ → List ℕ
-unit_escape unit = codes "\\u" ++ (digit_glyph false (unit / 4096) ∷ digit_glyph false (unit / 256 % 16) ∷ digit_glyph false (unit / 16 % 16) ∷ digit_glyph false (unit % 16) ∷ [])
+unit_escape unit = codes "\\u" ++ (digit_glyph false (unit / 4096) ∷ digit_glyph false (unit / 256 % 16)
+    ∷ digit_glyph false (unit / 16 % 16) ∷ digit_glyph false (unit % 16) ∷ [])
 
 -- a character, or above U+007F the escapes of its code units (RFC 8259, section 7)
 abbrev pub in_ascii : ℕ → List ℕ
@@ -73,4 +75,5 @@ IsLook look head n text = (line seen : List ℕ) × IsLine look.output [] n line
 -- such a line for each node, in order, joined
 abbrev pub IsLookOfEach : Look → List ℕ → List Located → List ℕ → Type 0
 IsLookOfEach look head [] text = text ≡ []
-IsLookOfEach look head (n ∷ ns) text = (own rest : List ℕ) × IsLook look head n own × IsLookOfEach look head ns rest × (text ≡ own ++ rest)
+IsLookOfEach look head (n ∷ ns) text =
+    (own rest : List ℕ) × IsLook look head n own × IsLookOfEach look head ns rest × (text ≡ own ++ rest)

@@ -21,7 +21,8 @@ use Rattle.jpq_program.specs.Heads.{shown_name}
 
 -- a character in a cell of a row whose cells are parted by tabs
 abbrev pub in_cell : ℕ → List ℕ
-in_cell c = if c == 9 then codes "\\t" else if c == 10 then codes "\\n" else if c == 13 then codes "\\r" else if c == 92 then codes "\\\\" else encode_utf8 c
+in_cell c = if c == 9 then codes "\\t" else if c == 10 then codes "\\n" else if c == 13 then codes "\\r"
+    else if c == 92 then codes "\\\\" else encode_utf8 c
 
 abbrev pub cell_text : List ℕ → List ℕ
 cell_text cell = flat_map in_cell (chars cell)
@@ -32,11 +33,13 @@ row_text cells = join_by cell_text (codes "\t") cells
 
 -- the cells before those of the paths: the input's name and the number of the document's line, each where it is asked for
 abbrev pub first_cells : Bool → Bool → List ℕ → ℕ → List (List ℕ)
-first_cells has_name has_line name line = (if has_name then shown_name name ∷ [] else []) ++ (if has_line then decimal line ∷ [] else [])
+first_cells has_name has_line name line =
+    (if has_name then shown_name name ∷ [] else []) ++ (if has_line then decimal line ∷ [] else [])
 
 -- ---- cells
 
--- the cell of some nodes: the text of the first, of a string its own and of any other value its JSON, or nothing; and whether there is one
+-- the cell of some nodes: the text of the first, of a string its own and of any other value its JSON, or nothing; and whether there
+-- is one
 abbrev pub IsCellOf : List Located → List ℕ → Bool → Type 0
 IsCellOf [] cell any = (cell ≡ []) × (any ≡ false)
 IsCellOf (n ∷ ns) cell any = IsText Raw Compact n cell × (any ≡ true)
@@ -63,7 +66,8 @@ AreCells Is (path ∷ paths) cells any = (cell : List ℕ) × (rest : List (List
 
 -- a document's row, after first cells
 abbrev pub IsRow : (JsonPath → List ℕ → Bool → Type 0) → List JsonPath → LineEnd → List (List ℕ) → List ℕ → Bool → Type 0
-IsRow Is paths end firsts text any = (cells : List (List ℕ)) × AreCells Is paths cells any × (text ≡ row_text (firsts ++ cells) ++ end_text end)
+IsRow Is paths end firsts text any =
+    (cells : List (List ℕ)) × AreCells Is paths cells any × (text ≡ row_text (firsts ++ cells) ++ end_text end)
 
 -- the same of the document that the bytes are
 abbrev pub IsRowOn : FunctionSet → List JsonPath → LineEnd → List (List ℕ) → List ℕ → List ℕ → Bool → Type 0
@@ -71,4 +75,5 @@ IsRowOn F paths end firsts bytes text any = IsRow (IsCellOn F bytes) paths end f
 
 -- the same where the document may be refused, which has no row then, or the query of a path
 abbrev pub IsRowInPart : FunctionSet → List JsonPath → LineEnd → List (List ℕ) → List ℕ → List ℕ → Bool → Type 0
-IsRowInPart F paths end firsts bytes text any = ((text ≡ []) × (any ≡ false)) ⊎ IsRow (IsCellInPart F bytes) paths end firsts text any
+IsRowInPart F paths end firsts bytes text any =
+    ((text ≡ []) × (any ≡ false)) ⊎ IsRow (IsCellInPart F bytes) paths end firsts text any

@@ -68,11 +68,17 @@ is_colored Auto taken = taken
 
 -- how nodes are shown, where the output takes colours or not
 abbrev pub look_in : Options → Bool → Look
-look_in options taken = record { output = output_in options; unit = unit_in options; ascii = options.ascii; colored = is_colored options.color taken }
+look_in options taken = record {
+  output = output_in options;
+  unit = unit_in options;
+  ascii = options.ascii;
+  colored = is_colored options.color taken;
+}
 
 -- whether lines begin with the name of the input, the number of the line, and the number of the path, for so many paths
 abbrev pub has_names : Options → Bool
-has_names options = options.with_filename || (nat_lt 1 (length options.files.items) && (not options.no_filename && not (is_table options.shown)))
+has_names options = options.with_filename
+    || (nat_lt 1 (length options.files.items) && (not options.no_filename && not (is_table options.shown)))
 
 abbrev pub has_numbers : Options → ℕ → Bool
 has_numbers options count = nat_lt 1 count && (not options.no_path_number && not (is_table options.shown))

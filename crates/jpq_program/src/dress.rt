@@ -192,15 +192,17 @@ impl Dress<'_> {
         Ok(text)
     }
 
-    /// Appends a text that a form shows in colours, if they are wanted. A text with an escape character of its own has the usual ones.
+    /// Appends a text that a form shows in colours, if they are wanted. A text with an escape character of its own has the usual
+    /// ones.
     pub(crate) fn push_colored(
         &self,
         to: &mut String,
         text: &str,
         form: Form,
     ) -> Result<(), AllocError>
-        ensures { self.now.palette ≡ None → OnOk result (Appends (IsSeenIn self.now.colored text.now)
-            (string_bytes to.old) (string_bytes to.new)) }
+        ensures { self.now.palette ≡ None → OnOk result
+            (Appends (IsSeenIn self.now.colored text.now) (string_bytes to.old)
+            (string_bytes to.new)) }
     {
         if !self.colored {
             return to.push_str(text);
@@ -216,7 +218,8 @@ impl Dress<'_> {
 
     /// A node's line, indented and escaped.
     fn line(&self, output: &Output, node: &LocatedNode<'_>) -> Result<String, AllocError>
-        ensures { IfOk result (λ text. (line : List ℕ) × IsLine output.now [] (located node.now) line
+        ensures { IfOk result (λ text. (line : List ℕ)
+            × IsLine output.now [] (located node.now) line
             × (string_bytes text ≡ dressed (look_with output.now (Some self.now))
             (located node.now).value line)) }
     {

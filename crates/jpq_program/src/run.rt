@@ -343,14 +343,14 @@ fn answer_paths<I: Inputs, W: Write, E: Write>(
     ensures answered { IfOk result (λ next. IsKnownRun options.now colours.entry
         → string_bytes streams.old.pending ≡ []
         → AreKnown (I.bytes_of inputs.old) (names_in options.now)
-        → SendsFor W.contents options.now colours.entry.taken next (map (λ path. path.path) paths.now)
-        (I.bytes_of inputs.old) streams.old streams.new) }
+        → SendsFor W.contents options.now colours.entry.taken next
+        (map (λ path. path.path) paths.now) (I.bytes_of inputs.old) streams.old streams.new) }
     ensures begun { IsKnownRun options.now colours.entry
         → string_bytes streams.old.pending ≡ []
         → AreKnown (I.bytes_of inputs.old) (names_in options.now)
         → Begins W.contents (AreInputsShown (IsShownInPartFor options.now
-        colours.entry.taken (map (λ path. path.path) paths.now)) options.now.lines (I.bytes_of inputs.old)
-        (names_in options.now)) streams.old streams.new }
+        colours.entry.taken (map (λ path. path.path) paths.now)) options.now.lines
+        (I.bytes_of inputs.old) (names_in options.now)) streams.old streams.new }
 {
     let store = PatternStore::new();
     let trees = trees_of(alloc, paths)?;

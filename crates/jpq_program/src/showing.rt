@@ -55,8 +55,9 @@ impl Showing<'_> {
         head: &str,
         node: &LocatedNode<'_>,
     ) -> Result<(), AllocError>
-        ensures { is_plain self.now ≡ true → OnOk result (Appends (IsLook (look_of self.now) head.now
-            (located node.now)) (string_bytes to.old) (string_bytes to.new)) }
+        ensures { is_plain self.now ≡ true → OnOk result
+            (Appends (IsLook (look_of self.now) head.now (located node.now))
+            (string_bytes to.old) (string_bytes to.new)) }
     {
         match &self.dress {
             None => push_line(self.alloc, &self.output, head, to, node),
