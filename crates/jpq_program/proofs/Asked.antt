@@ -3,7 +3,7 @@ use Rattle.jpq_program.proofs.Words.{◌≡◌, ◌∙◌, ◌&&◌, ◌||◌, �
 use Rattle.jpq_program.proofs.Ended.{sent_out, status_is}
 use Rattle.jpq_program.proofs.Sending.{no_named, no_shown}
 use Rattle.jpq_program.proofs.Shown.{answered_since, begun_since, nothing_begun}
-use Rattle.jpq_program.specs.Run.{has_names, has_numbers}
+use Rattle.jpq_program.specs.Run.{has_names, has_numbers, is_colored}
 
 -- ---- plain answers
 
@@ -61,7 +61,7 @@ by_path_of options colours (inl plain) = of_each options.shown plain.each
 by_path_of options colours (inr quiet) = ap is_by_path quiet.1
 
 pub plain_documents : (documents : Documents) (options : Options) (colours : Colours) → IsKnownRun options colours
-    → documents.answering.shown ≡ options.shown → documents.answering.showing.output ≡ output_in options → (colours.palette ≡ None → has_palette documents.answering.showing.dress ≡ false) → documents.answering.total ≡ options.total
+    → documents.answering.shown ≡ options.shown → documents.answering.showing.output ≡ output_in options → ((is_colored options.color colours.taken ≡ true → colours.palette ≡ None) → has_palette documents.answering.showing.dress ≡ false) → documents.answering.total ≡ options.total
     → IfSome documents.reader (λ reader. Keeps reader (shows_places documents.answering.showing.output.form) (map (λ (path : AskedPath). path_tree path.path) documents.answering.paths.now))
     → IsPlain documents
 plain_documents documents options colours run shown output usual total read = record {

@@ -151,11 +151,11 @@ pub record IsUsualRun (options : Options) : Type 0 where
   pub bindings : options.bindings.items ≡ []
   pub check : options.check ≡ false
 
--- In such a run nodes are shown so, and the environment does not say which colours lines have.
+-- In such a run nodes are shown so, and where lines have colours the environment does not say which.
 pub record IsPlainRun (options : Options) (colours : Colours) : Type 0 where
   pub usual : IsUsualRun options
   pub each : is_each options.shown ≡ true
-  pub palette : colours.palette ≡ None
+  pub palette : is_colored options.color colours.taken ≡ true → colours.palette ≡ None
 
 -- What comes of such a run in which nothing is refused and no writing fails, where the bytes of the inputs are known: what is shown of
 -- them for the paths went out, and nothing else, and the status says whether a node is shown.

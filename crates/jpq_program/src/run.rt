@@ -207,8 +207,8 @@ fn dress_of<'a, W: Write, E: Write>(
     ensures quiet { options.now.silent ≡ true → streams.new ≡ streams.old }
     ensures look { IfOk result (λ dress. look_with (output_in options.now) dress
         ≡ look_in options.now colours.entry.taken) }
-    ensures usual { colours.entry.palette ≡ None
-        → IfOk result (λ dress. has_palette dress ≡ false) }
+    ensures usual { (is_colored options.now.color colours.entry.taken ≡ true
+        → colours.entry.palette ≡ None) → IfOk result (λ dress. has_palette dress ≡ false) }
 {
     let indent = indent_of(alloc, options)?;
     let colored = is_colored(options, colours);

@@ -142,7 +142,7 @@ is_plain o colours usual are = record {
     check = are.check;
   };
   each = ap is_each are.shown;
-  palette = usual;
+  palette = λ colored. usual;
 }
 
 two_named : (o : Options) → OptionsAre o → length o.files.items ≡ 2
