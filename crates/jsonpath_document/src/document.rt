@@ -196,13 +196,15 @@ fn second_document(alloc: Global, bytes: &[u8], count: usize) -> DocumentError
 /// What is told of a text that breaks at a place.
 fn told(alloc: Global, bytes: &[u8], stop: &Stop) -> DocumentError
     requires within { (stop.now.at ≤ length bytes.now) × (stop.now.start ≤ stop.now.at) }
-    requires broken { stop.now.is_too_large ≡ false → BeginsNone (take (stop.now.at + 1) bytes.now) }
+    requires broken { stop.now.is_too_large ≡ false
+        → BeginsNone (take (stop.now.at + 1) bytes.now) }
     requires kept { stop.now.is_too_large ≡ false → IsBeginning (take stop.now.at bytes.now) }
     requires number { stop.now.is_too_large ≡ true → IsBeginning (take stop.now.start bytes.now) }
     ensures told { IsTold bytes.now result }
     ensures second { result.fault ≡ DocumentFault.SecondDocument
         → IsDocument (take (result.position - 1) bytes.now) }
-    ensures breaks { is_at_its_byte result.fault ≡ true → BeginsNone (take result.position bytes.now) }
+    ensures breaks { is_at_its_byte result.fault ≡ true
+        → BeginsNone (take result.position bytes.now) }
     ensures kept { result.fault ≢ DocumentFault.Memory
         → IsBeginning (take (result.position - 1) bytes.now) }
 {
@@ -257,7 +259,8 @@ fn refused(alloc: Global, bytes: &[u8]) -> DocumentError
     ensures empty { (result.fault ≡ DocumentFault.Empty) ↔ (are_blank bytes.now ≡ true) }
     ensures second { result.fault ≡ DocumentFault.SecondDocument
         → IsDocument (take (result.position - 1) bytes.now) }
-    ensures breaks { is_at_its_byte result.fault ≡ true → BeginsNone (take result.position bytes.now) }
+    ensures breaks { is_at_its_byte result.fault ≡ true
+        → BeginsNone (take result.position bytes.now) }
     ensures cut { result.fault ≢ DocumentFault.Empty → result.fault ≢ DocumentFault.Memory
         → (result.fault ≡ DocumentFault.CutShort) ↔ IsBeginning bytes.now }
     ensures kept { result.fault ≢ DocumentFault.Memory

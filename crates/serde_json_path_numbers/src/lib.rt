@@ -20,8 +20,6 @@ mod exact_number;
 mod laws;
 mod literal;
 mod numeral;
-#[cfg(test)]
-mod tests;
 
 pub use decimal::Decimal;
 pub use exact_number::ExactNumber;

@@ -208,7 +208,8 @@ fn first_digits(whole: &[u8], fraction: &[u8], exponent: i128) -> (u64, i128)
 #[tactic(auto, using(crate::proofs::Fewest::of_fewest))]
 fn fewest(negative: bool, size: f64, digits: u64, exponent: i128) -> Option<(u64, i64)>
     requires { unsigned_abs exponent < 2 ^ 66 }
-    ensures value { result ≡ if_read negative size (fewest negative size digits (digits, exponent)) }
+    ensures value { result
+        ≡ if_read negative size (fewest negative size digits (digits, exponent)) }
     ensures reads { IfSome result (λ found. reads_as negative size found.0 found.1 ≡ true) }
 {
     if let Some((digits, exponent)) = one_less(negative, size, digits, exponent) {

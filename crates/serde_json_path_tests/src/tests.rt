@@ -10,6 +10,7 @@ mod compared_values;
 mod comparisons;
 mod cuts;
 mod descendants;
+mod exact_numbers;
 mod filter_refusals;
 mod filters;
 mod fitting;

@@ -1,5 +1,5 @@
 -- The computed children of a slice are those at the positions that it selects, in its order.
-use Rattle.serde_json_path_core.proofs.Words.{nat_tests, common_steps, ◌≡◌, ℕ, zero, suc, ◌+◌, ◌-◌, ◌*◌, ◌<◌, ◌≤◌, ℤ, pos, negsuc, neg_ℤ, nat_abs, [], ◌∷◌, ◌↔◌, inl, inr, Bool, true, false, Option, Some, refl, sym, ap, subst, ◌∙◌, arith, suc-mul, le-div_iff_mul-le, mul-lt-mul_of_pos_right, ◌<ℤ◌, ◌≤ℤ◌, ◌+ℤ◌, ◌-ℤ◌, ◌*ℤ◌, option_map_or, ints, clamps, same_Some, none-some, Data, array, Items, no_items, item, get_item, Step, by_position, child_at, items_len, Slice, slice, step_of, bound_of, SelectsPosition, IsIn, IsInOrder, SelectedBefore, IsPositionOf, SlicePositions, count_within, strided, rising, falling, positions_by, sliced, next_position, int_max, int_min, pos-*ℤ-pos, pos-*ℤ-negsuc}
+use Rattle.serde_json_path_core.proofs.Words.{nat_tests, common_steps, ◌≡◌, ℕ, zero, suc, ◌+◌, ◌-◌, ◌*◌, ◌<◌, ◌≤◌, ℤ, pos, negsuc, neg_ℤ, nat_abs, [], ◌∷◌, ◌↔◌, inl, inr, Bool, true, false, Option, Some, refl, sym, ap, subst, ◌∙◌, arith, suc-mul, le-div_iff_mul-le, mul-lt-mul_of_pos_right, ◌<ℤ◌, ◌≤ℤ◌, ◌+ℤ◌, ◌-ℤ◌, ◌*ℤ◌, option_map_or, ints, clamps, same_Some, none-some, Data, array, Items, no_items, item, get_item, Step, by_position, child_at, items_len, Slice, slice, step_of, bound_of, SelectsPosition, IsIn, IsInOrder, SelectedBefore, IsPositionOf, SlicePositions, count_within, strided, rising, falling, positions_by, sliced, next_position, int_max, int_min, pos-*ℤ-negsuc}
 
 -- ---- items at positions
 

@@ -28,7 +28,8 @@ pub(crate) fn located_at<'b>(
     found: FoundNode<'b>,
 ) -> Result<LocatedNode<'b>, QueryError>
     ensures node { IfOk result (λ node. located node ≡ record {
-      location = stack_path [] (frames_view frames.now) ++ option_to_list (option_map step_view found.entry.step);
+      location = stack_path [] (frames_view frames.now)
+          ++ option_to_list (option_map step_view found.entry.step);
       value = view found.entry.value.now;
     }) }
     ensures refused { IfErr result (λ e. e ≡ Memory) }

@@ -3,13 +3,13 @@
 mod numerals;
 mod order;
 
-use crate::{
-    Amount, ExactNumber, law_equality_of_numbers, law_integers_keep_their_order,
-    law_numbers_are_finite, law_order_of_numbers, numeral_amount,
-};
 use numerals::NUMERALS;
 use order::ORDER;
 use serde_json::Value;
+use serde_json_path_numbers::{
+    Amount, ExactNumber, law_equality_of_numbers, law_integers_keep_their_order,
+    law_numbers_are_finite, law_order_of_numbers, numeral_amount,
+};
 use std::alloc::Global;
 use std::process::Abort;
 use std::test::Fail;
