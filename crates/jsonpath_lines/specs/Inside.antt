@@ -1,5 +1,5 @@
 -- What contracts of private functions cite alone.
-use Rattle.std.specs.Prelude.{◌≡◌, ◌≤◌, ◌*◌, ℕ, max, min, Bool, true, false, List, [], ◌∷◌, ◌++◌, length, map, Option, Some, None, IfSome, string_bytes, unwrap_or, nat_le, if◌then◌else◌, codes}
+use Rattle.std.specs.Prelude.{◌≡◌, ◌≤◌, ℕ, min, Bool, true, false, List, [], ◌∷◌, ◌++◌, length, map, Option, Some, None, IfSome, string_bytes, unwrap_or, nat_le, if◌then◌else◌, codes}
 use Rattle.serde_json_path_nodes.specs.Words.{decimal, Located, first_places, normal, located}
 use Rattle.json.specs.Lex.{tokens}
 use Rattle.json.specs.Layout.{pretty}

@@ -66,8 +66,8 @@ impl<'b> Sink<'b> for DistinctNodes<'b> {
 /// The nodes that remain of a walk, each location once, where it comes first: all, or the first ones and more
 /// than the limit.
 ///
-/// At most `LEAST_ROOM` nodes are held meanwhile, or four times as many as differ in their locations, or as the limit says. The error is `Memory` or,
-/// as that of `Walk::next`, `Pattern`.
+/// At most `LEAST_ROOM` nodes are held meanwhile, or four times as many as differ in their locations, or as the limit says. The
+/// error is `Memory` or, as that of `Walk::next`, `Pattern`.
 ///
 /// ```text
 /// distinct_nodes(alloc, Some(10), path.walk(alloc, &document, &Builtin)?)?
