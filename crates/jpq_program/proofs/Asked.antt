@@ -1,15 +1,15 @@
 -- What options ask for, as documents are answered.
-use Rattle.jpq_program.proofs.Words.{◌≡◌, ◌∙◌, ◌&&◌, ◌||◌, ℕ, Bool, true, false, List, [], Option, None, length, length-map, map, not, refl, sym, ap, subst, string_bytes, Appends, AreAnswersOn, AreInputsShown, AreKnown, ArePaths, head_text, IsAnswered, Outcome, names_in, rule_in, status_of, Answered, AppendsBeginning, AreAnswersInPart, AskedPath, Answering, Begins, IsAnsweredInPart, IsShownInPartFor, SendsFor, Shown, inr, ◌++◌, Documents, Heads, IsPlain, IsPlainRun, IsShownFor, JsonPath, Keeps, IfSome, Nodes, OptionShown, Options, Output, Colours, Csv, Tsv, Form, IsRowInPart, IsRowOn, Look, MatchBool, first_cells, is_tsv, look_in, has_palette, Sends, Streams, builtin_functions, form_in, has_counts, has_lines, head_by, heads_in, is_each, is_plain_answer, is_table, output_in, path_tree, shows_places, LocationAndValue, Value, Raw, Location, Pointer, Json, Count, Nothing, path_texts, ◌⊎◌, AnswersRun, Ends, IfMore, IsKnownRun, IsUsualRun, More, Next, SendsUntil, arith, common_steps, nat_tests, inl, is_by_path, is_plain, is_quiet}
+use Rattle.jpq_program.proofs.Words.{◌≡◌, ◌∙◌, ◌&&◌, ◌||◌, ℕ, Bool, true, false, List, [], Option, None, length, length-map, map, not, refl, sym, ap, subst, string_bytes, Appends, AreInputsShown, AreKnown, ArePaths, IsAnswered, IsShownInPart, IsShownOn, cells_for, head_for, Outcome, names_in, rule_in, status_of, Answered, AppendsBeginning, AskedPath, Answering, Begins, IsAnsweredInPart, IsShownInPartFor, SendsFor, Shown, inr, ◌++◌, Documents, Heads, IsPlain, IsPlainRun, IsShownFor, JsonPath, Keeps, IfSome, Nodes, OptionShown, Options, Output, Colours, Csv, Tsv, Form, IsRowInPart, IsRowOn, Look, MatchBool, first_cells, is_tsv, look_in, has_palette, Sends, Streams, builtin_functions, form_in, has_counts, has_nodes, head_by, heads_in, is_each, is_plain_answer, is_table, output_in, path_tree, shows_places, LocationAndValue, Value, Raw, Location, Pointer, Json, Count, Nothing, path_texts, ◌⊎◌, AnswersRun, Ends, IfMore, IsKnownRun, IsUsualRun, More, Next, SendsUntil, arith, common_steps, nat_tests, inl, is_plain, is_quiet}
 use Rattle.jpq_program.proofs.Ended.{sent_out, status_is}
 use Rattle.jpq_program.proofs.Sending.{no_named, no_shown}
 use Rattle.jpq_program.proofs.Shown.{answered_since, begun_since, nothing_begun}
-use Rattle.jpq_program.specs.Run.{has_names, has_numbers, is_colored}
+use Rattle.jpq_program.specs.Run.{is_colored}
 
 -- ---- plain answers
 
 -- an answer is plain, by what it shows, its form, whether the environment says which colours lines have, and whether counts are summed up
 abbrev plain_by : OptionShown → Form → Bool → Bool → Bool
-plain_by shown form palette total = is_tsv shown || (not (is_table shown) && ((not palette && has_lines form) || (has_counts form && not total)))
+plain_by shown form palette total = is_tsv shown || (not (is_table shown) && ((not palette && has_nodes form) || (has_counts form && not total)))
 
 each_plain : (shown : OptionShown) → is_each shown ≡ true → plain_by shown (form_in shown) false false ≡ true
 each_plain (Nodes LocationAndValue) is = refl
@@ -18,7 +18,7 @@ each_plain (Nodes Raw) is = refl
 each_plain (Nodes Location) is = refl
 each_plain (Nodes Pointer) is = refl
 each_plain (Nodes Count) is = refl
-each_plain (Nodes Json) is = absurd cc
+each_plain (Nodes Json) is = refl
 each_plain (Nodes Nothing) is = absurd cc
 each_plain Tsv is = refl
 each_plain Csv is = absurd cc
@@ -50,16 +50,6 @@ pub usual_of : (options : Options) (colours : Colours) → IsKnownRun options co
 usual_of options colours (inl plain) = plain.usual
 usual_of options colours (inr quiet) = quiet.0
 
--- what is shown of nodes in such a run is shown by path
-pub by_path_of : (options : Options) (colours : Colours) → IsKnownRun options colours → is_by_path options.shown ≡ true
-by_path_of options colours (inl plain) = of_each options.shown plain.each
-  where
-    of_each : (shown : OptionShown) → is_each shown ≡ true → is_by_path shown ≡ true
-    of_each (Nodes Json) is = absurd cc
-    of_each (Nodes _) is = refl
-    of_each _ is = refl
-by_path_of options colours (inr quiet) = ap is_by_path quiet.1
-
 pub plain_documents : (documents : Documents) (options : Options) (colours : Colours) → IsKnownRun options colours
     → documents.answering.shown ≡ options.shown → documents.answering.showing.output ≡ output_in options → ((is_colored options.color colours.taken ≡ true → colours.palette ≡ None) → has_palette documents.answering.showing.dress ≡ false) → documents.answering.total ≡ options.total
     → IfSome documents.reader (λ reader. Keeps reader (shows_places documents.answering.showing.output.form) (map (λ (path : AskedPath). path_tree path.path) documents.answering.paths.now))
@@ -82,11 +72,11 @@ plain_documents documents options colours run shown output usual total read = re
 
 abbrev Whole : OptionShown → List JsonPath → Look → Heads → Shown
 Whole shown paths look heads name number bytes text any = MatchBool (is_table shown) (IsRowOn builtin_functions paths look.output.end (first_cells heads.file heads.line name number) bytes text any)
-    (AreAnswersOn builtin_functions paths look (head_by heads name number) bytes text any)
+    (IsShownOn builtin_functions paths look (head_by look.output heads name number) bytes text any)
 
 abbrev InPart : OptionShown → List JsonPath → Look → Heads → Shown
 InPart shown paths look heads name number bytes text any = MatchBool (is_table shown) (IsRowInPart builtin_functions paths look.output.end (first_cells heads.file heads.line name number) bytes text any)
-    (AreAnswersInPart builtin_functions paths look (head_by heads name number) bytes text any)
+    (IsShownInPart builtin_functions paths look (head_by look.output heads name number) bytes text any)
 
 heads_as_asked : (options : Options) (asked : List AskedPath) (heads : Heads) → heads ≡ heads_in options (length asked) → heads ≡ heads_in options (length (map (λ (path : AskedPath). path.path) asked))
 heads_as_asked options asked heads is = is ∙ ap (heads_in options) (sym (length-map asked (λ (path : AskedPath). path.path)))
@@ -128,7 +118,7 @@ begun_for contents options taken asked look heads bytes_of before start now look
 pub nothing_for : {W E : Type 0} (contents : W → Option (List ℕ)) (options : Options) (taken : Bool) (paths : List JsonPath) (bytes_of : List ℕ → Option (List ℕ)) (before now : Streams W E) → AreKnown bytes_of (names_in options) → now.out ≡ before.out
     → Begins contents (AreInputsShown (IsShownInPartFor options taken paths) options.lines bytes_of (names_in options)) before now
 nothing_for contents options taken paths bytes_of before now known same = nothing_begun contents (AreInputsShown (IsShownInPartFor options taken paths) options.lines bytes_of (names_in options)) before now
-    (no_named (IsShownInPartFor options taken paths) options.lines bytes_of (names_in options) (λ name number bytes. no_shown (is_table options.shown) paths (look_in options taken) options.end (first_cells (has_names options) options.line_number name number) (head_text (has_names options) options.line_number (has_numbers options (length paths)) name number) bytes) known 1) same
+    (no_named (IsShownInPartFor options taken paths) options.lines bytes_of (names_in options) (λ name number bytes. no_shown (is_table options.shown) paths (look_in options taken) options.end (cells_for options name number) (head_for options (length paths) name number) bytes) known 1 false) same
 
 -- a run was answered
 pub run_answered : {W E : Type 0} (contents : W → Option (List ℕ)) (bytes_of : List ℕ → Option (List ℕ)) (options : Options) (taken : Bool) (next : Next) (asked : List AskedPath) (old start answer final : Streams W E)

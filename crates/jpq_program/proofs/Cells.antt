@@ -1,5 +1,5 @@
 -- Rows of tables, cell by cell.
-use Rattle.jpq_program.proofs.Words.{◌≡◌, ◌∙◌, ◌||◌, ◌⊎◌, ◌+◌, ◌<◌, ◌++◌, ◌∷◌, ℕ, Bool, true, false, List, [], Option, None, Some, String, Global, length, nat_lt, map, refl, sym, ap, subst, inl, inr, suc, zero, ◌-◌, ◌≤◌, Err, IfOk, Ok, OnOk, Result, arith, is_some, length-append, length-map, length-take-le, nat_tests, take-append-le, take_all, append-nil, append_assoc, append_cancel_right, codes, flat_map, flat_map-append, if◌then◌else◌, string_bytes, true≢false, Adds, Answered, AreCells, AskedPath, Bor, Compact, Data, Finds, FunctionSet, IsAnswer, IsAnswerOn, IsAsked, IsCell, IsCellInPart, IsCellOf, IsCellOn, IsFirstOf, IsLook, IsLookOfEach, IsRowInPart, IsRowOn, IsText, Answering, AnswersBy, AnswersEach, AnswersRow, AreShownAs, Begins, Csv, MatchBool, Nodes, OptionShown, Tsv, asked_look, each_by, each_in_part_by, is_table, is_tsv, look_of, not, ◌&&◌, row_by, row_in_part_by, shown_in_part_by, JsonPath, LineEnd, Located, OnlyRefuses, Outcome, Raw, Selects, ShowsAs, Streams, builtin_functions, cell_look, cell_text, dressed, end_text, get_or, has_escapes, path_tree, row_text, take, with_most, with_rule_of}
+use Rattle.jpq_program.proofs.Words.{◌≡◌, ◌∙◌, ◌||◌, ◌⊎◌, ◌+◌, ◌<◌, ◌++◌, ◌∷◌, ℕ, Bool, true, false, List, [], Option, None, Some, String, Global, length, nat_lt, map, refl, sym, ap, subst, inl, inr, suc, zero, ◌-◌, ◌≤◌, Err, IfOk, Ok, OnOk, Result, arith, is_some, length-append, length-map, length-take-le, nat_tests, take-append-le, take_all, append-nil, append_assoc, append_cancel_right, codes, flat_map, flat_map-append, if◌then◌else◌, string_bytes, true≢false, Adds, Answered, AreCells, AskedPath, Bor, Compact, Data, Finds, FunctionSet, IsAnswer, IsAnswerOn, IsAsked, IsCell, IsCellInPart, IsCellOf, IsCellOn, IsFirstOf, IsLook, ArePieces, IsRowInPart, IsRowOn, IsText, Answering, AnswersAll, AnswersBy, AnswersRow, AreShownAs, Begins, Csv, MatchBool, Nodes, OptionShown, Tsv, all_by, all_in_part_by, asked_look, is_table, is_tsv, look_of, not, ◌&&◌, row_by, row_in_part_by, shown_in_part_by, JsonPath, LineEnd, Located, OnlyRefuses, Outcome, Raw, Selects, ShowsAs, Streams, builtin_functions, cell_look, cell_text, dressed, end_text, get_or, has_escapes, path_tree, row_text, take, with_most, with_rule_of}
 use Rattle.jpq_program.proofs.Dressed.{bare_line}
 use Rattle.jpq_program.proofs.Nodes.{adds_nothing, appends_nothing, further_mapped}
 use Rattle.jpq_program.proofs.Shown.{or_assoc, or_false, shown_of_asked}
@@ -51,18 +51,18 @@ cells_further Is (first ∷ paths) path cells cell any one are is = (
 abbrev line_of : List ℕ → Bool → List ℕ
 line_of cell any = if any then cell ++ codes "\n" else []
 
-first_shown : (n : Located) (cell : List ℕ) → IsText Raw Compact n cell → IsLookOfEach cell_look [] (n ∷ []) (cell ++ codes "\n")
+first_shown : (n : Located) (cell : List ℕ) → IsText Raw Compact n cell → ArePieces cell_look false [] (n ∷ []) (cell ++ codes "\n")
 first_shown n cell is = (cell ++ codes "\n", [], (cell ++ codes "\n", cell ++ codes "\n", (cell, is, refl), sym (bare_line cell_look n.value (cell ++ codes "\n") refl refl), refl), refl, sym (append-nil (cell ++ codes "\n")))
 
-cell_answers : (F : FunctionSet) (path : JsonPath) (d : Data) (nodes : List Located) (cell : List ℕ) (any : Bool) → Selects (with_rule_of path F) (path_tree path) d nodes → IsCellOf nodes cell any → IsAnswer F path (with_most cell_look (Some 1)) [] d (line_of cell any) any
+cell_answers : (F : FunctionSet) (path : JsonPath) (d : Data) (nodes : List Located) (cell : List ℕ) (any : Bool) → Selects (with_rule_of path F) (path_tree path) d nodes → IsCellOf nodes cell any → IsAnswer F path (with_most cell_look (Some 1)) false [] d (line_of cell any) any
 cell_answers F path d [] cell any selects is = ([], selects, ap (line_of cell) is.1, is.1)
 cell_answers F path d (n ∷ ns) cell any selects is =
-    (n ∷ ns, selects, subst (λ (a : Bool). IsLookOfEach cell_look [] (n ∷ []) (line_of cell a)) (sym is.1) (first_shown n cell is.0), is.1)
+    (n ∷ ns, selects, subst (λ (a : Bool). ArePieces cell_look false [] (n ∷ []) (line_of cell a)) (sym is.1) (first_shown n cell is.0), is.1)
 
-cell_answered : (nodes : List Located) (cell : List ℕ) (any : Bool) → (any ≡ false → cell ≡ []) → IsLookOfEach cell_look [] (take 1 nodes) (line_of cell any) → any ≡ nat_lt 0 (length (take 1 nodes)) → IsCellOf nodes cell any
+cell_answered : (nodes : List Located) (cell : List ℕ) (any : Bool) → (any ≡ false → cell ≡ []) → ArePieces cell_look false [] (take 1 nodes) (line_of cell any) → any ≡ nat_lt 0 (length (take 1 nodes)) → IsCellOf nodes cell any
 cell_answered [] cell any none are is = (none is, is)
 cell_answered (n ∷ ns) cell any none are is =
-    let lines = subst (λ (a : Bool). IsLookOfEach cell_look [] (n ∷ []) (line_of cell a)) is are in
+    let lines = subst (λ (a : Bool). ArePieces cell_look false [] (n ∷ []) (line_of cell a)) is are in
     let own = lines.2 in
     let text : cell ++ codes "\n" ≡ own.2.0 ++ codes "\n" = lines.4 ∙ ap (λ (t : List ℕ). lines.0 ++ t) lines.3 ∙ append-nil lines.0 ∙ own.4 ∙ own.3 ∙ bare_line cell_look n.value own.0 refl refl ∙ own.2.2 in
     (subst (IsText Raw Compact n) (sym (append_cancel_right cell own.2.0 (codes "\n") text)) own.2.1, is)
@@ -71,7 +71,7 @@ cell_answered (n ∷ ns) cell any none are is =
 cell_on : (bytes : List ℕ) (value asked : Data) (path : JsonPath) (nodes : List Located) (cell : List ℕ) (any : Bool) → ShowsAs cell_look bytes value path → IsAsked bytes value asked → Selects (with_rule_of path builtin_functions) (path_tree path) asked nodes → IsCellOf nodes cell any
     → IsCellOn builtin_functions bytes path cell any
 cell_on bytes value asked path nodes cell any shows of selects is =
-    let shown = shown_of_asked cell_look bytes value asked path (Some 1) [] (line_of cell any) any shows of (cell_answers builtin_functions path asked nodes cell any selects is) in
+    let shown = shown_of_asked cell_look bytes value asked path (Some 1) false [] (line_of cell any) any shows of (cell_answers builtin_functions path asked nodes cell any selects is) in
     (shown.0, shown.1, (shown.2.0, shown.2.1, cell_answered shown.2.0 cell any (no_cell nodes is) shown.2.2 shown.2.3))
   where
     no_cell : (nodes : List Located) → IsCellOf nodes cell any → any ≡ false → cell ≡ []
@@ -210,20 +210,20 @@ row_answered {W} {E} contents paths end firsts cells bytes before old now found 
 
 -- ---- what is shown of a document
 
--- what is shown in a row, or for each path, is what is asked to be shown
+-- what is shown in a row, or of all paths, is what is asked to be shown
 pub as_row : {W E : Type 0} (contents : W → Option (List ℕ)) (answering : Answering) (name : List ℕ) (number : ℕ) (bytes : List ℕ) (before now : Streams W E) → is_table answering.shown ≡ true
     → AnswersRow contents answering name number bytes before now → AnswersBy contents answering name number bytes before now
-as_row contents answering name number bytes before now table answered = subst (λ (t : Bool). Answered answering.silent contents (λ text any. MatchBool t (row_by answering name number bytes text any) (each_by answering name number bytes text any))
-    (λ text any. MatchBool t (row_in_part_by answering name number bytes text any) (each_in_part_by answering name number bytes text any)) before now) (sym table) answered
+as_row contents answering name number bytes before now table answered = subst (λ (t : Bool). Answered answering.silent contents (λ text any. MatchBool t (row_by answering name number bytes text any) (all_by answering name number bytes text any))
+    (λ text any. MatchBool t (row_in_part_by answering name number bytes text any) (all_in_part_by answering name number bytes text any)) before now) (sym table) answered
 
-pub as_each : {W E : Type 0} (contents : W → Option (List ℕ)) (answering : Answering) (name : List ℕ) (number : ℕ) (bytes : List ℕ) (before now : Streams W E) → is_table answering.shown ≡ false
-    → AnswersEach contents answering name number bytes before now → AnswersBy contents answering name number bytes before now
-as_each contents answering name number bytes before now table answered = subst (λ (t : Bool). Answered answering.silent contents (λ text any. MatchBool t (row_by answering name number bytes text any) (each_by answering name number bytes text any))
-    (λ text any. MatchBool t (row_in_part_by answering name number bytes text any) (each_in_part_by answering name number bytes text any)) before now) (sym table) answered
+pub as_all : {W E : Type 0} (contents : W → Option (List ℕ)) (answering : Answering) (name : List ℕ) (number : ℕ) (bytes : List ℕ) (before now : Streams W E) → is_table answering.shown ≡ false
+    → AnswersAll contents answering name number bytes before now → AnswersBy contents answering name number bytes before now
+as_all contents answering name number bytes before now table answered = subst (λ (t : Bool). Answered answering.silent contents (λ text any. MatchBool t (row_by answering name number bytes text any) (all_by answering name number bytes text any))
+    (λ text any. MatchBool t (row_in_part_by answering name number bytes text any) (all_in_part_by answering name number bytes text any)) before now) (sym table) answered
 
-pub begun_as_each : {W E : Type 0} (contents : W → Option (List ℕ)) (answering : Answering) (name : List ℕ) (number : ℕ) (bytes : List ℕ) (before now : Streams W E) → is_table answering.shown ≡ false
-    → Begins contents (each_in_part_by answering name number bytes) before now → Begins contents (shown_in_part_by answering name number bytes) before now
-begun_as_each contents answering name number bytes before now table begun = subst (λ (t : Bool). Begins contents (λ text any. MatchBool t (row_in_part_by answering name number bytes text any) (each_in_part_by answering name number bytes text any)) before now) (sym table) begun
+pub begun_as_all : {W E : Type 0} (contents : W → Option (List ℕ)) (answering : Answering) (name : List ℕ) (number : ℕ) (bytes : List ℕ) (before now : Streams W E) → is_table answering.shown ≡ false
+    → Begins contents (all_in_part_by answering name number bytes) before now → Begins contents (shown_in_part_by answering name number bytes) before now
+begun_as_all contents answering name number bytes before now table begun = subst (λ (t : Bool). Begins contents (λ text any. MatchBool t (row_in_part_by answering name number bytes text any) (all_in_part_by answering name number bytes text any)) before now) (sym table) begun
 
 -- the nodes are looked at so
 pub looked_at : (answering : Answering) (bytes : List ℕ) (value : Data) (table : Bool) → is_table answering.shown ≡ table → AreShownAs (asked_look answering) bytes value answering.paths.now

@@ -3,6 +3,7 @@
 -- Shown: what was written of a document is what its paths show.
 -- Dressed: lines that are indented and escaped.
 -- Cells: rows of tables, cell by cell.
+-- Arrays: what is shown of a document in one array, or for each path.
 -- Read: what is shown of what was read is what is shown of the document.
 -- Parsed: the paths of words, one after the other.
 -- Asked: what options ask for, as documents are answered.
@@ -16,6 +17,7 @@ mod Nodes
 mod Shown
 mod Dressed
 mod Cells
+mod Arrays
 mod Read
 mod Parsed
 mod Asked

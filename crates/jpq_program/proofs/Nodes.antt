@@ -1,6 +1,6 @@
 -- Nodes that are written, one after the other.
 use Rattle.jsonpath_lines.specs.Inside as lines
-use Rattle.jpq_program.proofs.Words.{◌≡◌, ℕ, ◌+◌, true, false, List, [], ◌∷◌, ◌++◌, Option, None, length, length-append, refl, sym, ap, subst, ◌∙◌, append_assoc, append-nil, arith, common_steps, nat_tests, string_bytes, Appends, Appends-trans, Bor, Some, Located, IsLook, IsLookOfEach, Look, look_of, up_to, is_reached, IsWithin, reached, within_further, all_below, AreEnough, take-append-le, Adds, AppendsBeginning, BeginsFirst, BeginsNodes, IfSome, TookFirst, ◌≤◌, WritesLines, WritesNode, KeepsRest, TookNodes, FilledNodes, Showing, Written, shows_lines, suc, ◌<◌, get_or, map, take, drop, map-append, map_push, take_more, take-append-drop, drop-cons}
+use Rattle.jpq_program.proofs.Words.{◌≡◌, ◌||◌, ℕ, ◌+◌, Bool, nat_lt, is_after, true, false, List, [], ◌∷◌, ◌++◌, Option, None, length, length-append, refl, sym, ap, subst, ◌∙◌, append_assoc, append-nil, arith, common_steps, nat_tests, string_bytes, Appends, Appends-trans, Bor, Some, Located, ArePieces, IsPiece, Look, look_of, up_to, is_reached, IsWithin, reached, within_further, all_below, AreEnough, take-append-le, Adds, AppendsBeginning, BeginsFirst, BeginsNodes, IfSome, TookFirst, ◌≤◌, WritesNodes, WritesNode, KeepsRest, TookNodes, FilledNodes, Showing, Written, shows_nodes, suc, ◌<◌, get_or, map, take, drop, map-append, map_push, take_more, take-append-drop, drop-cons}
 
 -- ---- what goes out
 
@@ -36,29 +36,41 @@ begun_after out later last waiting left text more adds begun = (
   Appends-trans out later last adds.0 begun.0 adds.1 begun.3,
 )
 
--- ---- lines
+-- ---- nodes
 
--- the lines of some nodes, and of others after them
-pub lines_both : (look : Look) (head : List ℕ) (ns ms : List Located) (text more : List ℕ) → IsLookOfEach look head ns text → IsLookOfEach look head ms more
-    → IsLookOfEach look head (ns ++ ms) (text ++ more)
-lines_both look head [] ms text more h later = subst (IsLookOfEach look head ms) (ap (λ t. t ++ more) (sym h)) later
-lines_both look head (n ∷ ns) ms text more h later =
-    (h.0, h.1 ++ more, h.2, lines_both look head ns ms h.1 more h.3 later, ap (λ t. t ++ more) h.4 ∙ append_assoc h.0 h.1 more)
+-- some nodes, and others after them
+pub pieces_both : (look : Look) (later : Bool) (head : List ℕ) (ns ms : List Located) (text more : List ℕ) → ArePieces look later head ns text → ArePieces look (later || nat_lt 0 (length ns)) head ms more
+    → ArePieces look later head (ns ++ ms) (text ++ more)
+pieces_both look later head [] ms text more h rest =
+    subst (ArePieces look later head ms) (ap (λ t. t ++ more) (sym h)) (subst (λ (l : Bool). ArePieces look l head ms more) (still later) rest)
+  where
+    still : (b : Bool) → (b || nat_lt 0 0) ≡ b
+    still b = grind (arith, nat_tests, common_steps)
+pieces_both look later head (n ∷ ns) ms text more h rest = (
+  h.0,
+  h.1 ++ more,
+  h.2,
+  pieces_both look true head ns ms h.1 more h.3 (subst (λ (l : Bool). ArePieces look l head ms more) (after_one later (length ns)) rest),
+  ap (λ t. t ++ more) h.4 ∙ append_assoc h.0 h.1 more,
+)
+  where
+    after_one : (b : Bool) (k : ℕ) → (b || nat_lt 0 (suc k)) ≡ (true || nat_lt 0 k)
+    after_one b k = grind (arith, nat_tests, common_steps)
 
--- a line that was pending, of which some went out
-pub line_written : (look : Look) (head : List ℕ) (n : Located) (out later_out : Option (List ℕ)) (waiting pushed later : List ℕ) → lines.Appends (IsLook look head n) waiting pushed
-    → Adds out pushed later_out later [] → (text : List ℕ) × IsLookOfEach look head (n ∷ []) text × Adds out waiting later_out later text
-line_written look head n out later_out waiting pushed later line adds = (
-  line.0 ++ [],
-  (line.0, [], line.1, refl, refl),
-  (adds.0, adds.1, ap (λ t. waiting ++ t) (append-nil line.0) ∙ sym line.2 ∙ sym (append-nil pushed) ∙ adds.2),
+-- a node that was pending, of which some went out
+pub node_written : (look : Look) (later : Bool) (head : List ℕ) (n : Located) (out later_out : Option (List ℕ)) (waiting pushed left : List ℕ) → lines.Appends (IsPiece look later head n) waiting pushed
+    → Adds out pushed later_out left [] → (text : List ℕ) × ArePieces look later head (n ∷ []) text × Adds out waiting later_out left text
+node_written look later head n out later_out waiting pushed left node adds = (
+  node.0 ++ [],
+  (node.0, [], node.1, refl, refl),
+  (adds.0, adds.1, ap (λ t. waiting ++ t) (append-nil node.0) ∙ sym node.2 ∙ sym (append-nil pushed) ∙ adds.2),
 )
 
--- of a line that was pending a beginning went out
-pub line_begun : (look : Look) (head : List ℕ) (n : Located) (out later : Option (List ℕ)) (waiting pushed : List ℕ) → lines.Appends (IsLook look head n) waiting pushed
-    → AppendsBeginning out later pushed → (text : List ℕ) × IsLookOfEach look head (n ∷ []) text × AppendsBeginning out later (waiting ++ text)
-line_begun look head n out later waiting pushed line begun =
-    (line.0 ++ [], (line.0, [], line.1, refl, refl), subst (AppendsBeginning out later) (line.2 ∙ ap (λ t. waiting ++ t) (sym (append-nil line.0))) begun)
+-- of a node that was pending a beginning went out
+pub node_begun : (look : Look) (later : Bool) (head : List ℕ) (n : Located) (out later_out : Option (List ℕ)) (waiting pushed : List ℕ) → lines.Appends (IsPiece look later head n) waiting pushed
+    → AppendsBeginning out later_out pushed → (text : List ℕ) × ArePieces look later head (n ∷ []) text × AppendsBeginning out later_out (waiting ++ text)
+node_begun look later head n out later_out waiting pushed node begun =
+    (node.0 ++ [], (node.0, [], node.1, refl, refl), subst (AppendsBeginning out later_out) (node.2 ∙ ap (λ t. waiting ++ t) (sym (append-nil node.0))) begun)
 
 -- ---- nodes that are written
 
@@ -67,38 +79,48 @@ keeps_both before old now first second = record {
   same = second.same ∙ first.same;
   showing = second.showing ∙ first.showing;
   head = second.head ∙ first.head;
+  later = second.later ∙ first.later;
   limit = second.limit ∙ first.limit;
   outcome = second.outcome ∙ first.outcome;
   err = second.err ∙ first.err;
   left = second.left ∙ first.left;
 }
 
-still_lines : {W E : Type 0} (before old : Written W E) → KeepsRest before old → shows_lines before.showing.now ≡ true → shows_lines old.showing.now ≡ true
-still_lines before old rest plain = subst (λ (s : Bor Showing). shows_lines s.now ≡ true) (sym rest.showing) plain
+still_shown : {W E : Type 0} (before old : Written W E) → KeepsRest before old → shows_nodes before.showing.now ≡ true → shows_nodes old.showing.now ≡ true
+still_shown before old rest plain = subst (λ (s : Bor Showing). shows_nodes s.now ≡ true) (sym rest.showing) plain
 
--- lines that were shown since are lines as they were shown before
-lines_since : {W E : Type 0} (before old : Written W E) (nodes : List Located) (text : List ℕ) → KeepsRest before old → IsLookOfEach (look_of old.showing.now) old.head.now nodes text → IsLookOfEach (look_of before.showing.now) before.head.now nodes text
-lines_since before old nodes text rest are = subst (λ (h : Bor (List ℕ)). IsLookOfEach (look_of before.showing.now) h.now nodes text) rest.head
-    (subst (λ (s : Bor Showing). IsLookOfEach (look_of s.now) old.head.now nodes text) rest.showing are)
+-- after so many nodes there is one before, or there was
+after_nodes : {W E : Type 0} (before old : Written W E) (count : ℕ) → KeepsRest before old → old.count ≡ before.count + count → is_after old ≡ (is_after before || nat_lt 0 count)
+after_nodes before old count rest many = ap (λ (later : Bool). later || nat_lt 0 old.count) rest.later ∙ ap (λ n. before.is_later || nat_lt 0 n) many ∙ counted before.is_later before.count count
+  where
+    counted : (later : Bool) (n m : ℕ) → (later || nat_lt 0 (n + m)) ≡ ((later || nat_lt 0 n) || nat_lt 0 m)
+    counted later n m = grind (arith, nat_tests, common_steps)
 
-pub writes_both : {W E : Type 0} (contents : W → Option (List ℕ)) (ns ms : List Located) (before old now : Written W E) → KeepsRest before old
-    → WritesLines contents ns before old → WritesLines contents ms old now → WritesLines contents (ns ++ ms) before now
-writes_both contents ns ms before old now rest first second plain =
+-- nodes that were shown since are shown as before, after so many
+nodes_since : {W E : Type 0} (before old : Written W E) (count : ℕ) (nodes : List Located) (text : List ℕ) → KeepsRest before old → old.count ≡ before.count + count → ArePieces (look_of old.showing.now) (is_after old) old.head.now nodes text
+    → ArePieces (look_of before.showing.now) (is_after before || nat_lt 0 count) before.head.now nodes text
+nodes_since before old count nodes text rest many are = subst (λ (later : Bool). ArePieces (look_of before.showing.now) later before.head.now nodes text) (after_nodes before old count rest many)
+    (subst (λ (h : Bor (List ℕ)). ArePieces (look_of before.showing.now) (is_after old) h.now nodes text) rest.head
+    (subst (λ (s : Bor Showing). ArePieces (look_of s.now) (is_after old) old.head.now nodes text) rest.showing are))
+
+pub writes_both : {W E : Type 0} (contents : W → Option (List ℕ)) (ns ms : List Located) (before old now : Written W E) → KeepsRest before old → old.count ≡ before.count + length ns
+    → WritesNodes contents ns before old → WritesNodes contents ms old now → WritesNodes contents (ns ++ ms) before now
+writes_both contents ns ms before old now rest many first second plain =
     let one = first plain in
-    let two = second (still_lines before old rest plain) in (
+    let two = second (still_shown before old rest plain) in (
       one.0 ++ two.0,
-      lines_both (look_of before.showing.now) before.head.now ns ms one.0 two.0 one.1 (lines_since before old ms two.0 rest two.1),
+      pieces_both (look_of before.showing.now) (is_after before) before.head.now ns ms one.0 two.0 one.1 (nodes_since before old (length ns) ms two.0 rest many two.1),
       adds_both (contents before.streams.now.out) (contents old.streams.now.out) (contents now.streams.now.out) (string_bytes before.streams.now.pending) (string_bytes old.streams.now.pending) (string_bytes now.streams.now.pending) one.0 two.0 one.2 two.2,
     )
 
 -- none was written
 pub took_none : {W E : Type 0} (contents : W → Option (List ℕ)) (w : Written W E) → w.stop ≡ None → is_reached w.limit w.count ≡ false → TookNodes contents w [] w
 took_none contents w stop more = record {
-  rest = record { same = refl; showing = refl; head = refl; limit = refl; outcome = refl; err = refl; left = refl };
+  rest = record { same = refl; showing = refl; head = refl; later = refl; limit = refl; outcome = refl; err = refl; left = refl };
   stop = stop;
   count = arith_zero w.count;
   more = more;
-  lines = λ plain. ([], refl, adds_nothing (contents w.streams.now.out) (string_bytes w.streams.now.pending));
+  written = λ plain. ([], refl, adds_nothing (contents w.streams.now.out) (string_bytes w.streams.now.pending));
 }
   where
     arith_zero : (n : ℕ) → n ≡ n + 0
@@ -112,7 +134,7 @@ took_one contents before nodes n old now took step = record {
   stop = stopped;
   count = step.count ∙ ap (λ c. c + 1) took.count ∙ further before.count nodes n;
   more = (step.further refl).1;
-  lines = writes_both contents nodes (n ∷ []) before old now took.rest took.lines (step.line took.stop stopped);
+  written = writes_both contents nodes (n ∷ []) before old now took.rest took.count took.written (step.node took.stop stopped);
 }
   where
     stopped : now.stop ≡ None
@@ -127,8 +149,8 @@ pub filled_by_one : {W E : Type 0} (contents : W → Option (List ℕ)) (before 
 filled_by_one contents before nodes n later old now took step = record {
   rest = keeps_both before old now took.rest step.rest;
   count = λ none stopped. counted none ∙ ap (λ (ns : List Located). length ns) (these none stopped);
-  lines = λ none stopped. subst (λ ns. WritesLines contents ns before now) (these none stopped)
-      (writes_both contents nodes (n ∷ []) before old now took.rest took.lines (step.line took.stop stopped));
+  written = λ none stopped. subst (λ ns. WritesNodes contents ns before now) (these none stopped)
+      (writes_both contents nodes (n ∷ []) before old now took.rest took.count took.written (step.node took.stop stopped));
 }
   where
     done : List Located
@@ -149,7 +171,7 @@ pub filled_by_all : {W E : Type 0} (contents : W → Option (List ℕ)) (before 
 filled_by_all contents before nodes now took = record {
   rest = took.rest;
   count = λ none _. counted none ∙ ap (λ (ns : List Located). length ns) (these none);
-  lines = λ none _. subst (λ ns. WritesLines contents ns before now) (these none) took.lines;
+  written = λ none _. subst (λ ns. WritesNodes contents ns before now) (these none) took.written;
 }
   where
     counted : before.count ≡ 0 → now.count ≡ length nodes
@@ -175,9 +197,9 @@ pub filled_again : {W E : Type 0} (contents : W → Option (List ℕ)) (before :
 filled_again contents before none nodes old now took fresh still filled = record {
   rest = keeps_both before old now took.rest filled.rest;
   count = λ _ stopped. filled.count still stopped ∙ ap (λ l. length (up_to l nodes)) took.rest.limit;
-  lines = λ _ stopped. subst (λ (ns : List Located). WritesLines contents (ns ++ up_to before.limit nodes) before now) (took_nothing contents before none old took fresh still)
-      (writes_both contents none (up_to before.limit nodes) before old now took.rest took.lines
-      (subst (λ l. WritesLines contents (up_to l nodes) old now) took.rest.limit (filled.lines still stopped)));
+  written = λ _ stopped. subst (λ (ns : List Located). WritesNodes contents (ns ++ up_to before.limit nodes) before now) (took_nothing contents before none old took fresh still)
+      (writes_both contents none (up_to before.limit nodes) before old now took.rest took.count took.written
+      (subst (λ l. WritesNodes contents (up_to l nodes) old now) took.rest.limit (filled.written still stopped)));
 }
 
 -- those of the first places that were found are enough
@@ -186,7 +208,7 @@ pub filled_by_enough : {W E : Type 0} (contents : W → Option (List ℕ)) (befo
 filled_by_enough contents before nodes found now enough filled = record {
   rest = filled.rest;
   count = λ none stopped. filled.count none stopped ∙ ap (λ (ns : List Located). length ns) (same_beginning before.limit nodes found enough);
-  lines = λ none stopped. subst (λ ns. WritesLines contents ns before now) (same_beginning before.limit nodes found enough) (filled.lines none stopped);
+  written = λ none stopped. subst (λ ns. WritesNodes contents ns before now) (same_beginning before.limit nodes found enough) (filled.written none stopped);
 }
   where
     same_beginning : (limit : Option ℕ) (nodes found : List Located) → AreEnough limit nodes found → up_to limit found ≡ up_to limit nodes
@@ -201,8 +223,8 @@ begins_nothing contents w = record {
   split = refl;
   few = λ _. no_more w.limit;
   begins = record {
-    rest = record { same = refl; showing = refl; head = refl; limit = refl; outcome = refl; err = refl; left = refl };
-    lines = λ _. ([], refl, none_begun (contents w.streams.now.out) (string_bytes w.streams.now.pending ++ []));
+    rest = record { same = refl; showing = refl; head = refl; later = refl; limit = refl; outcome = refl; err = refl; left = refl };
+    written = λ _. ([], refl, none_begun (contents w.streams.now.out) (string_bytes w.streams.now.pending ++ []));
   };
 }
   where
@@ -213,8 +235,8 @@ begins_nothing contents w = record {
 pub took_begun : {W E : Type 0} (contents : W → Option (List ℕ)) (before now : Written W E) (nodes : List Located) → TookNodes contents before nodes now → BeginsNodes contents nodes before now
 took_begun contents before now nodes took = record {
   rest = took.rest;
-  lines = λ plain.
-      let written = took.lines plain in
+  written = λ plain.
+      let written = took.written plain in
       (written.0, written.1, adds_begun (contents before.streams.now.out) (contents now.streams.now.out) (string_bytes before.streams.now.pending) (string_bytes now.streams.now.pending) written.0 written.2);
 }
 
@@ -222,11 +244,11 @@ took_begun contents before now nodes took = record {
 begins_further : {W E : Type 0} (contents : W → Option (List ℕ)) (before old now : Written W E) (nodes more : List Located) → TookNodes contents before nodes old → BeginsNodes contents more old now → BeginsNodes contents (nodes ++ more) before now
 begins_further contents before old now nodes more took begins = record {
   rest = keeps_both before old now took.rest begins.rest;
-  lines = λ plain.
-      let one = took.lines plain in
-      let two = begins.lines (still_lines before old took.rest plain) in (
+  written = λ plain.
+      let one = took.written plain in
+      let two = begins.written (still_shown before old took.rest plain) in (
         one.0 ++ two.0,
-        lines_both (look_of before.showing.now) before.head.now nodes more one.0 two.0 one.1 (lines_since before old more two.0 took.rest two.1),
+        pieces_both (look_of before.showing.now) (is_after before) before.head.now nodes more one.0 two.0 one.1 (nodes_since before old (length nodes) more two.0 took.rest took.count two.1),
         begun_after (contents before.streams.now.out) (contents old.streams.now.out) (contents now.streams.now.out) (string_bytes before.streams.now.pending) (string_bytes old.streams.now.pending) one.0 two.0 one.2 two.2,
       );
 }
@@ -293,7 +315,7 @@ took_again {W} {E} contents before old now none nodes took fresh still later = r
       stop = later.took.stop;
       count = later.took.count ∙ ap (λ c. c + length later.first) took.count ∙ counted before.count none later.first;
       more = later.took.more;
-      lines = writes_both contents none later.first before old now took.rest took.lines later.took.lines;
+      written = writes_both contents none later.first before old now took.rest took.count took.written later.took.written;
     }
 
 -- of the first places those that were found

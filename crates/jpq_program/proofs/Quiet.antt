@@ -1,6 +1,5 @@
 -- Runs that show nothing, and answer whether there is a node.
-use Rattle.jpq_program.proofs.Words.{◌≡◌, ◌∙◌, ◌≤◌, ◌⊎◌, ◌++◌, ◌∷◌, ℕ, Bool, true, false, List, [], Option, Result, Ok, Err, inl, inr, refl, sym, ap, subst, arith, common_steps, nat_tests, true≢false, Appends, AppendsBeginning, AnswersRun, AreAnswersInPart, AreEach, AreInputsShown, Ends, Form, FunctionSet, IsAnsweredInPart, IsAnswerInPart, IsFound, IsInputShown, IsLineShown, IsNamedShown, IsQuietRun, IsShownInPartFor, JsonPath, MatchBool, More, Next, Nodes, Nothing, Options, Outcome, Output, Shown, Stop, Streams, AreLines, AreLinesIn, IsLookOfEach, IsRowInPart, first_cells, is_table, Located, Look, look_in, has_lines, is_blank, lines_of, names_in, status_after, status_of, strip_last, without_mark, ◌+◌, IsShownFor, form_in, builtin_functions, chosen, head_text, length}
-use Rattle.jpq_program.specs.Run.{has_names, has_numbers}
+use Rattle.jpq_program.proofs.Words.{◌≡◌, ◌∙◌, ◌≤◌, ◌⊎◌, ◌++◌, ◌∷◌, ℕ, Bool, true, false, List, [], Option, Result, Ok, Err, inl, inr, refl, sym, ap, subst, arith, common_steps, nat_tests, true≢false, Appends, AppendsBeginning, AnswersRun, AreAnswersInPart, AreEach, AreInputsShown, Ends, Form, FunctionSet, IsAnsweredInPart, IsAnswerInPart, IsFound, IsInputShown, IsLineShown, IsNamedShown, IsQuietRun, IsShownInPartFor, JsonPath, MatchBool, More, Next, Nodes, Nothing, Options, Outcome, Output, Shown, Stop, Streams, AreLines, AreLinesIn, ArePieces, IsArrayOf, IsRowInPart, IsShownInPart, OptionShown, cells_for, head_for, is_array, is_table, output_in, ◌||◌, Located, Look, look_in, has_nodes, is_blank, lines_of, names_in, status_after, status_of, strip_last, without_mark, ◌+◌, IsShownFor, form_in, builtin_functions, chosen, length}
 use Rattle.jpq_program.proofs.Nodes.{appends_nothing}
 
 -- ---- what is shown has no text
@@ -8,20 +7,21 @@ use Rattle.jpq_program.proofs.Nodes.{appends_nothing}
 abbrev HasNoText : Shown → Type 0
 HasNoText Is = (name : List ℕ) (number : ℕ) (bytes text : List ℕ) (any : Bool) → Is name number bytes text any → text ≡ []
 
-each_empty : {A : Type 0} (Is : ℕ → A → List ℕ → Bool → Type 0) → ((number : ℕ) (item : A) (text : List ℕ) (any : Bool) → Is number item text any → text ≡ []) → (number : ℕ) (items : List A) (text : List ℕ) (any : Bool) → AreEach Is number items text any → text ≡ []
-each_empty Is empty number [] text any are = are.0
-each_empty Is empty number (item ∷ items) text any are =
-    are.6 ∙ ap (λ (own : List ℕ). own ++ are.1) (empty number item are.0 are.2 are.4) ∙ each_empty Is empty (number + 1) items are.1 are.3 are.5
+each_empty : {A : Type 0} (Is : ℕ → Bool → A → List ℕ → Bool → Type 0) → ((number : ℕ) (later : Bool) (item : A) (text : List ℕ) (any : Bool) → Is number later item text any → text ≡ []) → (number : ℕ) (later : Bool) (items : List A) (text : List ℕ) (any : Bool)
+    → AreEach Is number later items text any → text ≡ []
+each_empty Is empty number later [] text any are = are.0
+each_empty Is empty number later (item ∷ items) text any are =
+    are.6 ∙ ap (λ (own : List ℕ). own ++ are.1) (empty number later item are.0 are.2 are.4) ∙ each_empty Is empty (number + 1) (later || are.2) items are.1 are.3 are.5
 
 lines_empty : (form : Form) (output : Output) (head : List ℕ) (nodes : List Located) (text : List ℕ) → form ≡ Nothing → AreLinesIn form output head nodes text → text ≡ []
 lines_empty form output head nodes text quiet lines = subst (λ (f : Form). AreLinesIn f output head nodes text → text ≡ []) (sym quiet) (λ (none : text ≡ []). none) lines
 
-path_empty : (F : FunctionSet) (path : JsonPath) (look : Look) (head bytes text : List ℕ) (any : Bool) → look.output.form ≡ Nothing → IsAnswerInPart F path look head bytes text any → text ≡ []
-path_empty F path look head bytes text any quiet (inl nothing) = nothing.0
-path_empty F path look head bytes text any quiet (inr (inl whole)) =
-    let shown = subst (λ (has : Bool). MatchBool has (IsLookOfEach look head (chosen look.output whole.2.0) text) (AreLines look.output head whole.2.0 text)) (ap has_lines quiet) whole.2.2 in
+path_empty : (F : FunctionSet) (path : JsonPath) (look : Look) (later : Bool) (head bytes text : List ℕ) (any : Bool) → look.output.form ≡ Nothing → IsAnswerInPart F path look later head bytes text any → text ≡ []
+path_empty F path look later head bytes text any quiet (inl nothing) = nothing.0
+path_empty F path look later head bytes text any quiet (inr (inl whole)) =
+    let shown = subst (λ (has : Bool). MatchBool has (ArePieces look later head (chosen look.output whole.2.0) text) (AreLines look.output head whole.2.0 text)) (ap has_nodes quiet) whole.2.2 in
     lines_empty look.output.form look.output head (chosen look.output whole.2.0) text quiet shown
-path_empty F path look head bytes text any quiet (inr (inr first)) = absurd (true≢false (sym first.0 ∙ ap has_lines quiet))
+path_empty F path look later head bytes text any quiet (inr (inr first)) = absurd (true≢false (sym first.0 ∙ ap has_nodes quiet))
 
 line_empty : (Is : Shown) → HasNoText Is → (name : List ℕ) (number : ℕ) (line text : List ℕ) (any : Bool) → IsLineShown Is name number line text any → text ≡ []
 line_empty Is empty name number line text any = by_case (is_blank line)
@@ -31,22 +31,23 @@ line_empty Is empty name number line text any = by_case (is_blank line)
     by_case false is = empty name number (without_mark (strip_last 10 line)) text any is
 
 input_empty : (Is : Shown) → HasNoText Is → (lines : Bool) (name bytes text : List ℕ) (any : Bool) → IsInputShown Is lines name bytes text any → text ≡ []
-input_empty Is empty true name bytes text any are = each_empty (IsLineShown Is name) (line_empty Is empty name) 1 (lines_of bytes) text any are
+input_empty Is empty true name bytes text any are = each_empty (λ (number : ℕ) (later : Bool) (line : List ℕ). IsLineShown Is name number line) (λ number later line. line_empty Is empty name number line) 1 false (lines_of bytes) text any are
 input_empty Is empty false name bytes text any is = empty name 1 (without_mark bytes) text any is
 
 -- nothing is shown of the inputs of such a run
 quiet_text : (options : Options) (taken : Bool) (paths : List JsonPath) (bytes_of : List ℕ → Option (List ℕ)) (text : List ℕ) (any : Bool) → IsQuietRun options → AreInputsShown (IsShownInPartFor options taken paths) options.lines bytes_of (names_in options) text any → text ≡ []
 quiet_text options taken paths bytes_of text any quiet are =
-    each_empty (λ (number : ℕ) (name : List ℕ). IsNamedShown (IsShownInPartFor options taken paths) options.lines bytes_of name)
-    (λ number name text any shown. input_empty (IsShownInPartFor options taken paths) document_empty options.lines name shown.0 text any shown.2) 1 (names_in options) text any are
+    each_empty (λ (number : ℕ) (later : Bool) (name : List ℕ). IsNamedShown (IsShownInPartFor options taken paths) options.lines bytes_of name)
+    (λ number later name text any shown. input_empty (IsShownInPartFor options taken paths) document_empty options.lines name shown.0 text any shown.2) 1 false (names_in options) text any are
   where
     document_empty : HasNoText (IsShownInPartFor options taken paths)
     document_empty name line bytes text any shown =
-        let are = subst (λ (table : Bool). MatchBool table (IsRowInPart builtin_functions paths options.end (first_cells (has_names options) options.line_number name line) bytes text any)
-        (AreAnswersInPart builtin_functions paths (look_in options taken) (head_text (has_names options) options.line_number (has_numbers options (length paths)) name line) bytes text any)) (ap is_table quiet.1) shown in
-        let head = head_text (has_names options) options.line_number (has_numbers options (length paths)) name line in
-        each_empty (λ (number : ℕ) (path : JsonPath). IsAnswerInPart builtin_functions path (look_in options taken) (head number) bytes)
-        (λ number path text any is. path_empty builtin_functions path (look_in options taken) (head number) bytes text any (ap form_in quiet.1) is) 1 paths text any are
+        let head = head_for options (length paths) name line in
+        let each = AreAnswersInPart builtin_functions paths (look_in options taken) head bytes in
+        let all = subst (λ (table : Bool). MatchBool table (IsRowInPart builtin_functions paths options.end (cells_for options name line) bytes text any) (IsShownInPart builtin_functions paths (look_in options taken) head bytes text any)) (ap is_table quiet.1) shown in
+        let are = subst (λ (array : Bool). MatchBool array (((text ≡ []) × (any ≡ false)) ⊎ IsArrayOf (output_in options) each text any) (each text any)) (ap (λ (s : OptionShown). is_array (form_in s)) quiet.1) all in
+        each_empty (λ (number : ℕ) (later : Bool) (path : JsonPath). IsAnswerInPart builtin_functions path (look_in options taken) later (head number) bytes)
+        (λ number later path text any is. path_empty builtin_functions path (look_in options taken) later (head number) bytes text any (ap form_in quiet.1) is) 1 false paths text any are
 
 -- ---- what comes of such a run
 

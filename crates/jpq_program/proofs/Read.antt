@@ -1,5 +1,5 @@
 -- What is shown of what was read of a document is what is shown of the document.
-use Rattle.jpq_program.proofs.Words.{◌≡◌, ◌∙◌, ◌<◌, ℕ, Bool, true, false, List, [], ◌∷◌, ◌++◌, Option, None, Some, length, map, nat_lt, refl, sym, ap, subst, inl, inr, suc, get_or, AreShownAs, AskedPath, Documents, IsPlain, Data, Form, Count, Nothing, Location, Pointer, IsIn, IsLine, IsLookOfEach, IsSeenIn, Look, AreLines, AreShown, MatchBool, escaped, has_escapes, indented, look_of, with_most, asked_look, cell_look, is_table, IsReadIn, JsonPath, Located, Output, AreLinesIn, Query, ShowsAs, Step, chosen, first_places, first_places_after, is_among, map-append, path_tree, shows_places, take-map, up_to, with_rule_of, length-map, arith, Layout, IsText, normal, pointer, has_lines, decimal, end_text, take, zero, if◌then◌else◌}
+use Rattle.jpq_program.proofs.Words.{◌≡◌, ◌∙◌, ◌<◌, ℕ, Bool, true, false, List, [], ◌∷◌, ◌++◌, Option, None, Some, length, map, nat_lt, refl, sym, ap, subst, inl, inr, suc, get_or, AreShownAs, AskedPath, Documents, IsPlain, Data, Form, Count, Nothing, Location, Pointer, IsIn, IsLine, IsLook, ArePieces, IsObject, IsPiece, IsSeenIn, Json, is_array, Look, AreLines, AreShown, MatchBool, escaped, has_escapes, indented, look_of, with_most, asked_look, cell_look, is_table, IsReadIn, JsonPath, Located, Output, AreLinesIn, Query, ShowsAs, Step, chosen, first_places, first_places_after, is_among, map-append, path_tree, shows_places, take-map, up_to, with_rule_of, length-map, arith, Layout, IsText, normal, pointer, has_nodes, decimal, end_text, take, zero, if◌then◌else◌}
 
 abbrev places_of : List Located → List (List Step)
 places_of nodes = map (λ node. node.location) nodes
@@ -54,69 +54,79 @@ same_length ns ms same = sym (length-map ns (λ (node : Located). node.location)
 
 -- ---- what is shown of them
 
-same_text : (form : Form) (layout : Layout) (n m : Located) (text : List ℕ) → has_lines form ≡ true → shows_places form ≡ true → n.location ≡ m.location → IsText form layout n text → IsText form layout m text
+same_text : (form : Form) (layout : Layout) (n m : Located) (text : List ℕ) → has_nodes form ≡ true → shows_places form ≡ true → n.location ≡ m.location → IsText form layout n text → IsText form layout m text
 same_text Location layout n m text has shows same is = is ∙ ap normal same
 same_text Pointer layout n m text has shows same is = is ∙ ap pointer same
 same_text _ layout n m text has shows same is = absurd cc
 
-same_line : (output : Output) (head : List ℕ) (n m : Located) (line : List ℕ) → has_lines output.form ≡ true → shows_places output.form ≡ true → n.location ≡ m.location → IsLine output head n line → IsLine output head m line
+same_line : (output : Output) (head : List ℕ) (n m : Located) (line : List ℕ) → has_nodes output.form ≡ true → shows_places output.form ≡ true → n.location ≡ m.location → IsLine output head n line → IsLine output head m line
 same_line output head n m line has shows same is = (is.0, same_text output.form output.layout n m is.0 has shows same is.1, is.2)
 
-same_escapes : (form : Form) (d e : Data) → has_lines form ≡ true → shows_places form ≡ true → has_escapes form d ≡ has_escapes form e
+same_escapes : (form : Form) (d e : Data) → has_nodes form ≡ true → shows_places form ≡ true → has_escapes form d ≡ has_escapes form e
 same_escapes Location d e has shows = refl
 same_escapes Pointer d e has shows = refl
 same_escapes _ d e has shows = absurd cc
 
-same_looks : (look : Look) (head : List ℕ) (ns ms : List Located) (text : List ℕ) → has_lines look.output.form ≡ true → shows_places look.output.form ≡ true → places_of ns ≡ places_of ms → IsLookOfEach look head ns text → IsLookOfEach look head ms text
-same_looks look head [] [] text has shows same are = are
-same_looks look head [] (m ∷ ms) text has shows same are = absurd cc
-same_looks look head (n ∷ ns) [] text has shows same are = absurd cc
-same_looks look head (n ∷ ns) (m ∷ ms) text has shows same are =
-    let own = are.2 in (
-      are.0,
-      are.1,
-      (
-        own.0,
-        own.1,
-        same_line look.output [] n m own.0 has shows (head_same n.location m.location (places_of ns) (places_of ms) same) own.2,
-        subst (λ (escapes : Bool). IsSeenIn look.colored (if escapes then escaped look.ascii (indented look.unit own.0) else own.0) own.1) (same_escapes look.output.form n.value m.value has shows) own.3,
-        own.4,
-      ),
-      same_looks look head ns ms are.1 has shows (tail_same n.location m.location (places_of ns) (places_of ms) same) are.3,
-      are.4,
+-- nodes that are shown without their values are shown in lines
+in_lines : (form : Form) → shows_places form ≡ true → is_array form ≡ false
+in_lines Json shows = absurd cc
+in_lines _ shows = refl
+
+same_piece : (look : Look) (later : Bool) (head : List ℕ) (n m : Located) (text : List ℕ) → has_nodes look.output.form ≡ true → shows_places look.output.form ≡ true → n.location ≡ m.location → IsPiece look later head n text → IsPiece look later head m text
+same_piece look later head n m text has shows same is =
+    let lines = in_lines look.output.form shows in
+    let own = subst (λ (array : Bool). MatchBool array (IsObject look later head n text) (IsLook look head n text)) lines is in
+    subst (λ (array : Bool). MatchBool array (IsObject look later head m text) (IsLook look head m text)) (sym lines) (
+      own.0,
+      own.1,
+      same_line look.output [] n m own.0 has shows same own.2,
+      subst (λ (escapes : Bool). IsSeenIn look.colored (if escapes then escaped look.ascii (indented look.unit own.0) else own.0) own.1) (same_escapes look.output.form n.value m.value has shows) own.3,
+      own.4,
     )
 
-same_counts : (form : Form) (output : Output) (head : List ℕ) (ns ms : List Located) (text : List ℕ) → has_lines form ≡ false → shows_places form ≡ true → places_of ns ≡ places_of ms → AreLinesIn form output head ns text → AreLinesIn form output head ms text
+same_pieces : (look : Look) (later : Bool) (head : List ℕ) (ns ms : List Located) (text : List ℕ) → has_nodes look.output.form ≡ true → shows_places look.output.form ≡ true → places_of ns ≡ places_of ms → ArePieces look later head ns text → ArePieces look later head ms text
+same_pieces look later head [] [] text has shows same are = are
+same_pieces look later head [] (m ∷ ms) text has shows same are = absurd cc
+same_pieces look later head (n ∷ ns) [] text has shows same are = absurd cc
+same_pieces look later head (n ∷ ns) (m ∷ ms) text has shows same are = (
+  are.0,
+  are.1,
+  same_piece look later head n m are.0 has shows (head_same n.location m.location (places_of ns) (places_of ms) same) are.2,
+  same_pieces look true head ns ms are.1 has shows (tail_same n.location m.location (places_of ns) (places_of ms) same) are.3,
+  are.4,
+)
+
+same_counts : (form : Form) (output : Output) (head : List ℕ) (ns ms : List Located) (text : List ℕ) → has_nodes form ≡ false → shows_places form ≡ true → places_of ns ≡ places_of ms → AreLinesIn form output head ns text → AreLinesIn form output head ms text
 same_counts Count output head ns ms text has shows same are = are ∙ ap (λ n. head ++ (decimal n ++ end_text output.end)) (same_length ns ms same)
 same_counts Nothing output head ns ms text has shows same are = are
 same_counts _ output head ns ms text has shows same are = absurd cc
 
-same_shown : (look : Look) (head : List ℕ) (ns ms : List Located) (text : List ℕ) → shows_places look.output.form ≡ true → places_of ns ≡ places_of ms → AreShown look head ns text → AreShown look head ms text
-same_shown look head ns ms text shows same are = by_case (has_lines look.output.form) refl are
+same_shown : (look : Look) (later : Bool) (head : List ℕ) (ns ms : List Located) (text : List ℕ) → shows_places look.output.form ≡ true → places_of ns ≡ places_of ms → AreShown look later head ns text → AreShown look later head ms text
+same_shown look later head ns ms text shows same are = by_case (has_nodes look.output.form) refl are
   where
     chosen_same : places_of (chosen look.output ns) ≡ places_of (chosen look.output ms)
     chosen_same = same_chosen look.output ns ms same
 
-    by_case : (has : Bool) → has_lines look.output.form ≡ has → MatchBool has (IsLookOfEach look head (chosen look.output ns) text) (AreLines look.output head ns text)
-        → MatchBool has (IsLookOfEach look head (chosen look.output ms) text) (AreLines look.output head ms text)
-    by_case true is are = same_looks look head (chosen look.output ns) (chosen look.output ms) text is shows chosen_same are
+    by_case : (has : Bool) → has_nodes look.output.form ≡ has → MatchBool has (ArePieces look later head (chosen look.output ns) text) (AreLines look.output head ns text)
+        → MatchBool has (ArePieces look later head (chosen look.output ms) text) (AreLines look.output head ms text)
+    by_case true is are = same_pieces look later head (chosen look.output ns) (chosen look.output ms) text is shows chosen_same are
     by_case false is are = same_counts look.output.form look.output head (chosen look.output ns) (chosen look.output ms) text is shows chosen_same are
 
 -- ---- what was read
 
 shows_by_places : (look : Look) (bytes : List ℕ) (queries : List Query) (value : Data) (path : JsonPath) → shows_places look.output.form ≡ true → IsIn (path_tree path) queries → IsReadIn true bytes queries value → ShowsAs look bytes value path
-shows_by_places look bytes queries value path shows asked read = λ F most head text any is.
+shows_by_places look bytes queries value path shows asked read = λ F most later head text any is.
     let up = with_most look most in
     let alike = read.1.2 (with_rule_of path F) (path_tree path) (places_of is.0) in
     let there = (alike asked).1 (is.0, is.1, refl) in
     let same = sym there.2 in (
       read.1.0,
       (read.0, read.1.1),
-      (there.0, there.1, same_shown up head is.0 there.0 text shows same is.2, is.3 ∙ ap (nat_lt 0) (same_length (chosen up.output is.0) (chosen up.output there.0) (same_chosen up.output is.0 there.0 same))),
+      (there.0, there.1, same_shown up later head is.0 there.0 text shows same is.2, is.3 ∙ ap (nat_lt 0) (same_length (chosen up.output is.0) (chosen up.output there.0) (same_chosen up.output is.0 there.0 same))),
     )
 
 shows_by_values : (look : Look) (bytes : List ℕ) (queries : List Query) (value : Data) (path : JsonPath) → IsIn (path_tree path) queries → IsReadIn false bytes queries value → ShowsAs look bytes value path
-shows_by_values look bytes queries value path asked read = λ F most head text any is.
+shows_by_values look bytes queries value path asked read = λ F most later head text any is.
     (read.1.0, (read.0, read.1.1), (is.0, (read.1.2 (with_rule_of path F) (path_tree path) is.0 asked).1 is.1, is.2, is.3))
 
 -- what a path shows of what was read for it, it shows of the document

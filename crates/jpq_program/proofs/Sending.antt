@@ -1,5 +1,5 @@
 -- What is sent of inputs, one after the other.
-use Rattle.jpq_program.proofs.Words.{◌≡◌, ◌∙◌, ◌+◌, ◌==◌, ◌<◌, ℕ, Bool, true, false, List, [], ◌∷◌, ◌++◌, None, Option, length, length-append, refl, sym, ap, subst, append-nil, append_assoc, arith, string_bytes, Answering, AreAnswersInPart, AskedPath, IsAnswerInPart, Look, look_of, LineEnd, IsRowInPart, first_cells, is_table, paths_in, JsonPath, builtin_functions, head_by, inl, shown_in_part_by, AreEach, AreInputsShown, AreKnown, Answered, Begins, Bor, IsInputShown, IsNamedShown, More, Next, get_or, get_or-map, length-map, map, suc, take, zero, IsLineShown, OnlyNotes, OnlyRefuses, Sends, Shown, Streams, drop_through, Global, IfSome, Some, MatchBool, if◌then◌else◌, is_blank, lines_of, strip_last, take_through, with_byte, without_mark, Form, IfMore, SendsUntil, Ends, drop}
+use Rattle.jpq_program.proofs.Words.{◌≡◌, ◌∙◌, ◌+◌, ◌==◌, ◌<◌, ℕ, Bool, true, false, List, [], ◌∷◌, ◌++◌, None, Option, length, length-append, refl, sym, ap, subst, append-nil, append_assoc, arith, string_bytes, Answering, AreAnswersInPart, AskedPath, IsAnswerInPart, Look, look_of, LineEnd, IsArrayInPart, IsRowInPart, IsShownInPart, first_cells, ◌||◌, is_table, paths_in, JsonPath, builtin_functions, head_by, inl, all_in_part_by, shown_in_part_by, AreEach, AreInputsShown, AreKnown, Answered, Begins, Bor, IsInputShown, IsNamedShown, More, Next, get_or, get_or-map, length-map, map, suc, take, zero, IsLineShown, OnlyNotes, OnlyRefuses, Sends, Shown, Streams, drop_through, Global, IfSome, Some, MatchBool, if◌then◌else◌, is_array, is_blank, lines_of, strip_last, take_through, with_byte, without_mark, Form, IfMore, SendsUntil, Ends, drop}
 use Rattle.std.specs.Io.Buffered.{reader_buffer, reader_capacity, reader_inner, reader_remaining}
 use Rattle.std.specs.Io.KnownBytes.{prepend_known}
 use Rattle.std.specs.declared.io.buffered.BufReader.{BufReader}
@@ -18,6 +18,14 @@ noted_until {W} {E} contents form Is IsPart next before old now ends noted quiet
 
 pub noted_begun : {W E : Type 0} {silent : Bool} (contents : W → Option (List ℕ)) (Is IsPart : List ℕ → Bool → Type 0) (before old now : Streams W E) → OnlyNotes old now → Sends silent contents Is IsPart before old → Begins contents IsPart before now
 noted_begun {W} {E} contents Is IsPart before old now noted sent = begun_still contents IsPart before old now (answered_begun contents Is IsPart before old sent.0) (ap (λ (s : Streams W E). s.out) noted)
+
+-- ---- lines and inputs, as each is shown, whether or not a node was before
+
+abbrev EachLine : Shown → List ℕ → ℕ → Bool → List ℕ → List ℕ → Bool → Type 0
+EachLine Is name number later line text any = IsLineShown Is name number line text any
+
+abbrev EachNamed : Shown → Bool → (List ℕ → Option (List ℕ)) → ℕ → Bool → List ℕ → List ℕ → Bool → Type 0
+EachNamed Is lines bytes_of number later name text any = IsNamedShown Is lines bytes_of name text any
 
 -- ---- the lines of a text
 
@@ -52,15 +60,23 @@ line_shown Is name number line bytes text any some same is =
 
 -- of a document nothing may be shown, as where it is refused
 pub no_paths : (paths : List JsonPath) (look : Look) (head : ℕ → List ℕ) (bytes : List ℕ) → AreAnswersInPart builtin_functions paths look head bytes [] false
-no_paths paths look head bytes = each_nothing (λ number path. IsAnswerInPart builtin_functions path look (head number) bytes) paths (λ number path. inl (refl, refl)) 1
+no_paths paths look head bytes = each_nothing (λ number later path. IsAnswerInPart builtin_functions path look later (head number) bytes) paths (λ number later path. inl (refl, refl)) 1 false
+
+no_all : (array : Bool) (paths : List JsonPath) (look : Look) (head : ℕ → List ℕ) (bytes : List ℕ)
+    → MatchBool array (IsArrayInPart look.output (AreAnswersInPart builtin_functions paths look head bytes) [] false) (AreAnswersInPart builtin_functions paths look head bytes [] false)
+no_all true paths look head bytes = inl (refl, refl)
+no_all false paths look head bytes = no_paths paths look head bytes
 
 pub no_shown : (table : Bool) (paths : List JsonPath) (look : Look) (end : LineEnd) (firsts : List (List ℕ)) (head : ℕ → List ℕ) (bytes : List ℕ)
-    → MatchBool table (IsRowInPart builtin_functions paths end firsts bytes [] false) (AreAnswersInPart builtin_functions paths look head bytes [] false)
+    → MatchBool table (IsRowInPart builtin_functions paths end firsts bytes [] false) (IsShownInPart builtin_functions paths look head bytes [] false)
 no_shown true paths look end firsts head bytes = inl (refl, refl)
-no_shown false paths look end firsts head bytes = no_paths paths look head bytes
+no_shown false paths look end firsts head bytes = no_all (is_array look.output.form) paths look head bytes
+
+pub no_all_by : (answering : Answering) (name : List ℕ) (number : ℕ) (bytes : List ℕ) → all_in_part_by answering name number bytes [] false
+no_all_by answering name number bytes = no_all (is_array answering.showing.output.form) (paths_in answering) (look_of answering.showing) (head_by answering.showing.output answering.heads name number) bytes
 
 pub no_answer : (answering : Answering) (name : List ℕ) (number : ℕ) (bytes : List ℕ) → shown_in_part_by answering name number bytes [] false
-no_answer answering name number bytes = no_shown (is_table answering.shown) (paths_in answering) (look_of answering.showing) answering.showing.output.end (first_cells answering.heads.file answering.heads.line name number) (head_by answering.heads name number) bytes
+no_answer answering name number bytes = no_shown (is_table answering.shown) (paths_in answering) (look_of answering.showing) answering.showing.output.end (first_cells answering.heads.file answering.heads.line name number) (head_by answering.showing.output answering.heads name number) bytes
 
 -- of a blank line nothing is
 pub blank_sent : {W E : Type 0} {silent : Bool} (contents : W → Option (List ℕ)) (Is IsPart : Shown) (name : List ℕ) (number : ℕ) (line : List ℕ) (streams : Streams W E) → is_blank line ≡ true → streams.left ≡ None
@@ -104,11 +120,11 @@ no_line Is name none number line = by_case (is_blank line) refl
     by_case true is = blank_shown Is name number line [] false is refl refl
     by_case false is = line_shown Is name number line (without_mark (strip_last 10 line)) [] false is refl (none number (without_mark (strip_last 10 line)))
 
-no_lines : (Is : Shown) (name : List ℕ) (lines : List (List ℕ)) → ((number : ℕ) (bytes : List ℕ) → Is name number bytes [] false) → (number : ℕ) → AreEach (IsLineShown Is name) number lines [] false
-no_lines Is name lines none = each_nothing (IsLineShown Is name) lines (no_line Is name none)
+no_lines : (Is : Shown) (name : List ℕ) (lines : List (List ℕ)) → ((number : ℕ) (bytes : List ℕ) → Is name number bytes [] false) → (number : ℕ) (later : Bool) → AreEach (EachLine Is name) number later lines [] false
+no_lines Is name lines none = each_nothing (EachLine Is name) lines (λ number later line. no_line Is name none number line)
 
 pub no_input : (Is : Shown) (lines : Bool) (name bytes : List ℕ) → ((number : ℕ) (bytes : List ℕ) → Is name number bytes [] false) → IsInputShown Is lines name bytes [] false
-no_input Is true name bytes none = no_lines Is name (lines_of bytes) none 1
+no_input Is true name bytes none = no_lines Is name (lines_of bytes) none 1 false
 no_input Is false name bytes none = none 1 (without_mark bytes)
 
 -- So many lines of a text were sent, and these bytes are left of it.
@@ -116,7 +132,7 @@ pub record SentLines {W E : Type 0} (silent : Bool) (contents : W → Option (Li
   pub done : List (List ℕ)
   pub many : length done ≡ count
   pub whole : lines_of bytes ≡ done ++ lines_of left
-  pub sent : Sends silent contents (AreEach (IsLineShown Is name) 1 done) (AreEach (IsLineShown IsPart name) 1 done) before now
+  pub sent : Sends silent contents (AreEach (EachLine Is name) 1 false done) (AreEach (EachLine IsPart name) 1 false done) before now
 
 -- none was yet
 pub sent_none : {W E : Type 0} {silent : Bool} (contents : W → Option (List ℕ)) (Is IsPart : Shown) (name bytes : List ℕ) (streams : Streams W E) → streams.left ≡ None → string_bytes streams.pending ≡ []
@@ -125,7 +141,7 @@ sent_none contents Is IsPart name bytes streams left empty = record {
   done = [];
   many = refl;
   whole = refl;
-  sent = (none_answered contents (IsLineShown Is name) (IsLineShown IsPart name) 1 streams left, empty);
+  sent = ((none_answered contents (EachLine Is name) (EachLine IsPart name) 1 false streams left).0, empty);
 }
 
 -- one more was
@@ -136,7 +152,7 @@ sent_further {silent = silent} contents Is IsPart name bytes left line later cou
   many = length_more lines.done line ∙ ap (λ n. n + 1) lines.many;
   whole = lines.whole ∙ ap (λ (l : List (List ℕ)). lines.done ++ l) taken ∙ sym (append_assoc lines.done (line ∷ []) (lines_of later));
   sent = (
-    answered_further contents (IsLineShown Is name) (IsLineShown IsPart name) 1 lines.done line before old now lines.sent.0
+    answered_further contents (EachLine Is name) (EachLine IsPart name) 1 false lines.done line before old now lines.sent.0
         (subst (λ n. Answered silent contents (IsLineShown Is name n line) (IsLineShown IsPart name n line) old now) (ap (λ n. 1 + n) (sym lines.many)) second.0),
     second.1,
   );
@@ -148,54 +164,54 @@ sent_further {silent = silent} contents Is IsPart name bytes left line later cou
 -- of one more a beginning is out
 pub sent_begun : {W E : Type 0} {silent : Bool} (contents : W → Option (List ℕ)) (Is IsPart : Shown) (name bytes left line later : List ℕ) (count : ℕ) (before old now : Streams W E) → ((number : ℕ) (bytes : List ℕ) → IsPart name number bytes [] false)
     → SentLines silent contents Is IsPart name bytes left count before old → lines_of left ≡ line ∷ lines_of later → Begins contents (IsLineShown IsPart name (1 + count) line) old now
-    → Begins contents (AreEach (IsLineShown IsPart name) 1 (lines_of bytes)) before now
+    → Begins contents (AreEach (EachLine IsPart name) 1 false (lines_of bytes)) before now
 sent_begun contents Is IsPart name bytes left line later count before old now none lines taken begun =
-    subst (λ (all : List (List ℕ)). Begins contents (AreEach (IsLineShown IsPart name) 1 all) before now) (sym (lines.whole ∙ ap (λ (l : List (List ℕ)). lines.done ++ l) taken))
-    (begun_further contents (IsLineShown Is name) (IsLineShown IsPart name) 1 lines.done line (lines_of later) before old now (no_lines IsPart name (lines_of later) none) lines.sent.0
+    subst (λ (all : List (List ℕ)). Begins contents (AreEach (EachLine IsPart name) 1 false all) before now) (sym (lines.whole ∙ ap (λ (l : List (List ℕ)). lines.done ++ l) taken))
+    (begun_further contents (EachLine Is name) (EachLine IsPart name) 1 false lines.done line (lines_of later) before old now (no_lines IsPart name (lines_of later) none) lines.sent.0
     (subst (λ n. Begins contents (IsLineShown IsPart name n line) old now) (ap (λ n. 1 + n) (sym lines.many)) begun))
 
 -- the run ended in one more
 pub lines_until : {W E : Type 0} {silent : Bool} (contents : W → Option (List ℕ)) (Is IsPart : Shown) (Own Other : List ℕ → Bool → Type 0) (next : Next) (name bytes left line later : List ℕ) (count : ℕ) (before old now : Streams W E) → (next ≡ More → ⊥)
     → ((number : ℕ) (bytes : List ℕ) → IsPart name number bytes [] false) → SentLines silent contents Is IsPart name bytes left count before old → lines_of left ≡ line ∷ lines_of later → Sends silent contents Own (IsLineShown IsPart name (1 + count) line) old now
-    → Sends silent contents (IfMore next Other) (AreEach (IsLineShown IsPart name) 1 (lines_of bytes)) before now
+    → Sends silent contents (IfMore next Other) (AreEach (EachLine IsPart name) 1 false (lines_of bytes)) before now
 lines_until {silent = silent} contents Is IsPart Own Other next name bytes left line later count before old now ended none lines taken second = (
-  subst (λ (all : List (List ℕ)). Answered silent contents (IfMore next Other) (AreEach (IsLineShown IsPart name) 1 all) before now) (sym (lines.whole ∙ ap (λ (l : List (List ℕ)). lines.done ++ l) taken))
-      (answered_until contents (IsLineShown Is name) (IsLineShown IsPart name) Own Other next 1 lines.done line (lines_of later) before old now ended (no_lines IsPart name (lines_of later) none) lines.sent.0
+  subst (λ (all : List (List ℕ)). Answered silent contents (IfMore next Other) (AreEach (EachLine IsPart name) 1 false all) before now) (sym (lines.whole ∙ ap (λ (l : List (List ℕ)). lines.done ++ l) taken))
+      (answered_until contents (EachLine Is name) (EachLine IsPart name) Own Other next 1 false lines.done line (lines_of later) before old now ended (no_lines IsPart name (lines_of later) none) lines.sent.0
       (subst (λ n. Answered silent contents Own (IsLineShown IsPart name n line) old now) (ap (λ n. 1 + n) (sym lines.many)) second.0)),
   second.1,
 )
 
 -- of those that are left nothing is shown
 pub sent_part : {W E : Type 0} {silent : Bool} (contents : W → Option (List ℕ)) (Is IsPart : Shown) (name bytes left : List ℕ) (count : ℕ) (before now : Streams W E) → ((number : ℕ) (bytes : List ℕ) → IsPart name number bytes [] false)
-    → (lines : SentLines silent contents Is IsPart name bytes left count before now) → Answered silent contents (AreEach (IsLineShown Is name) 1 lines.done) (AreEach (IsLineShown IsPart name) 1 (lines_of bytes)) before now
+    → (lines : SentLines silent contents Is IsPart name bytes left count before now) → Answered silent contents (AreEach (EachLine Is name) 1 false lines.done) (AreEach (EachLine IsPart name) 1 false (lines_of bytes)) before now
 sent_part contents Is IsPart name bytes left count before now none lines =
-    answered_as contents (AreEach (IsLineShown Is name) 1 lines.done) (AreEach (IsLineShown IsPart name) 1 lines.done) (AreEach (IsLineShown Is name) 1 lines.done) (AreEach (IsLineShown IsPart name) 1 (lines_of bytes)) before now (λ text any is. is)
-    (λ text any part. subst (λ (all : List (List ℕ)). AreEach (IsLineShown IsPart name) 1 all text any) (sym lines.whole) (each_rest (IsLineShown IsPart name) 1 lines.done (lines_of left) text any (no_lines IsPart name (lines_of left) none) part)) lines.sent.0
+    answered_as contents (AreEach (EachLine Is name) 1 false lines.done) (AreEach (EachLine IsPart name) 1 false lines.done) (AreEach (EachLine Is name) 1 false lines.done) (AreEach (EachLine IsPart name) 1 false (lines_of bytes)) before now (λ text any is. is)
+    (λ text any part. subst (λ (all : List (List ℕ)). AreEach (EachLine IsPart name) 1 false all text any) (sym lines.whole) (each_rest (EachLine IsPart name) 1 false lines.done (lines_of left) text any (no_lines IsPart name (lines_of left) none) part)) lines.sent.0
 
 -- of so many lines, and nothing after them, a beginning is out
 pub lines_begun : {W E : Type 0} {silent : Bool} (contents : W → Option (List ℕ)) (Is IsPart : Shown) (name bytes left : List ℕ) (count : ℕ) (before old now : Streams W E) → ((number : ℕ) (bytes : List ℕ) → IsPart name number bytes [] false)
-    → SentLines silent contents Is IsPart name bytes left count before old → now.out ≡ old.out → Begins contents (AreEach (IsLineShown IsPart name) 1 (lines_of bytes)) before now
+    → SentLines silent contents Is IsPart name bytes left count before old → now.out ≡ old.out → Begins contents (AreEach (EachLine IsPart name) 1 false (lines_of bytes)) before now
 lines_begun contents Is IsPart name bytes left count before old now none lines same =
-    let all = AreEach (IsLineShown IsPart name) 1 (lines_of bytes) in
-    begun_still contents all before old now (answered_begun contents (AreEach (IsLineShown Is name) 1 lines.done) all before old (sent_part contents Is IsPart name bytes left count before old none lines)) same
+    let all = AreEach (EachLine IsPart name) 1 false (lines_of bytes) in
+    begun_still contents all before old now (answered_begun contents (AreEach (EachLine Is name) 1 false lines.done) all before old (sent_part contents Is IsPart name bytes left count before old none lines)) same
 
 -- the rest was refused
 pub lines_refused : {W E : Type 0} {silent : Bool} (contents : W → Option (List ℕ)) (Is IsPart : Shown) (name bytes left : List ℕ) (count : ℕ) (before old now : Streams W E) → ((number : ℕ) (bytes : List ℕ) → IsPart name number bytes [] false)
     → SentLines silent contents Is IsPart name bytes left count before old → OnlyRefuses old now → now.outcome.refused ≡ true
-    → Sends silent contents (AreEach (IsLineShown Is name) 1 (lines_of bytes)) (AreEach (IsLineShown IsPart name) 1 (lines_of bytes)) before now
+    → Sends silent contents (AreEach (EachLine Is name) 1 false (lines_of bytes)) (AreEach (EachLine IsPart name) 1 false (lines_of bytes)) before now
 lines_refused {W} {E} contents Is IsPart name bytes left count before old now none lines kept refused = (
-  answered_refused contents (AreEach (IsLineShown Is name) 1 lines.done) (AreEach (IsLineShown IsPart name) 1 (lines_of bytes)) (AreEach (IsLineShown Is name) 1 (lines_of bytes)) before old now
+  answered_refused contents (AreEach (EachLine Is name) 1 false lines.done) (AreEach (EachLine IsPart name) 1 false (lines_of bytes)) (AreEach (EachLine Is name) 1 false (lines_of bytes)) before old now
       (sent_part contents Is IsPart name bytes left count before old none lines) kept refused,
   ap (λ (s : Streams W E). string_bytes s.pending) kept ∙ lines.sent.1,
 )
 
 -- all were, where no byte is left
 pub sent_all : {W E : Type 0} {silent : Bool} (contents : W → Option (List ℕ)) (Is IsPart : Shown) (name bytes left : List ℕ) (count : ℕ) (before old now : Streams W E) → SentLines silent contents Is IsPart name bytes left count before old → left ≡ [] → OnlyNotes old now → (old.outcome.refused ≡ false → now.err ≡ old.err)
-    → Sends silent contents (AreEach (IsLineShown Is name) 1 (lines_of bytes)) (AreEach (IsLineShown IsPart name) 1 (lines_of bytes)) before now
+    → Sends silent contents (AreEach (EachLine Is name) 1 false (lines_of bytes)) (AreEach (EachLine IsPart name) 1 false (lines_of bytes)) before now
 sent_all {W} {E} {silent = silent} contents Is IsPart name bytes left count before old now lines none kept quiet =
     let all : lines.done ≡ lines_of bytes = sym (lines.whole ∙ ap (λ (l : List ℕ). lines.done ++ lines_of l) none ∙ append-nil lines.done) in (
-      subst (λ (some : List (List ℕ)). Answered silent contents (AreEach (IsLineShown Is name) 1 some) (AreEach (IsLineShown IsPart name) 1 some) before now) all
-          (answered_noted contents (AreEach (IsLineShown Is name) 1 lines.done) (AreEach (IsLineShown IsPart name) 1 lines.done) before old now lines.sent.0 kept (λ silent right. quiet (sym (ap (λ (s : Streams W E). s.outcome.refused) kept) ∙ right))),
+      subst (λ (some : List (List ℕ)). Answered silent contents (AreEach (EachLine Is name) 1 false some) (AreEach (EachLine IsPart name) 1 false some) before now) all
+          (answered_noted contents (AreEach (EachLine Is name) 1 false lines.done) (AreEach (EachLine IsPart name) 1 false lines.done) before old now lines.sent.0 kept (λ silent right. quiet (sym (ap (λ (s : Streams W E). s.outcome.refused) kept) ∙ right))),
       ap (λ (s : Streams W E). string_bytes s.pending) kept ∙ lines.sent.1,
     )
 
@@ -217,11 +233,11 @@ known_input bytes_of bytes_now names index none within same known =
 
 -- of the inputs that are left nothing is shown
 pub no_named : (Is : Shown) (lines : Bool) (bytes_of : List ℕ → Option (List ℕ)) (names : List (List ℕ)) → ((name : List ℕ) (number : ℕ) (bytes : List ℕ) → Is name number bytes [] false) → AreKnown bytes_of names
-    → (number : ℕ) → AreEach (λ (number : ℕ) (name : List ℕ). IsNamedShown Is lines bytes_of name) number names [] false
-no_named Is lines bytes_of [] none known number = (refl, refl)
-no_named Is lines bytes_of (name ∷ names) none known number =
+    → (number : ℕ) (later : Bool) → AreEach (EachNamed Is lines bytes_of) number later names [] false
+no_named Is lines bytes_of [] none known number later = (refl, refl)
+no_named Is lines bytes_of (name ∷ names) none known number later =
     let here = known 0 (omega arith) in
-    ([], [], false, false, (here.0, here.1, no_input Is lines name here.0 (none name)), no_named Is lines bytes_of names none (λ i within. known (suc i) (omega (arith, within))) (number + 1), refl, refl)
+    ([], [], false, false, (here.0, here.1, no_input Is lines name here.0 (none name)), no_named Is lines bytes_of names none (λ i within. known (suc i) (omega (arith, within))) (number + 1) (later || false), refl, refl)
 
 known_rest : (bytes_of : List ℕ → Option (List ℕ)) (first rest : List (List ℕ)) → AreKnown bytes_of (first ++ rest) → AreKnown bytes_of rest
 known_rest bytes_of [] rest known = known
@@ -246,7 +262,7 @@ input_begun contents Is IsPart lines bytes_of bytes_now names index none before 
     let here = known_input bytes_of bytes_now names index none within same known in
     let own = begun_as contents (IsInputShown IsPart lines name.now here.0) (IsNamedShown IsPart lines bytes_of name.now) old now (λ text any shown. (here.0, here.1, shown))
     (known_at (λ (bytes : List ℕ). Begins contents (IsInputShown IsPart lines name.now bytes) old now) (bytes_now name.now) here.0 here.2 begun) in
-    mapped_begun contents (λ (number : ℕ) (name : List ℕ). IsNamedShown Is lines bytes_of name) (λ (number : ℕ) (name : List ℕ). IsNamedShown IsPart lines bytes_of name) (λ (name : Bor (List ℕ)). name.now)
+    mapped_begun contents (EachNamed Is lines bytes_of) (EachNamed IsPart lines bytes_of) (λ (name : Bor (List ℕ)). name.now)
     names index name before old now (no_named IsPart lines bytes_of _ nothing (known_after bytes_of names index name within is known)) within is first own
 
 -- another input was sent
@@ -261,8 +277,8 @@ input_sent {silent = silent} contents form Is IsPart lines bytes_of bytes_now na
     let sent = known_at (λ (bytes : List ℕ). SendsUntil silent contents form next (IsInputShown Is lines name bytes) (IsInputShown IsPart lines name bytes) old now) (bytes_now name) here.0 here.2 shown in
     let own = answered_as contents (IfMore next (IsInputShown Is lines name here.0)) (IsInputShown IsPart lines name here.0) (IsNamedShown Is lines bytes_of name) (IsNamedShown IsPart lines bytes_of name) old now
     (λ text any shown. (here.0, here.1, shown more)) (λ text any shown. (here.0, here.1, shown)) sent.1.0 in (
-      mapped_further contents (λ (number : ℕ) (name : List ℕ). IsNamedShown Is lines bytes_of name) (λ (number : ℕ) (name : List ℕ). IsNamedShown IsPart lines bytes_of name) (λ (name : Bor (List ℕ)). name.now)
-          names index (get_or names index none) before old now within (same_item names index none (get_or names index none) within) first own,
+      (mapped_further contents (EachNamed Is lines bytes_of) (EachNamed IsPart lines bytes_of) (λ (name : Bor (List ℕ)). name.now)
+          names index (get_or names index none) before old now within (same_item names index none (get_or names index none) within) first own).0,
       sent.1.1,
     )
 
@@ -282,7 +298,7 @@ input_until {silent = silent} contents form Is IsPart Other lines bytes_of bytes
     let own = answered_as contents Own (IsInputShown IsPart lines name.now here.0) Own (IsNamedShown IsPart lines bytes_of name.now) old now (λ text any is. is) (λ text any shown. (here.0, here.1, shown)) sent.1.0 in (
       sent.0,
       (
-        mapped_until contents (λ (number : ℕ) (name : List ℕ). IsNamedShown Is lines bytes_of name) (λ (number : ℕ) (name : List ℕ). IsNamedShown IsPart lines bytes_of name) Own Other next (λ (name : Bor (List ℕ)). name.now)
+        mapped_until contents (EachNamed Is lines bytes_of) (EachNamed IsPart lines bytes_of) Own Other next (λ (name : Bor (List ℕ)). name.now)
             names index name before old now ended (no_named IsPart lines bytes_of _ nothing (known_after bytes_of names index name within is known)) within is first own,
         sent.1.1,
       ),

@@ -37,7 +37,8 @@ IsLineShown Is name number line text any =
 -- what is shown of an input: of each of its lines, or of the one document that it is
 abbrev pub IsInputShown : Shown → Bool → List ℕ → List ℕ → List ℕ → Bool → Type 0
 IsInputShown Is lines name bytes text any =
-    MatchBool lines (AreEach (IsLineShown Is name) 1 (lines_of bytes) text any) (Is name 1 (without_mark bytes) text any)
+    MatchBool lines (AreEach (λ number later line. IsLineShown Is name number line) 1 false (lines_of bytes) text any)
+    (Is name 1 (without_mark bytes) text any)
 
 -- what is shown of the input of a name, by what is known of the bytes of each
 abbrev pub IsNamedShown : Shown → Bool → (List ℕ → Option (List ℕ)) → List ℕ → List ℕ → Bool → Type 0
@@ -45,7 +46,7 @@ IsNamedShown Is lines bytes_of name text any = (bytes : List ℕ) × (bytes_of n
 
 -- the same of several inputs, in order
 abbrev pub AreInputsShown : Shown → Bool → (List ℕ → Option (List ℕ)) → List (List ℕ) → List ℕ → Bool → Type 0
-AreInputsShown Is lines bytes_of names text any = AreEach (λ number name. IsNamedShown Is lines bytes_of name) 1 names text any
+AreInputsShown Is lines bytes_of names text any = AreEach (λ number later name. IsNamedShown Is lines bytes_of name) 1 false names text any
 
 -- the bytes of each input are known
 abbrev pub AreKnown : (List ℕ → Option (List ℕ)) → List (List ℕ) → Type 0

@@ -7,7 +7,7 @@ use Rattle.jsonpath_lines.specs.Inside.{is_reached, once}
 use Rattle.jsonpath_lines.specs.Inside as lines
 use Rattle.jsonpath_lines.specs.Output.{AreLines, IsCount, IsText, compact_lines, up_to}
 use Rattle.jsonpath_lines.specs.declared.forms.Form.{Form}
-use Rattle.jsonpath_lines.specs.declared.forms.Form.TheVariants.{Json, Count, Location, Nothing, Pointer, Raw}
+use Rattle.jsonpath_lines.specs.declared.forms.Form.TheVariants.{Count, Location, Nothing, Pointer, Raw}
 use Rattle.jsonpath_lines.specs.declared.forms.Layout.TheVariants.{Compact}
 use Rattle.jsonpath_lines.specs.Sent.{AppendsBeginning}
 use Rattle.jsonpath_lines.specs.declared.forms.Output.{Output}
@@ -22,12 +22,12 @@ use Rattle.serde_json_path_functions.specs.Functions.{FunctionSet, Numbers}
 use Rattle.serde_json_path_functions.specs.Patterns.{builtin_functions}
 use Rattle.jpq_options.specs.Options.{is_table}
 use Rattle.jsonpath_document.specs.Document.{ReadsAs}
-use Rattle.jpq_program.specs.Answers.{AreAnswersInPart, AreAnswersOn, IsAnswer, IsAnswerInPart, IsAnswerOn, has_lines, with_most}
-use Rattle.jpq_program.specs.Looks.{IsLook, IsLookOfEach, Look, led_by}
-use Rattle.jpq_program.specs.Heads.{head_text}
+use Rattle.jpq_program.specs.Answers.{AreAnswersInPart, AreAnswersOn, IsAnswer, IsAnswerInPart, IsAnswerOn, IsShownInPart, IsShownOn, has_nodes, with_most}
+use Rattle.jpq_program.specs.Looks.{ArePieces, IsPiece, Look, is_array, led_by}
+use Rattle.jpq_program.specs.Heads.{head_in}
 use Rattle.jpq_program.specs.Inputs.{AreInputsShown, IsInputShown, IsLineShown, Shown}
 use Rattle.jpq_program.specs.Rows.{IsRowInPart, IsRowOn, first_cells}
-use Rattle.jpq_program.specs.Run.{ArePaths, IsPlainRun, IsQuietRun, IsShownFor, IsShownInPartFor, form_in, has_names, has_numbers, names_in, path_texts, rule_in}
+use Rattle.jpq_program.specs.Run.{ArePaths, IsPlainRun, IsQuietRun, IsShownFor, IsShownInPartFor, form_in, has_line_numbers, has_names, has_numbers, names_in, path_texts, rule_in}
 use Rattle.jpq_options.specs.declared.options.Options.{Options}
 use Rattle.jpq_options.specs.declared.options.Shown.{Shown as OptionShown}
 use Rattle.jpq_options.specs.declared.options.Shown.TheVariants.{Nodes, Tsv}
@@ -110,9 +110,9 @@ pub record Answered {W E : Type 0} (silent : Bool) (contents : W → Option (Lis
   pub told : silent ≡ true → after.outcome.refused ≡ false → after.err ≡ before.err
 
 -- what is shown of a path was added
-abbrev pub AnswersPath : {W E : Type 0} → Bool → (W → Option (List ℕ)) → JsonPath → Look → List ℕ → List ℕ → Streams W E → Streams W E → Type 0
-AnswersPath silent contents path look head bytes before after =
-    Answered silent contents (IsAnswerOn builtin_functions path look head bytes) (IsAnswerInPart builtin_functions path look head bytes) before after
+abbrev pub AnswersPath : {W E : Type 0} → Bool → (W → Option (List ℕ)) → JsonPath → Look → Bool → List ℕ → List ℕ → Streams W E → Streams W E → Type 0
+AnswersPath silent contents path look later head bytes before after =
+    Answered silent contents (IsAnswerOn builtin_functions path look later head bytes) (IsAnswerInPart builtin_functions path look later head bytes) before after
 
 -- a text was sent, and nothing is pending after it
 abbrev pub Sends : {W E : Type 0} → Bool → (W → Option (List ℕ)) → (Is IsPart : List ℕ → Bool → Type 0) → Streams W E → Streams W E → Type 0
@@ -137,8 +137,8 @@ Begins contents IsPart before after = (text : List ℕ) × (any : Bool) × IsPar
 
 -- what a path shows of a value, it shows of the document that the bytes are, however many nodes are wanted
 abbrev pub ShowsAs : Look → List ℕ → Data → JsonPath → Type 0
-ShowsAs look bytes value path = (F : FunctionSet) (most : Option ℕ) (head text : List ℕ) (any : Bool)
-    → IsAnswer F path (with_most look most) head value text any → IsAnswerOn F path (with_most look most) head bytes text any
+ShowsAs look bytes value path = (F : FunctionSet) (most : Option ℕ) (later : Bool) (head text : List ℕ) (any : Bool)
+    → IsAnswer F path (with_most look most) later head value text any → IsAnswerOn F path (with_most look most) later head bytes text any
 
 -- the same of some paths
 abbrev pub AreShownAs : Look → List ℕ → Data → List AskedPath → Type 0
@@ -202,11 +202,6 @@ has_counts Count = true
 has_counts Nothing = true
 has_counts _ = false
 
--- all nodes are shown in one array
-abbrev pub is_array : Form → Bool
-is_array Json = true
-is_array _ = false
-
 -- some characters from a place in a line, indented by a unit
 abbrev pub left_from : List ℕ → Place → List ℕ → List ℕ
 left_from unit Start cs = led_by unit true cs
@@ -242,18 +237,18 @@ has_palette (Some dress) = is_some dress.palette
 abbrev pub is_plain : Showing → Bool
 is_plain showing = not (has_palette showing.dress)
 
-abbrev pub shows_lines : Showing → Bool
-shows_lines showing = is_plain showing && has_lines showing.output.form
+abbrev pub shows_nodes : Showing → Bool
+shows_nodes showing = is_plain showing && has_nodes showing.output.form
 
 -- the cells of rows are parted by tabs
 abbrev pub is_tsv : OptionShown → Bool
 is_tsv Tsv = true
 is_tsv _ = false
 
--- the nodes are shown in such lines, or counted for each path, or of each path the first in a row with tabs
+-- the nodes are shown so, or counted for each path, or of each path the first in a row with tabs
 abbrev pub is_plain_answer : Answering → Bool
 is_plain_answer answering = is_tsv answering.shown || (not (is_table answering.shown)
-    && (shows_lines answering.showing || (has_counts answering.showing.output.form && not answering.total)))
+    && (shows_nodes answering.showing || (has_counts answering.showing.output.form && not answering.total)))
 
 -- the text of the first node, in a cell
 abbrev pub IsFirstOf : List Located → Option (String Global) → Type 0
@@ -270,13 +265,13 @@ asked_look answering = if is_table answering.shown then cell_look else look_of a
 
 -- ---- documents and inputs
 
--- what lines begin with
-abbrev pub head_by : Heads → List ℕ → ℕ → ℕ → List ℕ
-head_by heads name line number = head_text heads.file heads.line heads.number name line number
+-- what nodes begin with
+abbrev pub head_by : Output → Heads → List ℕ → ℕ → ℕ → List ℕ
+head_by output heads name line number = head_in (is_array output.form) output.layout heads.file heads.line heads.number name line number
 
 -- the heads that options ask for, for so many paths
 abbrev pub heads_in : Options → ℕ → Heads
-heads_in options count = record { file = has_names options; line = options.line_number; number = has_numbers options count }
+heads_in options count = record { file = has_names options; line = has_line_numbers options; number = has_numbers options count }
 
 -- the paths that are asked
 abbrev pub paths_in : Answering → List JsonPath
@@ -285,12 +280,21 @@ paths_in answering = map (λ (path : AskedPath). path.path) answering.paths.now
 -- what is shown of a document in such an answer, for each path
 abbrev pub each_by : Answering → Shown
 each_by answering name number bytes text any =
-    AreAnswersOn builtin_functions (paths_in answering) (look_of answering.showing) (head_by answering.heads name number) bytes text any
+    AreAnswersOn builtin_functions (paths_in answering) (look_of answering.showing) (head_by answering.showing.output answering.heads name number) bytes text any
 
 -- the same where it, or the query of a path, may be refused
 abbrev pub each_in_part_by : Answering → Shown
 each_in_part_by answering name number bytes text any =
-    AreAnswersInPart builtin_functions (paths_in answering) (look_of answering.showing) (head_by answering.heads name number) bytes text any
+    AreAnswersInPart builtin_functions (paths_in answering) (look_of answering.showing) (head_by answering.showing.output answering.heads name number) bytes text any
+
+-- the same in one array, where that is asked for
+abbrev pub all_by : Answering → Shown
+all_by answering name number bytes text any =
+    IsShownOn builtin_functions (paths_in answering) (look_of answering.showing) (head_by answering.showing.output answering.heads name number) bytes text any
+
+abbrev pub all_in_part_by : Answering → Shown
+all_in_part_by answering name number bytes text any =
+    IsShownInPart builtin_functions (paths_in answering) (look_of answering.showing) (head_by answering.showing.output answering.heads name number) bytes text any
 
 -- the same in a row
 abbrev pub row_by : Answering → Shown
@@ -304,16 +308,20 @@ row_in_part_by answering name number bytes text any = IsRowInPart builtin_functi
 -- the same by what is asked to be shown
 abbrev pub shown_by : Answering → Shown
 shown_by answering name number bytes text any =
-    MatchBool (is_table answering.shown) (row_by answering name number bytes text any) (each_by answering name number bytes text any)
+    MatchBool (is_table answering.shown) (row_by answering name number bytes text any) (all_by answering name number bytes text any)
 
 abbrev pub shown_in_part_by : Answering → Shown
 shown_in_part_by answering name number bytes text any =
-    MatchBool (is_table answering.shown) (row_in_part_by answering name number bytes text any) (each_in_part_by answering name number bytes text any)
+    MatchBool (is_table answering.shown) (row_in_part_by answering name number bytes text any) (all_in_part_by answering name number bytes text any)
 
 -- what is shown of a document was added so, or sent
 abbrev pub AnswersEach : {W E : Type 0} → (W → Option (List ℕ)) → Answering → List ℕ → ℕ → List ℕ → Streams W E → Streams W E → Type 0
 AnswersEach contents answering name number bytes before after =
     Answered answering.silent contents (each_by answering name number bytes) (each_in_part_by answering name number bytes) before after
+
+abbrev pub AnswersAll : {W E : Type 0} → (W → Option (List ℕ)) → Answering → List ℕ → ℕ → List ℕ → Streams W E → Streams W E → Type 0
+AnswersAll contents answering name number bytes before after =
+    Answered answering.silent contents (all_by answering name number bytes) (all_in_part_by answering name number bytes) before after
 
 abbrev pub AnswersRow : {W E : Type 0} → (W → Option (List ℕ)) → Answering → List ℕ → ℕ → List ℕ → Streams W E → Streams W E → Type 0
 AnswersRow contents answering name number bytes before after =
@@ -370,11 +378,6 @@ SendsFor contents options taken next paths bytes_of before after = SendsUntil op
     (AreInputsShown (IsShownFor options taken paths) options.lines bytes_of (names_in options))
     (AreInputsShown (IsShownInPartFor options taken paths) options.lines bytes_of (names_in options)) before after
 
--- nodes are not shown in one array
-abbrev pub is_by_path : OptionShown → Bool
-is_by_path (Nodes Json) = false
-is_by_path _ = true
-
 -- nothing is shown of nodes
 abbrev pub is_quiet : OptionShown → Bool
 is_quiet (Nodes Nothing) = true
@@ -400,21 +403,25 @@ pub record AnswersRun {W E : Type 0} (contents : W → Option (List ℕ)) (bytes
 
 -- ---- nodes as they are written
 
--- nothing changed but what is pending, and whether a node was written before
+-- nothing changed but what is pending
 pub record OnlyPends {W E : Type 0} (before after : Written W E) : Type 0 where
   pub same : after.streams.ghost_name ≡ before.streams.ghost_name
-  pub kept : after ≡ record before { streams = after.streams; is_later = after.is_later }
+  pub kept : after ≡ record before { streams = after.streams }
   pub streams : after.streams.now ≡ record before.streams.now { pending = after.streams.now.pending }
 
--- where nodes are shown in lines, a node's line is added to what is pending
-abbrev pub PendsLine : {W E : Type 0} → Located → Written W E → Written W E → Type 0
-PendsLine n before after = shows_lines before.showing.now ≡ true
-    → lines.Appends (IsLook (look_of before.showing.now) before.head.now n) (string_bytes before.streams.now.pending) (string_bytes after.streams.now.pending)
+-- a node was written before, of the path or of an earlier one in the same array
+abbrev pub is_after : {W E : Type 0} → Written W E → Bool
+is_after written = written.is_later || nat_lt 0 written.count
 
--- where nodes are shown in lines, these nodes' lines went out or are pending
-abbrev pub WritesLines : {W E : Type 0} → (W → Option (List ℕ)) → List Located → Written W E → Written W E → Type 0
-WritesLines contents nodes before after = shows_lines before.showing.now ≡ true
-    → (text : List ℕ) × IsLookOfEach (look_of before.showing.now) before.head.now nodes text
+-- where nodes are shown, a node is added to what is pending
+abbrev pub PendsNode : {W E : Type 0} → Located → Written W E → Written W E → Type 0
+PendsNode n before after = shows_nodes before.showing.now ≡ true
+    → lines.Appends (IsPiece (look_of before.showing.now) (is_after before) before.head.now n) (string_bytes before.streams.now.pending) (string_bytes after.streams.now.pending)
+
+-- where nodes are shown, these went out or are pending
+abbrev pub WritesNodes : {W E : Type 0} → (W → Option (List ℕ)) → List Located → Written W E → Written W E → Type 0
+WritesNodes contents nodes before after = shows_nodes before.showing.now ≡ true
+    → (text : List ℕ) × ArePieces (look_of before.showing.now) (is_after before) before.head.now nodes text
     × Writes contents before.streams.now after.streams.now text
 
 -- what writing a node leaves as it was
@@ -422,6 +429,7 @@ pub record KeepsRest {W E : Type 0} (before after : Written W E) : Type 0 where
   pub same : after.streams.ghost_name ≡ before.streams.ghost_name
   pub showing : after.showing ≡ before.showing
   pub head : after.head ≡ before.head
+  pub later : after.is_later ≡ before.is_later
   pub limit : after.limit ≡ before.limit
   pub outcome : after.streams.now.outcome ≡ before.streams.now.outcome
   pub err : after.streams.now.err ≡ before.streams.now.err
@@ -433,7 +441,7 @@ pub record WritesNode {W E : Type 0} (contents : W → Option (List ℕ)) (n : L
   pub count : after.count ≡ before.count + 1
   pub further : more ≡ true → (after.stop ≡ before.stop) × (is_reached after.limit after.count ≡ false)
   pub enough : more ≡ false → after.stop ≡ None → is_reached after.limit after.count ≡ true
-  pub line : before.stop ≡ None → after.stop ≡ None → WritesLines contents (n ∷ []) before after
+  pub node : before.stop ≡ None → after.stop ≡ None → WritesNodes contents (n ∷ []) before after
 
 -- these nodes were written, all below the limit, where there was none before
 pub record TookNodes {W E : Type 0} (contents : W → Option (List ℕ)) (before : Written W E) (nodes : List Located) (now : Written W E) : Type 0 where
@@ -441,18 +449,18 @@ pub record TookNodes {W E : Type 0} (contents : W → Option (List ℕ)) (before
   pub stop : now.stop ≡ None
   pub count : now.count ≡ before.count + length nodes
   pub more : is_reached now.limit now.count ≡ false
-  pub lines : WritesLines contents nodes before now
+  pub written : WritesNodes contents nodes before now
 
 -- of these nodes those up to the limit were written, where there was none before, unless writing failed
 pub record FilledNodes {W E : Type 0} (contents : W → Option (List ℕ)) (before : Written W E) (nodes : List Located) (now : Written W E) : Type 0 where
   pub rest : KeepsRest before now
   pub count : before.count ≡ 0 → now.stop ≡ None → now.count ≡ length (up_to before.limit nodes)
-  pub lines : before.count ≡ 0 → now.stop ≡ None → WritesLines contents (up_to before.limit nodes) before now
+  pub written : before.count ≡ 0 → now.stop ≡ None → WritesNodes contents (up_to before.limit nodes) before now
 
--- where nodes are shown in lines, a beginning of what was pending and of these nodes' lines is out
+-- where nodes are shown, a beginning of what was pending and of these is out
 pub record BeginsNodes {W E : Type 0} (contents : W → Option (List ℕ)) (nodes : List Located) (before now : Written W E) : Type 0 where
   pub rest : KeepsRest before now
-  pub lines : shows_lines before.showing.now ≡ true → (text : List ℕ) × IsLookOfEach (look_of before.showing.now) before.head.now nodes text
+  pub written : shows_nodes before.showing.now ≡ true → (text : List ℕ) × ArePieces (look_of before.showing.now) (is_after before) before.head.now nodes text
       × AppendsBeginning (contents before.streams.now.out) (contents now.streams.now.out) (string_bytes before.streams.now.pending ++ text)
 
 -- the same of the first of these nodes, not more than the limit, where there was none before

@@ -1,16 +1,21 @@
--- How the line of a node looks: indented by a unit, escaped, and in colours.
+-- How a node looks, in a line or in an array: indented by a unit, escaped, and in colours.
 use Rattle.std.specs.Char.{encode_utf8, is_ascii}
 use Rattle.std.specs.Char.Escape.{encode_utf16}
 use Rattle.std.specs.Fmt.{digit_glyph}
 use Rattle.std.specs.List.{flat_map}
 use Rattle.std.specs.Prelude.{◌≡◌, ◌==◌, ◌&&◌, ◌/◌, ◌%◌, ℕ, Bool, true, false, List, [], ◌∷◌, ◌++◌, MatchBool, Option, None, Some, codes, if◌then◌else◌}
-use Rattle.std.specs.Str.{chars, encode_utf8_all}
+use Rattle.std.specs.Str.{chars}
 use Rattle.serde_json.specs.Data.{Data, string}
+use Rattle.serde_json.specs.Written.{compact_text}
 use Rattle.serde_json_path_nodes.specs.Location.{Located}
+use Rattle.serde_json_path_nodes.specs.Text.{normal}
+use Rattle.jpq_program.specs.Heads.{colon_text, member_text}
 use Rattle.jsonpath_lines.specs.Coloured.{IsColoured}
-use Rattle.jsonpath_lines.specs.Output.{IsLine}
+use Rattle.jsonpath_lines.specs.Output.{IsJsonIn, IsLine}
 use Rattle.jsonpath_lines.specs.declared.forms.Form.{Form}
-use Rattle.jsonpath_lines.specs.declared.forms.Form.TheVariants.{Pointer, Raw}
+use Rattle.jsonpath_lines.specs.declared.forms.Form.TheVariants.{Json, Pointer, Raw}
+use Rattle.jsonpath_lines.specs.declared.forms.Layout.{Layout}
+use Rattle.jsonpath_lines.specs.declared.forms.Layout.TheVariants.{Compact, Pretty}
 use Rattle.jsonpath_lines.specs.declared.forms.Output.{Output}
 
 -- what is shown of nodes, and how: by what a level is indented where that is not two spaces, whether characters above U+007F are
@@ -72,8 +77,55 @@ abbrev pub IsLook : Look → List ℕ → Located → List ℕ → Type 0
 IsLook look head n text = (line seen : List ℕ) × IsLine look.output [] n line
     × IsSeenIn look.colored (dressed look n.value line) seen × (text ≡ head ++ seen)
 
--- such a line for each node, in order, joined
-abbrev pub IsLookOfEach : Look → List ℕ → List Located → List ℕ → Type 0
-IsLookOfEach look head [] text = text ≡ []
-IsLookOfEach look head (n ∷ ns) text =
-    (own rest : List ℕ) × IsLook look head n own × IsLookOfEach look head ns rest × (text ≡ own ++ rest)
+-- ---- a node in an array
+
+-- all nodes of a document are shown in one array
+abbrev pub is_array : Form → Bool
+is_array Json = true
+is_array _ = false
+
+-- a character of JSON whose lines after the first are four spaces further in
+abbrev pub further_in : ℕ → List ℕ
+further_in c = if c == 10 then codes "\n    " else encode_utf8 c
+
+-- the JSON of a value as a member of an object in an array
+abbrev pub member_json : Layout → List ℕ → List ℕ
+member_json Compact json = json
+member_json Pretty json = flat_map further_in (chars json)
+
+-- what an object in an array begins and ends with
+abbrev pub object_opening : Layout → List ℕ
+object_opening Compact = codes "{"
+object_opening Pretty = codes "\n  {\n    "
+
+abbrev pub object_closing : Layout → List ℕ
+object_closing Compact = codes "}"
+object_closing Pretty = codes "\n  }"
+
+-- the last member of such an object, by its JSON, and the end
+abbrev pub value_text : Layout → List ℕ → List ℕ
+value_text layout json = codes "\"value\"" ++ (colon_text layout ++ (json ++ object_closing layout))
+
+-- a node as an object, by the JSON strings of its path and its value, after other members; and after a comma, where it is later
+-- than the first in its array
+abbrev pub object_text : Layout → Bool → List ℕ → List ℕ → List ℕ → List ℕ
+object_text layout later members path json = (if later then codes "," else []) ++ (object_opening layout ++ (members
+    ++ (member_text layout (codes "path") path ++ value_text layout json)))
+
+-- a node's object in this look
+abbrev pub IsObject : Look → Bool → List ℕ → Located → List ℕ → Type 0
+IsObject look later members n text = (json : List ℕ) × IsJsonIn look.output.layout n.value json
+    × IsSeenIn look.colored (escaped look.ascii (indented look.unit (object_text look.output.layout later members
+    (compact_text (string (normal n.location))) (member_json look.output.layout json)))) text
+
+-- ---- some nodes
+
+-- a node, after a head, in this look: in an array its object, which may be later than the first, or else its line
+abbrev pub IsPiece : Look → Bool → List ℕ → Located → List ℕ → Type 0
+IsPiece look later head n text = MatchBool (is_array look.output.form) (IsObject look later head n text) (IsLook look head n text)
+
+-- each of some nodes, in order, joined
+abbrev pub ArePieces : Look → Bool → List ℕ → List Located → List ℕ → Type 0
+ArePieces look later head [] text = text ≡ []
+ArePieces look later head (n ∷ ns) text =
+    (own rest : List ℕ) × IsPiece look later head n own × ArePieces look true head ns rest × (text ≡ own ++ rest)

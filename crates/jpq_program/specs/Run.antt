@@ -10,7 +10,7 @@ use Rattle.serde_json_path.specs.Paths.{path_tree, path_view}
 use Rattle.serde_json_path.specs.declared.path.JsonPath.{JsonPath}
 use Rattle.jsonpath_lines.specs.Sent.{AppendsBeginning}
 use Rattle.jsonpath_lines.specs.declared.forms.Form.{Form}
-use Rattle.jsonpath_lines.specs.declared.forms.Form.TheVariants.{Json, Nothing, Raw}
+use Rattle.jsonpath_lines.specs.declared.forms.Form.TheVariants.{Nothing, Raw}
 use Rattle.jsonpath_lines.specs.declared.forms.Output.{Output}
 use Rattle.jpq_options.specs.Options.{is_table}
 use Rattle.jpq_options.specs.Paths.{path_lines}
@@ -21,10 +21,10 @@ use Rattle.jpq_options.specs.declared.options.Request.{Request}
 use Rattle.jpq_options.specs.declared.options.Request.TheVariants.{Run, Print, WrongUse}
 use Rattle.jpq_options.specs.declared.options.Shown.{Shown}
 use Rattle.jpq_options.specs.declared.options.Shown.TheVariants.{Csv, Nodes}
-use Rattle.jpq_program.specs.Answers.{AreAnswersInPart, AreAnswersOn}
-use Rattle.jpq_program.specs.Heads.{head_text}
+use Rattle.jpq_program.specs.Answers.{IsShownInPart, IsShownOn}
+use Rattle.jpq_program.specs.Heads.{head_in}
 use Rattle.jpq_program.specs.Inputs.{AreInputsShown, AreKnown, Opens, OpensFirst, without_mark}
-use Rattle.jpq_program.specs.Looks.{Look}
+use Rattle.jpq_program.specs.Looks.{Look, is_array}
 use Rattle.jpq_program.specs.Rows.{IsRowInPart, IsRowOn, first_cells}
 use Rattle.jpq_program.specs.declared.colours.Colours.{Colours}
 use Rattle.jpq_program.specs.declared.streams.Streams.{Streams}
@@ -75,27 +75,38 @@ look_in options taken = record {
   colored = is_colored options.color taken;
 }
 
--- whether lines begin with the name of the input, the number of the line, and the number of the path, for so many paths
+-- whether what is shown of a node begins with the name of the input, the number of the line, and the number of the path, for so many
+-- paths
 abbrev pub has_names : Options → Bool
 has_names options = options.with_filename
     || (nat_lt 1 (length options.files.items) && (not options.no_filename && not (is_table options.shown)))
 
+abbrev pub has_line_numbers : Options → Bool
+has_line_numbers options = options.line_number || (is_array (form_in options.shown) && options.lines)
+
 abbrev pub has_numbers : Options → ℕ → Bool
 has_numbers options count = nat_lt 1 count && (not options.no_path_number && not (is_table options.shown))
+
+-- what it begins with, of an input's name, the number of a line, and the number of one of so many paths
+abbrev pub head_for : Options → ℕ → List ℕ → ℕ → ℕ → List ℕ
+head_for options count = head_in (is_array (form_in options.shown)) options.layout (has_names options) (has_line_numbers options)
+    (has_numbers options count)
+
+-- the cells that a row begins with, of the same
+abbrev pub cells_for : Options → List ℕ → ℕ → List (List ℕ)
+cells_for options = first_cells (has_names options) (has_line_numbers options)
 
 -- what is shown of a document for the paths: a name, the number of its line, its bytes, the text, and whether a node is shown
 abbrev pub IsShownFor : Options → Bool → List JsonPath → List ℕ → ℕ → List ℕ → List ℕ → Bool → Type 0
 IsShownFor options taken paths name number bytes text any = MatchBool (is_table options.shown)
-    (IsRowOn builtin_functions paths options.end (first_cells (has_names options) options.line_number name number) bytes text any)
-    (AreAnswersOn builtin_functions paths (look_in options taken)
-    (head_text (has_names options) options.line_number (has_numbers options (length paths)) name number) bytes text any)
+    (IsRowOn builtin_functions paths options.end (cells_for options name number) bytes text any)
+    (IsShownOn builtin_functions paths (look_in options taken) (head_for options (length paths) name number) bytes text any)
 
 -- the same where it, or the query of a path, may be refused
 abbrev pub IsShownInPartFor : Options → Bool → List JsonPath → List ℕ → ℕ → List ℕ → List ℕ → Bool → Type 0
 IsShownInPartFor options taken paths name number bytes text any = MatchBool (is_table options.shown)
-    (IsRowInPart builtin_functions paths options.end (first_cells (has_names options) options.line_number name number) bytes text any)
-    (AreAnswersInPart builtin_functions paths (look_in options taken)
-    (head_text (has_names options) options.line_number (has_numbers options (length paths)) name number) bytes text any)
+    (IsRowInPart builtin_functions paths options.end (cells_for options name number) bytes text any)
+    (IsShownInPart builtin_functions paths (look_in options taken) (head_for options (length paths) name number) bytes text any)
 
 -- the inputs' names, in order; `-` is standard input
 abbrev pub names_in : Options → List (List ℕ)
@@ -135,9 +146,9 @@ abbrev pub OpensInOrder : Options → ℕ → Option (List (List ℕ)) → Optio
 OpensInOrder options status before after =
     OpensFirst before after (opened_in options) ⊎ ((2 ≤ status) × OpensFirst before after (looked_at_in options))
 
--- each node is shown in a line of its own, or the nodes are counted, or the first of each path are shown in a row with tabs
+-- each node is shown, in a line or an object of its own, or the nodes are counted, or the first of each path are shown in a row with
+-- tabs
 abbrev pub is_each : Shown → Bool
-is_each (Nodes Json) = false
 is_each (Nodes Nothing) = false
 is_each Csv = false
 is_each _ = true
@@ -193,7 +204,7 @@ pub record IsFound (bytes_of : List ℕ → Option (List ℕ)) (options : Option
 
 -- ---- paths that are only checked
 
--- The paths are only checked: no values are bound to names in them, and no form is asked for but lines of nodes, or counts.
+-- The paths are only checked: no values are bound to names in them, and the form that is asked for is one of a plain run.
 pub record IsCheckRun (options : Options) : Type 0 where
   pub check : options.check ≡ true
   pub each : is_each options.shown ≡ true

@@ -1,6 +1,6 @@
 //! What is written of a document.
 
-ghost use Rattle.std.specs.Prelude.{◌≡◌, ◌||◌, List, None, IfErr, IfOk, OnOk, false, map, nat_lt, string_bytes, true};
+ghost use Rattle.std.specs.Prelude.{◌≡◌, ◌||◌, Bool, List, None, IfErr, IfOk, OnOk, false, map, nat_lt, string_bytes, true};
 ghost use Rattle.serde_json_path_nodes.specs.Views.{located};
 ghost use Rattle.serde_json_path_functions.specs.Patterns.{builtin_functions};
 ghost use Rattle.serde_json.specs.Data.{Data};
@@ -8,7 +8,8 @@ ghost use Rattle.serde_json_path_core.specs.Inside.Words.{view, Located, OnlyMem
 ghost use Rattle.serde_json_path.specs.Paths.{path_tree, with_rule_of};
 ghost use Rattle.jsonpath_lines.specs.Inside.{once};
 ghost use Rattle.jpq_program.specs.Answers.{IsAnswerInPart};
-ghost use Rattle.jpq_program.specs.Inside.{AnswersBy, AnswersEach, AnswersPath, AreSelected, AreShownAs, Begins, BeginsFirst, Counts, FilledNodes, IsAsked, OnlyNotes, OnlyRefuses, SendsBy, SendsDocument, ShowsAs, TookFirst, asked_look, each_in_part_by, has_counts, head_by, is_array, is_plain_answer, look_of, shown_in_part_by, shows_lines};
+ghost use Rattle.jpq_program.specs.Inside.{AnswersAll, AnswersBy, AnswersEach, AnswersPath, AreSelected, AreShownAs, Begins, BeginsFirst, Counts, FilledNodes, IsAsked, OnlyNotes, OnlyRefuses, SendsBy, SendsDocument, ShowsAs, TookFirst, all_in_part_by, asked_look, each_in_part_by, has_counts, head_by, is_plain_answer, look_of, shown_in_part_by, shows_nodes};
+ghost use Rattle.jpq_program.specs.Looks.{is_array};
 
 use crate::answers::push_answer;
 use crate::asked_path::AskedPath;
@@ -172,8 +173,8 @@ impl Answering<'_> {
         Ok(())
     }
 
-    /// Writes what a path selects from a document, after what was written of earlier paths in the same array. Says whether anything
-    /// stands in the array now. Where memory is refused for the query the run ends.
+    /// Writes what a path selects from a document, which may be later than nodes of earlier paths in the same array. Says whether
+    /// there is a node. Where memory is refused for the query the run ends.
     fn answer_path<W: Write, E: Write>(
         &self,
         document: Document<'_>,
@@ -182,16 +183,18 @@ impl Answering<'_> {
         is_later: bool,
         streams: &mut Streams<W, E>,
     ) -> Result<bool, Stop>
-        ensures answered { IfOk result (λ _. ShowsAs (look_of self.now.showing)
+        ensures answered { IfOk result (λ any. ShowsAs (look_of self.now.showing)
             document.entry.bytes.now (view document.entry.value.now) path.now.path
-            → shows_lines self.now.showing ≡ true → streams.old.left ≡ None
-            → AnswersPath self.now.silent W.contents path.now.path (look_of self.now.showing)
-            head.now document.entry.bytes.now streams.old streams.new) }
+            → shows_nodes self.now.showing ≡ true → streams.old.left ≡ None
+            → (answered : AnswersPath self.now.silent W.contents path.now.path
+            (look_of self.now.showing) is_later head.now document.entry.bytes.now
+            streams.old streams.new) × (any ≡ answered.any)) }
         ensures begun { ShowsAs (look_of self.now.showing)
             document.entry.bytes.now (view document.entry.value.now) path.now.path
-            → shows_lines self.now.showing ≡ true → streams.old.left ≡ None
+            → shows_nodes self.now.showing ≡ true → streams.old.left ≡ None
             → Begins W.contents (IsAnswerInPart builtin_functions path.now.path
-            (look_of self.now.showing) head.now document.entry.bytes.now) streams.old streams.new }
+            (look_of self.now.showing) is_later head.now document.entry.bytes.now)
+            streams.old streams.new }
     {
         let limit = least(self.showing.output.most, streams.left);
         let mut written = Written {
@@ -204,7 +207,8 @@ impl Answering<'_> {
             stop: None,
         };
         let answered = self.write_path(path, document, &mut written);
-        let (count, stop, is_later) = (written.count, written.stop, written.is_later);
+        let (count, stop) = (written.count, written.stop);
+        let any = count > 0;
         self.keep_count(count, streams);
         if let Some(stop) = stop {
             return Err(stop);
@@ -216,31 +220,33 @@ impl Answering<'_> {
                 return Err(Stop::Refused);
             }
         }
-        Ok(is_later)
+        Ok(any)
     }
 
-    /// Writes the lines of what each path selects from a document.
-    fn answer_lines<W: Write, E: Write>(
+    /// Writes what each path selects from a document. Says whether there is a node.
+    fn answer_each<W: Write, E: Write>(
         &self,
         document: Document<'_>,
         streams: &mut Streams<W, E>,
-    ) -> Result<(), Stop>
-        ensures answered { IfOk result (λ _. AreShownAs (look_of self.now.showing)
+    ) -> Result<bool, Stop>
+        ensures answered { IfOk result (λ any. AreShownAs (look_of self.now.showing)
             document.entry.bytes.now (view document.entry.value.now) self.now.paths.now
-            → shows_lines self.now.showing ≡ true → streams.old.left ≡ None
-            → AnswersEach W.contents self.now document.entry.source.name.now
-            document.entry.source.line document.entry.bytes.now streams.old streams.new) }
+            → shows_nodes self.now.showing ≡ true → streams.old.left ≡ None
+            → (answered : AnswersEach W.contents self.now document.entry.source.name.now
+            document.entry.source.line document.entry.bytes.now streams.old streams.new)
+            × (any ≡ answered.any)) }
         ensures begun { AreShownAs (look_of self.now.showing)
             document.entry.bytes.now (view document.entry.value.now) self.now.paths.now
-            → shows_lines self.now.showing ≡ true → streams.old.left ≡ None
+            → shows_nodes self.now.showing ≡ true → streams.old.left ≡ None
             → Begins W.contents (each_in_part_by self.now document.entry.source.name.now
             document.entry.source.line document.entry.bytes.now) streams.old streams.new }
     {
+        let mut is_later = false;
         for (index, path) in self.paths.iter().enumerate() {
             let head = self.head(document.source, index.saturating_add(1))?;
-            self.answer_path(document, path, head.as_str(), false, streams)?;
+            is_later |= self.answer_path(document, path, head.as_str(), is_later, streams)?;
         }
-        Ok(())
+        Ok(is_later)
     }
 
     /// Writes an array of what each path selects from a document.
@@ -248,23 +254,31 @@ impl Answering<'_> {
         &self,
         document: Document<'_>,
         streams: &mut Streams<W, E>,
-    ) -> Result<(), Stop> {
-        streams.pending.push('[')?;
-        let mut is_later = false;
-        for (index, path) in self.paths.iter().enumerate() {
-            let head = self.head(document.source, index.saturating_add(1))?;
-            is_later = self.answer_path(document, path, head.as_str(), is_later, streams)?;
-        }
-        self.showing
-            .push_array_end(&mut streams.pending, !is_later)?;
+    ) -> Result<(), Stop>
+        ensures answered { IfOk result (λ _. AreShownAs (look_of self.now.showing)
+            document.entry.bytes.now (view document.entry.value.now) self.now.paths.now
+            → shows_nodes self.now.showing ≡ true
+            → is_array self.now.showing.output.form ≡ true → streams.old.left ≡ None
+            → AnswersAll W.contents self.now document.entry.source.name.now
+            document.entry.source.line document.entry.bytes.now streams.old streams.new) }
+        ensures begun { AreShownAs (look_of self.now.showing)
+            document.entry.bytes.now (view document.entry.value.now) self.now.paths.now
+            → shows_nodes self.now.showing ≡ true
+            → is_array self.now.showing.output.form ≡ true → streams.old.left ≡ None
+            → Begins W.contents (all_in_part_by self.now document.entry.source.name.now
+            document.entry.source.line document.entry.bytes.now) streams.old streams.new }
+    {
+        streams.pending.push_str("[")?;
+        let holds = self.answer_each(document, streams)?;
+        self.showing.push_array_end(&mut streams.pending, holds)?;
         Ok(())
     }
 
     /// What the lines of a path, or the members of its objects, begin with.
     fn head(&self, source: Source<'_>, number: usize) -> Result<String, Stop>
-        ensures { is_array self.now.showing.output.form ≡ false → IfOk result (λ head.
-            string_bytes head
-            ≡ head_by self.now.heads source.entry.name.now source.entry.line number) }
+        ensures { IfOk result (λ head. string_bytes head
+            ≡ head_by self.now.showing.output self.now.heads source.entry.name.now
+            source.entry.line number) }
     {
         let Output { form, layout, .. } = self.showing.output;
         if form == Form::Json {
@@ -332,9 +346,9 @@ impl Answering<'_> {
         ensures answered { IfOk result (λ _. ShowsAs (look_of self.now.showing)
             document.entry.bytes.now (view document.entry.value.now) path.now.path
             → has_counts self.now.showing.output.form ≡ true → self.now.total ≡ false
-            → streams.old.left ≡ None
+            → streams.old.left ≡ None → (later : Bool)
             → AnswersPath self.now.silent W.contents path.now.path (look_of self.now.showing)
-            head.now document.entry.bytes.now streams.old streams.new) }
+            later head.now document.entry.bytes.now streams.old streams.new) }
         ensures unwritten { streams.new.out ≡ streams.old.out }
     {
         let limit = least(self.showing.output.most, streams.left);
@@ -475,7 +489,10 @@ impl Answering<'_> {
             (Some(separator), _) => self.answer_row(separator, document, streams),
             (None, Form::Count | Form::Nothing) => self.answer_counts(document, streams),
             (None, Form::Json) => self.answer_array(document, streams),
-            (None, _) => self.answer_lines(document, streams),
+            (None, _) => {
+                self.answer_each(document, streams)?;
+                Ok(())
+            }
         }
     }
 

@@ -134,7 +134,7 @@ fn push_ascii(text: &mut String, c: char) -> Result<(), AllocError>
 }
 
 /// JSON or a normalised path with an escape for each character above U+007F.
-fn in_ascii(alloc: Global, line: &str) -> Result<String, AllocError>
+fn escaped(alloc: Global, line: &str) -> Result<String, AllocError>
     ensures { IfOk result (λ text. string_bytes text ≡ flat_map in_ascii (chars line.now)) }
 {
     let mut text = String::new(alloc);
@@ -187,7 +187,7 @@ impl Dress<'_> {
     {
         let text = self.indented(text)?;
         if self.ascii {
-            return in_ascii(self.alloc, text.as_str());
+            return escaped(self.alloc, text.as_str());
         }
         Ok(text)
     }

@@ -18,6 +18,7 @@ mod encodings;
 mod inexact;
 pub mod inputs;
 mod meant;
+mod members;
 mod paths;
 mod patterns;
 mod refusal;

@@ -9,7 +9,7 @@ ghost use Rattle.jsonpath_lines.specs.Sent.{AppendsBeginning};
 ghost use Rattle.jpq_options.specs.Options.{AsksFor};
 ghost use Rattle.jpq_options.specs.declared.options.Request as input;
 ghost use Rattle.jpq_program.specs.Inputs.{AreInputsShown, AreKnown, Opens, OpensFirst};
-ghost use Rattle.jpq_program.specs.Inside.{AnswersRun, Begins, IsKnownRun, IsPlain, OnlyTells, SendsFor, SendsInputs, has_palette, heads_in, is_by_path, is_quiet, look_with, shown_in_part_by, shows_places, status_after, status_of, told_after};
+ghost use Rattle.jpq_program.specs.Inside.{AnswersRun, Begins, IsKnownRun, IsPlain, OnlyTells, SendsFor, SendsInputs, has_palette, heads_in, is_quiet, look_with, shown_in_part_by, shows_places, status_after, status_of, told_after};
 ghost use Rattle.jpq_program.specs.Run.{ComesOf, IsAnsweredInPart, IsChecked, IsCheckedInPart, IsCheckRun, IsPrinted, IsShownInPartFor, LacksMemory, canonical_lines, is_colored, look_in, looked_at_in, names_in, opened_in, output_in, path_files_in, unit_in};
 
 use crate::answering::Answering;
@@ -156,7 +156,7 @@ fn indent_of(alloc: Global, options: &Options<'_>) -> Result<Option<String>, All
 
 /// What is written of where a node comes from, as the options say. A row has no more than they name.
 fn heads_of(options: &Options<'_>, paths: usize) -> Heads
-    ensures { is_by_path options.now.shown ≡ true → result ≡ heads_in options.now paths }
+    ensures { result ≡ heads_in options.now paths }
 {
     let is_json = options.shown == Shown::Nodes(Form::Json);
     let is_table = matches!(options.shown, Shown::Tsv | Shown::Csv);
@@ -418,7 +418,8 @@ fn run_with<I: Inputs, W: Write, E: Write>(
         OpensFirst (I.opened inputs.old) (I.opened inputs.new) (opened_in options.now)) }
     ensures all { IfOk result (λ next. options.now.check ≡ false → next ≡ Next.More
         → Opens (I.opened inputs.old) (I.opened inputs.new) (opened_in options.now)) }
-    ensures in_order { OpensFirst (I.opened inputs.old) (I.opened inputs.new) (opened_in options.now)
+    ensures in_order {
+        OpensFirst (I.opened inputs.old) (I.opened inputs.new) (opened_in options.now)
         ⊎ OpensFirst (I.opened inputs.old) (I.opened inputs.new) (looked_at_in options.now) }
 {
     let paths = asked_paths(alloc, options, inputs, streams)?;

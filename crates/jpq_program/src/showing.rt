@@ -1,14 +1,19 @@
 //! How nodes are shown: their lines and their objects.
 
 ghost use Rattle.std.specs.Char.{encode_utf8};
-ghost use Rattle.std.specs.Prelude.{◌≡◌, OnOk, string_bytes, true};
+ghost use Rattle.std.specs.Prelude.{◌≡◌, ◌++◌, ℕ, List, IfOk, OnOk, string_bytes, true};
+ghost use Rattle.serde_json.specs.Data.{string};
+ghost use Rattle.serde_json.specs.Written.{compact_text};
+ghost use Rattle.serde_json_path_nodes.specs.Text.{normal};
 ghost use Rattle.serde_json_path_nodes.specs.Views.{located};
 ghost use Rattle.jsonpath_lines.specs.Inside.{Appends};
-ghost use Rattle.jsonpath_lines.specs.Output.{end_text};
+ghost use Rattle.jsonpath_lines.specs.Output.{IsJsonIn, end_text};
+ghost use Rattle.jpq_program.specs.Answers.{array_end};
 ghost use Rattle.jpq_program.specs.Inside.{is_plain, look_of};
-ghost use Rattle.jpq_program.specs.Looks.{IsLook};
+ghost use Rattle.jpq_program.specs.Looks.{IsLook, IsObject, member_json};
 
 use crate::dress::{Dress, push_own_line};
+use crate::members::{push_members, set_further_in};
 use jsonpath_lines::{Form, Layout, LineEnd, Output, push_line};
 use serde_json::Value;
 use serde_json_path::LocatedNode;
@@ -33,16 +38,12 @@ pub(crate) fn end_of(end: LineEnd) -> char
     }
 }
 
-/// JSON with this after each line feed.
-fn put_after_lines(alloc: Global, json: &str, more: &str) -> Result<String, AllocError> {
-    let mut text = String::new(alloc);
-    for c in json.chars() {
-        text.push(c)?;
-        if c == '\n' {
-            text.push_str(more)?;
-        }
-    }
-    Ok(text)
+/// The JSON string of a node's normalised path.
+fn path_string(alloc: Global, node: &LocatedNode<'_>) -> Result<String, AllocError>
+    ensures { IfOk result (λ text. string_bytes text
+        ≡ compact_text (string (normal (located node.now).location))) }
+{
+    Value::String(node.location().to_text(alloc)?).to_string(alloc)
 }
 
 impl Showing<'_> {
@@ -65,18 +66,35 @@ impl Showing<'_> {
         }
     }
 
-    /// A node's value in JSON, as a member of an object in an array.
-    fn value(&self, node: &LocatedNode<'_>) -> Result<String, AllocError> {
+    /// The JSON of a node's value.
+    fn json(&self, node: &LocatedNode<'_>) -> Result<String, AllocError>
+        ensures { IfOk result (λ json. IsJsonIn self.now.output.layout (located node.now).value
+            (string_bytes json)) }
+    {
         let mut json = String::new(self.alloc);
         let output = Output {
             form: Form::Value,
-            ..self.output
+            layout: self.output.layout,
+            end: LineEnd::LineFeed,
+            unique: false,
+            most: None,
         };
         push_own_line(self.alloc, &output, &mut json, node)?;
-        json.pop();
+        // A line feed ends the line.
+        json.truncate(json.len() - 1);
+        Ok(json)
+    }
+
+    /// A node's value in JSON, as a member of an object in an array.
+    fn member(&self, node: &LocatedNode<'_>) -> Result<String, AllocError>
+        ensures { IfOk result (λ member. (json : List ℕ)
+            × IsJsonIn self.now.output.layout (located node.now).value json
+            × (string_bytes member ≡ member_json self.now.output.layout json)) }
+    {
+        let json = self.json(node)?;
         match self.output.layout {
             Layout::Compact => Ok(json),
-            Layout::Pretty => put_after_lines(self.alloc, json.as_str(), "    "),
+            Layout::Pretty => set_further_in(self.alloc, json.as_str()),
         }
     }
 
@@ -88,30 +106,32 @@ impl Showing<'_> {
         members: &str,
         is_later: bool,
         node: &LocatedNode<'_>,
-    ) -> Result<(), AllocError> {
-        let path = Value::String(node.location().to_text(self.alloc)?);
-        let value = self.value(node)?;
-        let comma = if is_later { "," } else { "" };
-        let object = match self.output.layout {
-            Layout::Compact => format!(in self.alloc;
-                "{comma}{{{members}\"path\":{path},\"value\":{value}}}"
-            )?,
-            Layout::Pretty => format!(in self.alloc;
-                "{comma}\n  {{\n    {members}\"path\": {path},\n    \"value\": {value}\n  }}"
-            )?,
-        };
+    ) -> Result<(), AllocError>
+        ensures { is_plain self.now ≡ true → OnOk result
+            (Appends (IsObject (look_of self.now) is_later members.now (located node.now))
+            (string_bytes to.old) (string_bytes to.new)) }
+    {
+        let layout = self.output.layout;
+        let path = path_string(self.alloc, node)?;
+        let value = self.member(node)?;
         match &self.dress {
-            None => to.push_str(object.as_str()),
+            None => push_members(to, layout, is_later, members, path.as_str(), value.as_str()),
             Some(dress) => {
+                let mut object = String::new(self.alloc);
+                let (path, value) = (path.as_str(), value.as_str());
+                push_members(&mut object, layout, is_later, members, path, value)?;
                 let object = dress.dressed(object)?;
                 dress.push_colored(to, object.as_str(), self.output.form)
             }
         }
     }
 
-    /// Appends the end of an array, and of its line.
-    pub(crate) fn push_array_end(&self, to: &mut String, is_empty: bool) -> Result<(), AllocError> {
-        if self.output.layout == Layout::Pretty && !is_empty {
+    /// Appends the end of an array, which may hold something, and of its line.
+    pub(crate) fn push_array_end(&self, to: &mut String, holds: bool) -> Result<(), AllocError>
+        ensures { OnOk result (string_bytes to.new ≡ string_bytes to.old
+            ++ (array_end self.now.output.layout holds ++ end_text self.now.output.end)) }
+    {
+        if self.output.layout == Layout::Pretty && holds {
             to.push('\n')?;
         }
         to.push(']')?;

@@ -1,9 +1,11 @@
 //! Where documents come from, and what is written of that.
 
 ghost use Rattle.std.specs.Prelude.{◌≡◌, IfOk, string_bytes};
-ghost use Rattle.jpq_program.specs.Heads.{shown_name};
-ghost use Rattle.jpq_program.specs.Inside.{head_by};
+ghost use Rattle.serde_json.specs.Data.{string};
+ghost use Rattle.serde_json.specs.Written.{compact_text};
+ghost use Rattle.jpq_program.specs.Heads.{head_text, members_text, shown_name};
 
+use crate::members::push_member;
 use jsonpath_lines::Layout;
 use serde_json::Value;
 use std::alloc::{AllocError, Global};
@@ -22,6 +24,14 @@ pub(crate) fn shown_name(name: &str) -> &str
     ensures { result.now ≡ shown_name name.now }
 {
     if name == "-" { "standard input" } else { name }
+}
+
+/// The JSON string of an input's name, as it is shown.
+fn name_string(alloc: Global, name: &str) -> Result<String, AllocError>
+    ensures { IfOk result (λ text. string_bytes text
+        ≡ compact_text (string (shown_name name.now))) }
+{
+    Value::String(String::from_str(alloc, shown_name(name))?).to_string(alloc)
 }
 
 /// What is written of where a node comes from.
@@ -43,8 +53,8 @@ impl Heads {
         source: Source<'_>,
         number: usize,
     ) -> Result<String, AllocError>
-        ensures { IfOk result (λ head. string_bytes head
-            ≡ head_by self source.entry.name.now source.entry.line number) }
+        ensures { IfOk result (λ head. string_bytes head ≡ head_text self.file self.line
+            self.number source.entry.name.now source.entry.line number) }
     {
         let mut head = String::new(alloc);
         if self.file {
@@ -66,21 +76,23 @@ impl Heads {
         layout: Layout,
         source: Source<'_>,
         number: usize,
-    ) -> Result<String, AllocError> {
-        let (colon, comma) = match layout {
-            Layout::Compact => (":", ","),
-            Layout::Pretty => (": ", ",\n    "),
-        };
+    ) -> Result<String, AllocError>
+        ensures { IfOk result (λ members. string_bytes members
+            ≡ members_text layout self.file self.line self.number source.entry.name.now
+            source.entry.line number) }
+    {
         let mut members = String::new(alloc);
         if self.file {
-            let name = Value::String(String::from_str(alloc, shown_name(source.name))?);
-            write!(members, "\"file\"{colon}{name}{comma}")?;
+            let name = name_string(alloc, source.name)?;
+            push_member(&mut members, layout, "file", name.as_str())?;
         }
         if self.line {
-            write!(members, "\"line\"{colon}{}{comma}", source.line)?;
+            let line = format!(in alloc; "{}", source.line)?;
+            push_member(&mut members, layout, "line", line.as_str())?;
         }
         if self.number {
-            write!(members, "\"number\"{colon}{number}{comma}")?;
+            let number = format!(in alloc; "{number}")?;
+            push_member(&mut members, layout, "number", number.as_str())?;
         }
         Ok(members)
     }

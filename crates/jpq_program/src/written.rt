@@ -6,7 +6,7 @@ ghost use Rattle.serde_json_path_nodes.specs.Views.{located};
 ghost use Rattle.serde_json_path_core.specs.Selects.{OnlyMemoryOrPattern};
 ghost use Rattle.serde_json_path_core.specs.Walks.{document_of, query_of, rest, set_of};
 ghost use Rattle.jsonpath_lines.specs.Inside.{is_reached};
-ghost use Rattle.jpq_program.specs.Inside.{BeginsFirst, BeginsNodes, FilledNodes, OnlyPends, PendsLine, TookFirst, TookNodes, WritesNode, shows_lines};
+ghost use Rattle.jpq_program.specs.Inside.{BeginsFirst, BeginsNodes, FilledNodes, OnlyPends, PendsNode, TookFirst, TookNodes, WritesNode};
 
 use crate::inexact::may_be_inexact;
 use crate::showing::Showing;
@@ -24,7 +24,7 @@ pub(crate) struct Written<'v, 'p, 's, 'h, W, E> {
     pub(crate) streams: &'s mut Streams<W, E>,
     /// What each line, or the members of each object, begin with.
     pub(crate) head: &'h str,
-    /// Whether a node was written before in the same array.
+    /// Whether a node of an earlier path was written in the same array.
     pub(crate) is_later: bool,
     pub(crate) limit: Option<u64>,
     /// How many nodes were written.
@@ -38,14 +38,12 @@ impl<W: Write, E: Write> Written<'_, '_, '_, '_, W, E> {
     #[inline(always)]
     fn push_pending(&mut self, node: &LocatedNode<'_>) -> Result<(), AllocError>
         ensures kept { OnlyPends self.old self.new }
-        ensures line { OnOk result (PendsLine (located node.now) self.old self.new) }
+        ensures node { OnOk result (PendsNode (located node.now) self.old self.new) }
     {
+        let is_later = self.is_later || self.count > 0;
         let text = &mut self.streams.pending;
         if self.showing.output.form == Form::Json {
-            self.showing
-                .push_object(text, self.head, self.is_later, node)?;
-            self.is_later = true;
-            return Ok(());
+            return self.showing.push_object(text, self.head, is_later, node);
         }
         self.showing.push_line(text, self.head, node)
     }

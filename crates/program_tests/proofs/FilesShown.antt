@@ -19,14 +19,14 @@ use Rattle.serde_json_path.specs.declared.path.JsonPath.{JsonPath}
 use Rattle.jpq_options.specs.Options.{AsksFor}
 use Rattle.jpq_options.specs.declared.options.Options.{Options}
 use Rattle.jpq_options.specs.declared.options.Request.{Request}
-use Rattle.jpq_program.specs.Answers.{AreAnswersOn, IsAnswerOn}
-use Rattle.jpq_program.specs.Heads.{head_text}
+use Rattle.jpq_program.specs.Answers.{AreAnswersOn, IsAnswerOn, IsArrayOf}
+use Rattle.jpq_program.specs.Heads.{head_in, head_text}
 use Rattle.jpq_options.specs.Options.{is_table}
-use Rattle.jpq_program.specs.Looks.{Look}
+use Rattle.jpq_program.specs.Looks.{Look, is_array}
 use Rattle.jpq_program.specs.Rows.{IsRowOn, first_cells}
 use Rattle.jpq_program.specs.declared.colours.Colours.{Colours}
 use Rattle.jpq_program.specs.Inputs.{AreInputsShown, AreKnown, IsInputShown, IsLineShown, IsNamedShown, Opens, Shown}
-use Rattle.jpq_program.specs.Run.{ArePaths, ComesOf, IsPathOf, IsPlainRun, IsShownFor, form_in, known_bytes, path_texts, texts_in_file, has_names, has_numbers, is_colored, is_each, look_in, names_in, opened_in, rule_in}
+use Rattle.jpq_program.specs.Run.{ArePaths, ComesOf, IsPathOf, IsPlainRun, IsShownFor, form_in, known_bytes, path_texts, texts_in_file, has_line_numbers, has_names, has_numbers, is_colored, is_each, look_in, names_in, opened_in, rule_in}
 use Rattle.jpq_program.specs.declared.streams.Streams.{Streams}
 use Rattle.std.specs.Io.KnownBytes.{Appends}
 use Rattle.program_tests.proofs.AskedWords.{OptionsAre, asks_for_run, words}
@@ -89,22 +89,22 @@ pub record ArePathsTo (p q : JsonPath) : Type 0 where
 document_shown : (p q : JsonPath) (name : List ℕ) (line : ℕ) (bytes text : List ℕ) (any : Bool) (a b : ℕ) → ArePathsTo p q → read bytes ≡ Some (document a b) → ShowsBoth p q name line bytes text any
     → (text ≡ lines_for name a b) × (any ≡ true)
 document_shown p q name line bytes text any a b paths reads are =
-    two_each (λ (count : ℕ) (path : JsonPath). IsAnswerOn builtin_functions path plain (head_text true false true name line count) bytes) 1 p q
+    two_each (λ (count : ℕ) (later : Bool) (path : JsonPath). IsAnswerOn builtin_functions path plain later (head_text true false true name line count) bytes) 1 false p q
     (line_to (head_text true false true name line 1) to_a (number (unsigned a))) (line_to (head_text true false true name line 2) to_b (number (unsigned b))) text true true any
-    (λ t s is. answer_is to_a paths.rule builtin_functions p (head_text true false true name line 1) bytes t s (document a b) (number (unsigned a)) paths.normal_a paths.unique paths.first reads refl refl is)
-    (λ t s is. answer_is to_b paths.rule builtin_functions q (head_text true false true name line 2) bytes t s (document a b) (number (unsigned b)) paths.normal_b paths.unique paths.second reads refl refl is) are
+    (λ l t s is. answer_is to_a paths.rule builtin_functions p l (head_text true false true name line 1) bytes t s (document a b) (number (unsigned a)) paths.normal_a paths.unique paths.first reads refl refl is)
+    (λ l t s is. answer_is to_b paths.rule builtin_functions q l (head_text true false true name line 2) bytes t s (document a b) (number (unsigned b)) paths.normal_b paths.unique paths.second reads refl refl is) are
 
 one_shown : (p q : JsonPath) (text : List ℕ) (any : Bool) → ArePathsTo p q → IsInputShown (ShowsBoth p q) true (codes "one") one text any → (text ≡ lines_for (codes "one") 1 2 ++ lines_for (codes "one") 3 4) × (any ≡ true)
 one_shown p q text any paths are =
-    two_each (IsLineShown (ShowsBoth p q) (codes "one")) 1 (codes "{\"a\":1,\"b\":[2]}\n") (codes "{\"b\":[4],\"a\":3}") (lines_for (codes "one") 1 2) (lines_for (codes "one") 3 4) text true true any
-    (λ t s is. document_shown p q (codes "one") 1 (codes "{\"a\":1,\"b\":[2]}") t s 1 2 paths first_read is)
-    (λ t s is. document_shown p q (codes "one") 2 (codes "{\"b\":[4],\"a\":3}") t s 3 4 paths second_read is) are
+    two_each (λ (number : ℕ) (later : Bool) (line : List ℕ). IsLineShown (ShowsBoth p q) (codes "one") number line) 1 false (codes "{\"a\":1,\"b\":[2]}\n") (codes "{\"b\":[4],\"a\":3}") (lines_for (codes "one") 1 2) (lines_for (codes "one") 3 4) text true true any
+    (λ l t s is. document_shown p q (codes "one") 1 (codes "{\"a\":1,\"b\":[2]}") t s 1 2 paths first_read is)
+    (λ l t s is. document_shown p q (codes "one") 2 (codes "{\"b\":[4],\"a\":3}") t s 3 4 paths second_read is) are
 
 two_shown : (p q : JsonPath) (text : List ℕ) (any : Bool) → ArePathsTo p q → IsInputShown (ShowsBoth p q) true (codes "two") two text any → (text ≡ lines_for (codes "two") 5 6) × (any ≡ true)
 two_shown p q text any paths are =
-    two_each (IsLineShown (ShowsBoth p q) (codes "two")) 1 (codes "\n") (codes "{\"a\":5,\"b\":[6]}\n") [] (lines_for (codes "two") 5 6) text false true any
-    (λ t s is. is)
-    (λ t s is. document_shown p q (codes "two") 2 (codes "{\"a\":5,\"b\":[6]}") t s 5 6 paths third_read is) are
+    two_each (λ (number : ℕ) (later : Bool) (line : List ℕ). IsLineShown (ShowsBoth p q) (codes "two") number line) 1 false (codes "\n") (codes "{\"a\":5,\"b\":[6]}\n") [] (lines_for (codes "two") 5 6) text false true any
+    (λ l t s is. is)
+    (λ l t s is. document_shown p q (codes "two") 2 (codes "{\"a\":5,\"b\":[6]}") t s 5 6 paths third_read is) are
 
 -- what the run writes
 abbrev pub written : List ℕ
@@ -120,10 +120,10 @@ same_bytes xs ys same = cc
 files_shown : (p q : JsonPath) (known : List ℕ → Option (List ℕ)) (text : List ℕ) (any : Bool) → ArePathsTo p q → known (codes "one") ≡ Some one → known (codes "two") ≡ Some two
     → AreInputsShown (ShowsBoth p q) true known (codes "one" ∷ codes "two" ∷ []) text any → (text ≡ written) × (any ≡ true)
 files_shown p q known text any paths is_one is_two are =
-    let shown = two_each (λ (count : ℕ) (name : List ℕ). IsNamedShown (ShowsBoth p q) true known name) 1 (codes "one") (codes "two")
+    let shown = two_each (λ (count : ℕ) (later : Bool) (name : List ℕ). IsNamedShown (ShowsBoth p q) true known name) 1 false (codes "one") (codes "two")
     (lines_for (codes "one") 1 2 ++ lines_for (codes "one") 3 4) (lines_for (codes "two") 5 6) text true true any
-    (λ t s named. one_shown p q t s paths (subst (λ (bytes : List ℕ). IsInputShown (ShowsBoth p q) true (codes "one") bytes t s) (same_bytes named.0 one (sym named.1 ∙ is_one)) named.2))
-    (λ t s named. two_shown p q t s paths (subst (λ (bytes : List ℕ). IsInputShown (ShowsBoth p q) true (codes "two") bytes t s) (same_bytes named.0 two (sym named.1 ∙ is_two)) named.2)) are in
+    (λ l t s named. one_shown p q t s paths (subst (λ (bytes : List ℕ). IsInputShown (ShowsBoth p q) true (codes "one") bytes t s) (same_bytes named.0 one (sym named.1 ∙ is_one)) named.2))
+    (λ l t s named. two_shown p q t s paths (subst (λ (bytes : List ℕ). IsInputShown (ShowsBoth p q) true (codes "two") bytes t s) (same_bytes named.0 two (sym named.1 ∙ is_two)) named.2)) are in
     (shown.0 ∙ these_lines, shown.1)
 
 -- ---- by the options of the run
@@ -162,6 +162,9 @@ look_is o are = λ i. record {
 has_names_is : (o : Options) → OptionsAre o → has_names o ≡ true
 has_names_is o are = λ i. are.with_filename i || (nat_lt 1 (two_named o are i) && (not (are.no_filename i) && not (is_table (are.shown i))))
 
+has_line_numbers_is : (o : Options) → OptionsAre o → has_line_numbers o ≡ false
+has_line_numbers_is o are = λ i. are.line_number i || (is_array (form_in (are.shown i)) && are.lines i)
+
 has_numbers_is : (o : Options) → OptionsAre o → has_numbers o 2 ≡ true
 has_numbers_is o are = λ i. nat_lt 1 2 && (not (are.no_path_number i) && not (is_table (are.shown i)))
 
@@ -171,15 +174,17 @@ pub run_shown : (o : Options) (taken : Bool) (p q : JsonPath) (known : List ℕ 
 run_shown o taken p q known text any none are paths is_one is_two shown = files_shown p q known text any paths is_one is_two
     (subst (λ (names : List (List ℕ)). AreInputsShown (ShowsBoth p q) true known names text any) (names_are o are)
     (subst (λ (lines : Bool). AreInputsShown (ShowsBoth p q) lines known (names_in o) text any) are.lines
-    (subst (λ (numbers : Bool). AreInputsShown (Shows plain true false numbers (p ∷ q ∷ [])) o.lines known (names_in o) text any) (has_numbers_is o are)
-    (subst (λ (lines : Bool). AreInputsShown (Shows plain true lines (has_numbers o 2) (p ∷ q ∷ [])) o.lines known (names_in o) text any) are.line_number
-    (subst (λ (names : Bool). AreInputsShown (Shows plain names o.line_number (has_numbers o 2) (p ∷ q ∷ [])) o.lines known (names_in o) text any) (has_names_is o are)
-    (subst (λ (look : Look). AreInputsShown (Shows look (has_names o) o.line_number (has_numbers o 2) (p ∷ q ∷ [])) o.lines known (names_in o) text any) (ap (look_in o) none ∙ look_is o are)
-    (subst (λ (table : Bool). AreInputsShown (by_table table) o.lines known (names_in o) text any) (ap is_table are.shown) shown)))))))
+    (subst (λ (Is : Shown). AreInputsShown Is o.lines known (names_in o) text any) shows shown)))
   where
-    by_table : Bool → Shown
-    by_table table name line bytes text any = MatchBool table (IsRowOn builtin_functions (p ∷ q ∷ []) o.end (first_cells (has_names o) o.line_number name line) bytes text any)
-        (Shows (look_in o taken) (has_names o) o.line_number (has_numbers o 2) (p ∷ q ∷ []) name line bytes text any)
+    look : look_in o taken ≡ plain
+    look = ap (look_in o) none ∙ look_is o are
+
+    shows : IsShownFor o taken (p ∷ q ∷ []) ≡ ShowsBoth p q
+    shows = λ i name line bytes text any.
+        let head = head_in (is_array (form_in (are.shown i))) (are.layout i) (has_names_is o are i) (has_line_numbers_is o are i) (has_numbers_is o are i) name line in
+        let each = AreAnswersOn builtin_functions (p ∷ q ∷ []) (look i) head bytes in
+        MatchBool (is_table (are.shown i)) (IsRowOn builtin_functions (p ∷ q ∷ []) (are.end i) (first_cells (has_names_is o are i) (has_line_numbers_is o are i) name line) bytes text any)
+        (MatchBool (is_array (form_in (are.shown i))) (IsArrayOf (look i).output each text any) (each text any))
 
 -- two texts were read as two paths
 pub two_paths : (rule : Numbers) (texts : List (List ℕ)) (paths : List JsonPath) (a b : List ℕ) → texts ≡ a ∷ b ∷ [] → ArePaths rule texts paths → (p q : JsonPath) × (paths ≡ p ∷ q ∷ []) × IsPathOf rule a p × IsPathOf rule b q

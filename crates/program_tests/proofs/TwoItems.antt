@@ -16,7 +16,7 @@ use Rattle.serde_json_path.specs.declared.path.JsonPath.{JsonPath}
 use Rattle.jsonpath_lines.specs.Output.{compact_lines}
 use Rattle.jsonpath_lines.specs.declared.forms.Form.TheVariants.{LocationAndValue}
 use Rattle.jpq_program.specs.Answers.{AreEach, IsAnswerOn}
-use Rattle.jpq_program.specs.Looks.{IsLookOfEach, Look}
+use Rattle.jpq_program.specs.Looks.{ArePieces, Look}
 use Rattle.jpq_program.specs.Run.{IsPathOf}
 use Rattle.jsonpath_lines.proofs.Words.{append-nil}
 
@@ -29,15 +29,15 @@ or_false true = refl
 or_false false = refl
 
 -- what is shown of two items, where it is known of each
-pub two_each : {A : Type 0} (Is : ℕ → A → List ℕ → Bool → Type 0) (number : ℕ) (one other : A) (first second text : List ℕ) (is also any : Bool)
-    → ((t : List ℕ) (b : Bool) → Is number one t b → (t ≡ first) × (b ≡ is)) → ((t : List ℕ) (b : Bool) → Is (number + 1) other t b → (t ≡ second) × (b ≡ also))
-    → AreEach Is number (one ∷ other ∷ []) text any → (text ≡ first ++ second) × (any ≡ (is || also))
-two_each Is number one other first second text is also any front back are =
-    let here = front are.0 are.2 are.4 in
-    let later = are.5 in
-    let there = back later.0 later.2 later.4 in (
-      are.6 ∙ ap (λ t. t ++ are.1) here.0 ∙ ap (λ t. first ++ t) (later.6 ∙ ap (λ t. t ++ later.1) there.0 ∙ ap (λ t. second ++ t) later.5.0 ∙ append-nil second),
-      are.7 ∙ ap (λ b. b || are.3) here.1 ∙ ap (λ b. is || b) (later.7 ∙ ap (λ b. b || later.3) there.1 ∙ ap (λ b. also || b) later.5.1 ∙ sym (or_false also)),
+pub two_each : {A : Type 0} (Is : ℕ → Bool → A → List ℕ → Bool → Type 0) (number : ℕ) (later : Bool) (one other : A) (first second text : List ℕ) (is also any : Bool)
+    → ((l : Bool) (t : List ℕ) (b : Bool) → Is number l one t b → (t ≡ first) × (b ≡ is)) → ((l : Bool) (t : List ℕ) (b : Bool) → Is (number + 1) l other t b → (t ≡ second) × (b ≡ also))
+    → AreEach Is number later (one ∷ other ∷ []) text any → (text ≡ first ++ second) × (any ≡ (is || also))
+two_each Is number later one other first second text is also any front back are =
+    let here = front later are.0 are.2 are.4 in
+    let rest = are.5 in
+    let there = back (later || are.2) rest.0 rest.2 rest.4 in (
+      are.6 ∙ ap (λ t. t ++ are.1) here.0 ∙ ap (λ t. first ++ t) (rest.6 ∙ ap (λ t. t ++ rest.1) there.0 ∙ ap (λ t. second ++ t) rest.5.0 ∙ append-nil second),
+      are.7 ∙ ap (λ b. b || are.3) here.1 ∙ ap (λ b. is || b) (rest.7 ∙ ap (λ b. b || rest.3) there.1 ∙ ap (λ b. also || b) rest.5.1 ∙ sym (or_false also)),
     )
 
 -- lines with location and value, as they are made
@@ -52,9 +52,9 @@ same_document : (d e : Data) → Some d ≡ Some e → d ≡ e
 same_document d e same = cc
 
 -- what is shown of a document by the normalised path of a node without doubles
-pub answer_is : (location : List Step) (rule : Numbers) (F : FunctionSet) (path : JsonPath) (head bytes text : List ℕ) (any : Bool) (d v : Data) → IsNormal location → ResultIsUnique → IsPathOf rule (normal location) path
-    → read bytes ≡ Some d → at d location ≡ Some v → has_float v ≡ false → IsAnswerOn F path plain head bytes text any → (text ≡ line_to head location v) × (any ≡ true)
-answer_is location rule F path head bytes text any d v law unique parsed reads there whole shown =
+pub answer_is : (location : List Step) (rule : Numbers) (F : FunctionSet) (path : JsonPath) (later : Bool) (head bytes text : List ℕ) (any : Bool) (d v : Data) → IsNormal location → ResultIsUnique → IsPathOf rule (normal location) path
+    → read bytes ≡ Some d → at d location ≡ Some v → has_float v ≡ false → IsAnswerOn F path plain later head bytes text any → (text ≡ line_to head location v) × (any ≡ true)
+answer_is location rule F path later head bytes text any d v law unique parsed reads there whole shown =
     let is = shown.2 in
     let tree : tree_to location ≡ path_tree path = parsed.only (tree_to location) (law.accepted rule builtin_functions.signature) in
     let same : shown.0 ≡ d = same_document shown.0 d (sym shown.1.1 ∙ reads) in
@@ -62,12 +62,12 @@ answer_is location rule F path head bytes text any d v law unique parsed reads t
     let result : IsResult (with_rule_of path F) d (path_tree path) d (node ∷ []) = subst (λ q. IsResult (with_rule_of path F) d q d (node ∷ [])) tree (law.selects (with_rule_of path F) d v there) in
     let found : IsResult (with_rule_of path F) d (path_tree path) d is.0 = subst (λ own. IsResult (with_rule_of path F) own (path_tree path) own is.0) same is.1 in
     let only : is.0 ≡ node ∷ [] = unique (with_rule_of path F) d (path_tree path) d is.0 (node ∷ []) found result in
-    let line : IsLookOfEach plain head (node ∷ []) text = subst (λ ns. IsLookOfEach plain head ns text) only is.2 in (
+    let line : ArePieces plain later head (node ∷ []) text = subst (λ ns. ArePieces plain later head ns text) only is.2 in (
       line_is node text whole line,
       is.3 ∙ ap (λ (ns : List Located). nat_lt 0 (length ns)) only,
     )
   where
-    line_is : (node : Located) (text : List ℕ) → has_float node.value ≡ false → IsLookOfEach plain head (node ∷ []) text → text ≡ line_to head node.location node.value
+    line_is : (node : Located) (text : List ℕ) → has_float node.value ≡ false → ArePieces plain later head (node ∷ []) text → text ≡ line_to head node.location node.value
     line_is node text whole h =
         let own = h.2 in
         h.4 ∙ ap (λ rest. h.0 ++ rest) h.3 ∙ append-nil h.0 ∙ own.4 ∙ ap (λ seen. head ++ seen) (own.3 ∙ own.2.2)

@@ -1,6 +1,6 @@
 use Rattle.jpq_program.proofs.Words.{◌∙◌, IfOk-weaker, Output, look_with, IfSome, List, Query, AskedPath, ap, map, refl, string_bytes, subst, Keeps, Streams, shows_places}
 use Rattle.serde_json_path_reach.specs.Alike.{trees_of}
-use Rattle.jpq_program.proofs.Asked.{begun_for, by_path_of, nothing_for, plain_documents, sent_for, usual_of}
+use Rattle.jpq_program.proofs.Asked.{begun_for, nothing_for, plain_documents, sent_for, usual_of}
 use Rattle.jpq_program.proofs.run.answer_paths.Goals as goal
 
 pub returns-clause-answered : goal.returns-clause-answered
@@ -11,7 +11,7 @@ returns-clause-answered g c = IfOk-weaker c.answer_documents.result _ _ (λ next
     let usual = usual_of c.args.options.now c.args.colours run in
     let look = ap (λ (o : Output). look_with o c.in_ok-dress.dress) c.output_of-output.ensures ∙ c.in_ok-dress.ensures.look in
     sent_for g.W.Write.contents c.args.options.now c.args.colours.taken next c.args.paths.now (look_with c.output_of-output.result c.in_ok-dress.dress) c.heads_of.result (g.I.Inputs.bytes_of c.args.inputs.now) c.args.streams.now _ c.answer_documents.new.streams
-    look (c.heads_of.ensures (by_path_of c.args.options.now c.args.colours run)) (ap (λ (s : Streams g.row.W.Denot g.row.E.Denot). s.out) told) (ap (λ (s : Streams g.row.W.Denot g.row.E.Denot). s.pending) told)
+    look c.heads_of.ensures (ap (λ (s : Streams g.row.W.Denot g.row.E.Denot). s.out) told) (ap (λ (s : Streams g.row.W.Denot g.row.E.Denot). s.pending) told)
     (ap (λ (s : Streams g.row.W.Denot g.row.E.Denot). s.outcome) told) (λ silent. ap (λ (s : Streams g.row.W.Denot g.row.E.Denot). s.err) (c.dress_of.ensures.quiet silent)) (answered plain usual.header usual.total usual.most_of_all (ap (λ (s : Streams g.row.W.Denot g.row.E.Denot). string_bytes s.pending) told ∙ empty) known)) c.answer_documents.ensures.answered
 
 pub returns-clause-begun : goal.returns-clause-begun
@@ -22,7 +22,7 @@ returns-clause-begun g c = λ run empty known.
     let usual = usual_of c.args.options.now c.args.colours run in
     let look = ap (λ (o : Output). look_with o c.in_ok-dress.dress) c.output_of-output.ensures ∙ c.in_ok-dress.ensures.look in
     begun_for g.W.Write.contents c.args.options.now c.args.colours.taken c.args.paths.now (look_with c.output_of-output.result c.in_ok-dress.dress) c.heads_of.result (g.I.Inputs.bytes_of c.args.inputs.now) c.args.streams.now (record c.dress_of.new.streams { left = c.args.options.now.most_of_all }) c.answer_documents.new.streams
-    look (c.heads_of.ensures (by_path_of c.args.options.now c.args.colours run)) (ap (λ (s : Streams g.row.W.Denot g.row.E.Denot). s.out) told) (ap (λ (s : Streams g.row.W.Denot g.row.E.Denot). s.pending) told)
+    look c.heads_of.ensures (ap (λ (s : Streams g.row.W.Denot g.row.E.Denot). s.out) told) (ap (λ (s : Streams g.row.W.Denot g.row.E.Denot). s.pending) told)
     (c.answer_documents.ensures.begun plain usual.header usual.total usual.most_of_all (ap (λ (s : Streams g.row.W.Denot g.row.E.Denot). string_bytes s.pending) told ∙ empty) known)
 
 pub returns-in_err-trees-clause-begun : goal.returns-in_err-trees-clause-begun

@@ -1,8 +1,9 @@
 use Rattle.jpq_program.specs.declared.rows.Separator.TheVariants.{Tab}
-use Rattle.jpq_program.proofs.Words.{◌≡◌, Some, has_counts, is_table, is_tsv, ◌∙◌, IfOk-weaker, false, rules, sym, true, view, shown_in_part_by}
-use Rattle.jpq_program.proofs.Cells.{as_each, as_row, begun_as_each, has_tabs, looked_at, no_table}
+use Rattle.jpq_program.proofs.Words.{◌≡◌, Some, has_counts, is_array, is_table, is_tsv, ◌∙◌, IfOk-weaker, false, rules, sym, true, view, shown_in_part_by}
+use Rattle.jpq_program.proofs.Cells.{as_all, as_row, begun_as_all, has_tabs, looked_at, no_table}
+use Rattle.jpq_program.proofs.Arrays.{each_as_all, each_begun_as_all}
 use Rattle.jpq_program.proofs.Sending.{no_answer}
-use Rattle.jpq_program.proofs.Shown.{nothing_begun, plain_counts, plain_lines}
+use Rattle.jpq_program.proofs.Shown.{nothing_begun, plain_counts, plain_nodes}
 use Rattle.jpq_program.proofs.answering.Answering.make_answer.Goals as goal
 
 some_same : {A : Type 0} {x y : A} → Some x ≡ Some y → x ≡ y
@@ -24,18 +25,37 @@ returns-in-None-Count g c =
     let counts : has_counts c.args.self.now.showing.output.form ≡ true = search rules in record {
       answered = IfOk-weaker c.answer_counts.result _ _ (λ _ answered are plain left.
           let each = no_table c.args.self.now.shown _ plain table in
-          as_each g.W.Write.contents c.args.self.now c.args.document.source.name.now c.args.document.source.line c.args.document.bytes.now c.args.streams.now c.answer_counts.new.streams table
-          (answered (looked_at c.args.self.now c.args.document.bytes.now (view c.args.document.value.now) false table are) counts (plain_counts c.args.self.now.showing c.args.self.now.total each counts) left)) c.answer_counts.ensures.answered;
+          as_all g.W.Write.contents c.args.self.now c.args.document.source.name.now c.args.document.source.line c.args.document.bytes.now c.args.streams.now c.answer_counts.new.streams table
+          (each_as_all g.W.Write.contents c.args.self.now c.args.document.source.name.now c.args.document.source.line c.args.document.bytes.now c.args.streams.now c.answer_counts.new.streams (search rules)
+          (answered (looked_at c.args.self.now c.args.document.bytes.now (view c.args.document.value.now) false table are) counts (plain_counts c.args.self.now.showing c.args.self.now.total each counts) left))) c.answer_counts.ensures.answered;
       begun = λ are plain left. nothing_begun g.W.Write.contents (shown_in_part_by c.args.self.now c.args.document.source.name.now c.args.document.source.line c.args.document.bytes.now) c.args.streams.now c.answer_counts.new.streams
           (no_answer c.args.self.now c.args.document.source.name.now c.args.document.source.line c.args.document.bytes.now) c.answer_counts.ensures.unwritten;
     }
 
-pub returns-in-None-default : goal.returns-in-None-default
-returns-in-None-default g c =
+pub returns-in-None-Json : goal.returns-in-None-Json
+returns-in-None-Json g c =
+    let table : is_table c.args.self.now.shown ≡ false = search rules in
+    let array : is_array c.args.self.now.showing.output.form ≡ true = search rules in record {
+      answered = IfOk-weaker c.answer_array.result _ _ (λ _ answered are plain left.
+          as_all g.W.Write.contents c.args.self.now c.args.document.source.name.now c.args.document.source.line c.args.document.bytes.now c.args.streams.now c.answer_array.new.streams table
+          (answered (looked_at c.args.self.now c.args.document.bytes.now (view c.args.document.value.now) false table are) (plain_nodes c.args.self.now.showing c.args.self.now.total (no_table c.args.self.now.shown _ plain table) (search rules)) array left)) c.answer_array.ensures.answered;
+      begun = λ are plain left. begun_as_all g.W.Write.contents c.args.self.now c.args.document.source.name.now c.args.document.source.line c.args.document.bytes.now c.args.streams.now c.answer_array.new.streams table
+          (c.answer_array.ensures.begun (looked_at c.args.self.now c.args.document.bytes.now (view c.args.document.value.now) false table are) (plain_nodes c.args.self.now.showing c.args.self.now.total (no_table c.args.self.now.shown _ plain table) (search rules)) array left);
+    }
+
+pub returns-in_ok-answer_each-in-None-default : goal.returns-in_ok-answer_each-in-None-default
+returns-in_ok-answer_each-in-None-default g c =
     let table : is_table c.args.self.now.shown ≡ false = search rules in record {
-      answered = IfOk-weaker c.answer_lines.result _ _ (λ _ answered are plain left.
-          as_each g.W.Write.contents c.args.self.now c.args.document.source.name.now c.args.document.source.line c.args.document.bytes.now c.args.streams.now c.answer_lines.new.streams table
-          (answered (looked_at c.args.self.now c.args.document.bytes.now (view c.args.document.value.now) false table are) (plain_lines c.args.self.now.showing c.args.self.now.total (no_table c.args.self.now.shown _ plain table) (search rules)) left)) c.answer_lines.ensures.answered;
-      begun = λ are plain left. begun_as_each g.W.Write.contents c.args.self.now c.args.document.source.name.now c.args.document.source.line c.args.document.bytes.now c.args.streams.now c.answer_lines.new.streams table
-          (c.answer_lines.ensures.begun (looked_at c.args.self.now c.args.document.bytes.now (view c.args.document.value.now) false table are) (plain_lines c.args.self.now.showing c.args.self.now.total (no_table c.args.self.now.shown _ plain table) (search rules)) left);
+      answered = λ are plain left. as_all g.W.Write.contents c.args.self.now c.args.document.source.name.now c.args.document.source.line c.args.document.bytes.now c.args.streams.now c.answer_each.new.streams table
+          (each_as_all g.W.Write.contents c.args.self.now c.args.document.source.name.now c.args.document.source.line c.args.document.bytes.now c.args.streams.now c.answer_each.new.streams (search rules) (c.in_ok-answer_each-in-None-default.ensures.answered (looked_at c.args.self.now c.args.document.bytes.now (view c.args.document.value.now) false table are) (plain_nodes c.args.self.now.showing c.args.self.now.total (no_table c.args.self.now.shown _ plain table) (search rules)) left).0);
+      begun = λ are plain left. begun_as_all g.W.Write.contents c.args.self.now c.args.document.source.name.now c.args.document.source.line c.args.document.bytes.now c.args.streams.now c.answer_each.new.streams table
+          (each_begun_as_all g.W.Write.contents c.args.self.now c.args.document.source.name.now c.args.document.source.line c.args.document.bytes.now c.args.streams.now c.answer_each.new.streams (search rules) (c.answer_each.ensures.begun (looked_at c.args.self.now c.args.document.bytes.now (view c.args.document.value.now) false table are) (plain_nodes c.args.self.now.showing c.args.self.now.total (no_table c.args.self.now.shown _ plain table) (search rules)) left));
+    }
+
+pub returns-in_err-answer_each-in-None-default : goal.returns-in_err-answer_each-in-None-default
+returns-in_err-answer_each-in-None-default g c =
+    let table : is_table c.args.self.now.shown ≡ false = search rules in record {
+      answered = search rules;
+      begun = λ are plain left. begun_as_all g.W.Write.contents c.args.self.now c.args.document.source.name.now c.args.document.source.line c.args.document.bytes.now c.args.streams.now c.answer_each.new.streams table
+          (each_begun_as_all g.W.Write.contents c.args.self.now c.args.document.source.name.now c.args.document.source.line c.args.document.bytes.now c.args.streams.now c.answer_each.new.streams (search rules) (c.answer_each.ensures.begun (looked_at c.args.self.now c.args.document.bytes.now (view c.args.document.value.now) false table are) (plain_nodes c.args.self.now.showing c.args.self.now.total (no_table c.args.self.now.shown _ plain table) (search rules)) left));
     }

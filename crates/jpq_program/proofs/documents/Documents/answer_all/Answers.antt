@@ -1,4 +1,4 @@
-use Rattle.jpq_program.proofs.Words.{◌∙◌, ◌+◌, ℕ, Bor, List, refl, IsNamedShown, shown_by, shown_in_part_by, More}
+use Rattle.jpq_program.proofs.Words.{◌∙◌, Bool, false, ◌+◌, ℕ, Bor, List, refl, IsNamedShown, shown_by, shown_in_part_by, More}
 use Rattle.jpq_program.proofs.Opened.{opens_all, opens_further, opens_none, opens_some}
 use Rattle.jpq_program.proofs.Sending.{goes_on, input_begun, input_sent, input_until, no_answer}
 use Rattle.jpq_program.proofs.Shown.{all_answered, answered_begun, none_answered}
@@ -10,8 +10,8 @@ loop-name-init g c =
       λ name. refl,
       opens_none (g.I.Inputs.opened c.args.inputs.now),
       λ plain left empty known. (
-        none_answered g.W.Write.contents (λ (number : ℕ) (name : List ℕ). IsNamedShown (shown_by c.args.self.now.answering) c.args.self.now.lines bytes_of name)
-            (λ (number : ℕ) (name : List ℕ). IsNamedShown (shown_in_part_by c.args.self.now.answering) c.args.self.now.lines bytes_of name) 1 c.args.streams.now left,
+        (none_answered g.W.Write.contents (λ (number : ℕ) (later : Bool) (name : List ℕ). IsNamedShown (shown_by c.args.self.now.answering) c.args.self.now.lines bytes_of name)
+            (λ (number : ℕ) (later : Bool) (name : List ℕ). IsNamedShown (shown_in_part_by c.args.self.now.answering) c.args.self.now.lines bytes_of name) 1 false c.args.streams.now left).0,
         empty,
       ),
     )
@@ -39,9 +39,9 @@ returns-clause-answered g c = λ plain left empty known.
     let bytes_of = g.I.Inputs.bytes_of c.args.inputs.now in
     let sent = c.loop-name.invariant.2 plain left empty known in
     goes_on g.W.Write.contents c.args.self.now.answering.showing.output.form _ _ More c.args.streams.now c.loop-name.streams refl (
-      all_answered g.W.Write.contents (λ (number : ℕ) (name : List ℕ). IsNamedShown (shown_by c.args.self.now.answering) c.args.self.now.lines bytes_of name)
-          (λ (number : ℕ) (name : List ℕ). IsNamedShown (shown_in_part_by c.args.self.now.answering) c.args.self.now.lines bytes_of name) (λ (name : Bor (List ℕ)). name.now)
-          c.args.names.now c.loop-name.name-index c.args.streams.now c.loop-name.streams c.loop-name-test.false sent.0,
+      (all_answered g.W.Write.contents (λ (number : ℕ) (later : Bool) (name : List ℕ). IsNamedShown (shown_by c.args.self.now.answering) c.args.self.now.lines bytes_of name)
+          (λ (number : ℕ) (later : Bool) (name : List ℕ). IsNamedShown (shown_in_part_by c.args.self.now.answering) c.args.self.now.lines bytes_of name) (λ (name : Bor (List ℕ)). name.now)
+          c.args.names.now c.loop-name.name-index c.args.streams.now c.loop-name.streams c.loop-name-test.false sent.0).0,
       sent.1,
     )
 
