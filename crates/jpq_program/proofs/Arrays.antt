@@ -1,5 +1,5 @@
 -- What is shown of a document in one array, or for each path.
-use Rattle.jpq_program.proofs.Words.{◌≡◌, ◌∙◌, ◌++◌, ◌||◌, ℕ, Bool, true, false, List, [], Option, Outcome, String, Global, refl, sym, ap, subst, inr, append-nil, append_assoc, codes, string_bytes, Adds, Answered, Answering, AnswersAll, AnswersEach, AppendsBeginning, Begins, IsArrayInPart, IsArrayOf, MatchBool, Output, Streams, Writes, all_by, all_in_part_by, array_end, array_text, each_by, each_in_part_by, end_text, is_array}
+use Rattle.jpq_program.proofs.Words.{◌≡◌, ◌∙◌, ◌++◌, ◌||◌, ℕ, Bool, true, false, List, [], Option, refl, sym, ap, subst, inr, append_assoc, codes, string_bytes, Adds, Answered, Answering, AnswersAll, AnswersEach, AppendsBeginning, Begins, IsArrayInPart, IsArrayOf, MatchBool, Output, Streams, Writes, all_in_part_by, array_end, array_text, each_by, each_in_part_by, end_text, is_array}
 use Rattle.jpq_program.proofs.Nodes.{adds_both, appends_nothing}
 
 -- ---- what is shown for each path

@@ -1,5 +1,5 @@
 -- Runs that show nothing, and answer whether there is a node.
-use Rattle.jpq_program.proofs.Words.{◌≡◌, ◌∙◌, ◌≤◌, ◌⊎◌, ◌++◌, ◌∷◌, ℕ, Bool, true, false, List, [], Option, Result, Ok, Err, inl, inr, refl, sym, ap, subst, arith, common_steps, nat_tests, true≢false, Appends, AppendsBeginning, AnswersRun, AreAnswersInPart, AreEach, AreInputsShown, Ends, Form, FunctionSet, IsAnsweredInPart, IsAnswerInPart, IsFound, IsInputShown, IsLineShown, IsNamedShown, IsQuietRun, IsShownInPartFor, JsonPath, MatchBool, More, Next, Nodes, Nothing, Options, Outcome, Output, Shown, Stop, Streams, AreLines, AreLinesIn, ArePieces, IsArrayOf, IsRowInPart, IsShownInPart, OptionShown, cells_for, head_for, is_array, is_table, output_in, ◌||◌, Located, Look, look_in, has_nodes, is_blank, lines_of, names_in, status_after, status_of, strip_last, without_mark, ◌+◌, IsShownFor, form_in, builtin_functions, chosen, length}
+use Rattle.jpq_program.proofs.Words.{◌≡◌, ◌∙◌, ◌≤◌, ◌⊎◌, ◌++◌, ◌∷◌, ℕ, Bool, true, false, List, [], Option, Result, Ok, Err, inl, inr, refl, sym, ap, subst, arith, common_steps, nat_tests, true≢false, Appends, AppendsBeginning, AnswersRun, AreAnswersInPart, AreEach, AreInputsShown, Ends, Form, FunctionSet, IsAnsweredInPart, IsAnswerInPart, IsFound, IsInputShown, IsLineShown, IsNamedShown, IsQuietRun, IsShownInPartFor, JsonPath, MatchBool, More, Next, Nothing, Options, Outcome, Output, Shown, Stop, Streams, AreLines, AreLinesIn, ArePieces, IsArrayOf, IsRowInPart, IsShownInPart, OptionShown, cells_for, head_for, is_array, is_table, output_in, ◌||◌, Located, Look, look_in, has_nodes, is_blank, lines_of, names_in, status_after, strip_last, without_mark, ◌+◌, IsShownFor, form_in, builtin_functions, chosen, length}
 use Rattle.jpq_program.proofs.Nodes.{appends_nothing}
 
 -- ---- what is shown has no text

@@ -1,5 +1,5 @@
 -- What is sent of inputs, one after the other.
-use Rattle.jpq_program.proofs.Words.{◌≡◌, ◌∙◌, ◌+◌, ◌==◌, ◌<◌, ℕ, Bool, true, false, List, [], ◌∷◌, ◌++◌, None, Option, length, length-append, refl, sym, ap, subst, append-nil, append_assoc, arith, string_bytes, Answering, AreAnswersInPart, AskedPath, IsAnswerInPart, Look, look_of, LineEnd, IsArrayInPart, IsRowInPart, IsShownInPart, first_cells, ◌||◌, is_table, paths_in, JsonPath, builtin_functions, head_by, inl, all_in_part_by, shown_in_part_by, AreEach, AreInputsShown, AreKnown, Answered, Begins, Bor, IsInputShown, IsNamedShown, More, Next, get_or, get_or-map, length-map, map, suc, take, zero, IsLineShown, OnlyNotes, OnlyRefuses, Sends, Shown, Streams, drop_through, Global, IfSome, Some, MatchBool, if◌then◌else◌, is_array, is_blank, lines_of, strip_last, take_through, with_byte, without_mark, Form, IfMore, SendsUntil, Ends, drop}
+use Rattle.jpq_program.proofs.Words.{◌≡◌, ◌∙◌, ◌+◌, ◌==◌, ◌<◌, ℕ, Bool, true, false, List, [], ◌∷◌, ◌++◌, None, Option, length, length-append, refl, sym, ap, subst, append-nil, append_assoc, arith, string_bytes, Answering, AreAnswersInPart, IsAnswerInPart, Look, look_of, LineEnd, IsArrayInPart, IsRowInPart, IsShownInPart, first_cells, ◌||◌, is_table, paths_in, JsonPath, builtin_functions, head_by, inl, all_in_part_by, shown_in_part_by, AreEach, AreInputsShown, AreKnown, Answered, Begins, Bor, IsInputShown, IsNamedShown, More, Next, get_or, get_or-map, length-map, map, suc, take, zero, IsLineShown, OnlyNotes, OnlyRefuses, Sends, Shown, Streams, drop_through, Global, IfSome, Some, MatchBool, if◌then◌else◌, is_array, is_blank, lines_of, strip_last, take_through, with_byte, without_mark, Form, IfMore, SendsUntil, Ends, drop}
 use Rattle.std.specs.Io.Buffered.{reader_buffer, reader_capacity, reader_inner, reader_remaining}
 use Rattle.std.specs.Io.KnownBytes.{prepend_known}
 use Rattle.std.specs.declared.io.buffered.BufReader.{BufReader}

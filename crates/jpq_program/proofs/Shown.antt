@@ -1,5 +1,5 @@
 -- What was written of a document is what its paths show.
-use Rattle.jpq_program.proofs.Words.{◌≡◌, ◌∙◌, ◌&&◌, ◌||◌, ℕ, Bool, true, false, List, Option, None, length, nat_lt, refl, sym, ap, subst, inl, inr, arith, common_steps, nat_tests, string_bytes, Located, Data, JsonPath, Selects, builtin_functions, path_tree, with_rule_of, AreLines, AreShown, ArePieces, Look, Form, Count, Nothing, chosen, once, up_to, Adds, Answered, FilledNodes, KeepsRest, IsAnswer, IsAnswerInPart, IsAnswerOn, IsAsked, Answering, AnswersPath, AppendsBeginning, is_plain_answer, is_table, not, AreSelected, Begins, BeginsFirst, IfSome, OnlyRefuses, Some, TookFirst, drop, map-append, take-append-drop, take-append-le, true≢false, IsCountIn, AreEach, Counts, OnlyNotes, OnlyWrites, Writes, IfErr, IfOk, Ok, Err, OnOk, Result, Outcome, ShowsAs, Showing, Streams, String, Global, Written, has_counts, has_nodes, is_after, is_plain, shows_nodes, zero, look_of, with_most, MatchBool, [], ◌∷◌, ◌++◌, ◌+◌, suc, append-nil, append_assoc, get_or, length-map, length-take-le, map, take, take_all, ◌<◌, ◌≤◌, IfMore, More, Next}
+use Rattle.jpq_program.proofs.Words.{◌≡◌, ◌∙◌, ◌&&◌, ◌||◌, ℕ, Bool, true, false, List, Option, None, length, nat_lt, refl, sym, ap, subst, inl, inr, arith, common_steps, nat_tests, string_bytes, Located, Data, JsonPath, Selects, builtin_functions, path_tree, with_rule_of, AreLines, AreShown, ArePieces, Look, Form, Count, Nothing, chosen, once, up_to, Adds, Answered, FilledNodes, KeepsRest, IsAnswer, IsAnswerInPart, IsAnswerOn, IsAsked, AnswersPath, AppendsBeginning, not, AreSelected, Begins, BeginsFirst, IfSome, OnlyRefuses, Some, TookFirst, drop, map-append, take-append-drop, take-append-le, true≢false, IsCountIn, AreEach, Counts, OnlyNotes, OnlyWrites, Writes, IfErr, IfOk, Ok, Err, OnOk, Result, Outcome, ShowsAs, Showing, Streams, String, Global, Written, has_counts, has_nodes, is_after, is_plain, shows_nodes, zero, look_of, with_most, MatchBool, [], ◌∷◌, ◌++◌, ◌+◌, suc, append-nil, append_assoc, get_or, length-map, length-take-le, map, take, take_all, ◌<◌, ◌≤◌, IfMore, More, Next}
 use Rattle.jpq_program.proofs.Nodes.{adds_begun, adds_both, adds_nothing, appends_nothing, begun_after, further_mapped, none_begun, split_mapped, took_few}
 
 -- nodes are shown each, and others by what their form shows

@@ -1,7 +1,6 @@
 //! What is written of a document.
 
 ghost use Rattle.std.specs.Prelude.{◌≡◌, ◌||◌, Bool, List, None, IfErr, IfOk, OnOk, false, map, nat_lt, string_bytes, true};
-ghost use Rattle.serde_json_path_nodes.specs.Views.{located};
 ghost use Rattle.serde_json_path_functions.specs.Patterns.{builtin_functions};
 ghost use Rattle.serde_json.specs.Data.{Data};
 ghost use Rattle.serde_json_path_core.specs.Inside.Words.{view, Located, OnlyMemoryOrPattern, Selects};

@@ -2,7 +2,6 @@
 
 ghost use Rattle.std.specs.Char.{is_ascii_whitespace};
 ghost use Rattle.std.specs.Io.BufRead.{strip_last};
-ghost use Rattle.std.specs.List.{list_all};
 ghost use Rattle.std.specs.Prelude.{◌≡◌, ◌∷◌, ℕ, [], Bool, List, None, IfOk, IfSome, false, map, string_bytes, true};
 ghost use Rattle.serde_json.specs.View.{view};
 ghost use Rattle.serde_json_path_syntax.specs.Tree.{Query};

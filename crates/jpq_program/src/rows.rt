@@ -1,7 +1,6 @@
 //! Tables: a row for each document, with a cell for each path.
 
-ghost use Rattle.std.specs.List.{flat_map};
-ghost use Rattle.std.specs.Prelude.{◌≡◌, ◌++◌, ◌<◌, IfOk, OnOk, codes, length, map, string_bytes};
+ghost use Rattle.std.specs.Prelude.{◌≡◌, ◌++◌, ◌<◌, IfOk, OnOk, map, string_bytes};
 ghost use Rattle.std.specs.Str.{chars};
 ghost use Rattle.serde_json_path_nodes.specs.Views.{located};
 ghost use Rattle.jsonpath_lines.specs.Output.{IsText, end_text};

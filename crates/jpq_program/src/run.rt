@@ -135,7 +135,7 @@ fn spaces(alloc: Global, count: u64) -> Result<String, AllocError>
     ensures { IfOk result (λ text. string_bytes text ≡ replicate count 32) }
 {
     let mut text = String::new(alloc);
-    for done in 0..count {
+    for pushed in 0..count {
         text.push(' ')?;
     }
     Ok(text)

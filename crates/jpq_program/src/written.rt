@@ -1,7 +1,6 @@
 //! Nodes that are written as a walk gives them.
 
-ghost use Rattle.std.specs.Prelude.{◌≡◌, [], ◌∷◌, List, IfErr, IfOk, OnOk, map, string_bytes, true};
-ghost use Rattle.serde_json_path_nodes.specs.Location.{Located};
+ghost use Rattle.std.specs.Prelude.{◌≡◌, [], ◌∷◌, IfErr, IfOk, OnOk, map};
 ghost use Rattle.serde_json_path_nodes.specs.Views.{located};
 ghost use Rattle.serde_json_path_core.specs.Selects.{OnlyMemoryOrPattern};
 ghost use Rattle.serde_json_path_core.specs.Walks.{document_of, query_of, rest, set_of};

@@ -1,4 +1,4 @@
-use Rattle.jpq_program.proofs.Words.{◌≡◌, ◌∙◌, ◌++◌, List, ℕ, ap, rules, refl, sym, subst, IsUtf8-past_char, chars, chars-nil, chars_past_char, chars_rest, left_from, nil_from_length, string_bytes}
+use Rattle.jpq_program.proofs.Words.{◌∙◌, ◌++◌, List, ℕ, ap, rules, sym, IsUtf8-past_char, chars, chars_past_char, chars_rest, left_from, string_bytes}
 use Rattle.jpq_program.proofs.dress.indented_by.Goals as goal
 
 pub loop-c-init : goal.loop-c-init

@@ -1,4 +1,4 @@
-use Rattle.jpq_program.proofs.Words.{◌≡◌, ◌∙◌, ◌++◌, List, [], ℕ, ap, arith, codes, common_steps, if◌then◌else◌, map, nat_lt, nat_tests, row_text, string_bytes, take, take_all, cell_text, String, Global}
+use Rattle.jpq_program.proofs.Words.{◌≡◌, ◌∙◌, ◌++◌, List, [], ℕ, ap, arith, codes, common_steps, if◌then◌else◌, map, nat_lt, nat_tests, row_text, string_bytes, take_all, cell_text, String, Global}
 use Rattle.jpq_program.proofs.Cells.{row_further}
 use Rattle.jpq_program.proofs.rows.push_tabbed.Goals as goal
 use Rattle.jpq_program.proofs.rows.push_tabbed.Goals.{then-index-gt0+in_ok-push, else-index-gt0}

@@ -1,4 +1,4 @@
-use Rattle.jpq_program.proofs.Words.{◌≡◌, ◌∙◌, ◌++◌, Bool, List, ℕ, ap, codes, refl, sym, subst, array_end, each_by, each_in_part_by, all_in_part_by, encode_utf8, end_text, string_bytes, Streams}
+use Rattle.jpq_program.proofs.Words.{◌∙◌, ◌++◌, Bool, ap, refl, array_end, each_by, each_in_part_by, all_in_part_by, end_text, string_bytes}
 use Rattle.jpq_program.proofs.Arrays.{array_answered, array_as_all, array_begun, array_begun_as_all}
 use Rattle.jpq_program.proofs.Sending.{no_all_by}
 use Rattle.jpq_program.proofs.Shown.{answered_begun, begun_still, nothing_begun}

@@ -1,4 +1,4 @@
-use Rattle.jpq_program.proofs.Words.{◌≡◌, ◌∙◌, ◌++◌, ◌∷◌, List, [], ℕ, JsonPath, ap, append_assoc, append-nil, end_text, first_cells, map, map_push, refl, row_text, string_bytes, subst, sym, take, take_all, true, AskedPath, String, Global, Streams}
+use Rattle.jpq_program.proofs.Words.{◌∙◌, ◌++◌, ◌∷◌, List, [], ℕ, JsonPath, ap, append_assoc, append-nil, end_text, first_cells, map, map_push, refl, row_text, string_bytes, subst, sym, take, take_all, true, AskedPath}
 use Rattle.jpq_program.proofs.Nodes.{further_mapped}
 use Rattle.jpq_program.proofs.Cells.{FindsCells, cells_found, no_cells, ok_where, row_answered}
 use Rattle.jpq_program.proofs.answering.Answering.answer_row.Goals as goal

@@ -1,4 +1,4 @@
-use Rattle.jpq_program.proofs.Words.{◌≡◌, ◌∙◌, ◌||◌, List, Located, None, Option, Outcome, Some, String, Global, Streams, IsCellOf, IsFirstOf, ℕ, ap, false, refl, string_bytes, subst, sym, true, view}
+use Rattle.jpq_program.proofs.Words.{◌≡◌, ◌∙◌, ◌||◌, List, None, Some, Streams, IsCellOf, IsFirstOf, ℕ, ap, false, string_bytes, subst, sym, true, view}
 use Rattle.jpq_program.proofs.Cells.{cell_found, cell_refused, no_node, some_cell}
 use Rattle.jpq_program.proofs.Shown.{or_false}
 use Rattle.jpq_program.proofs.answering.Answering.cell.Goals as goal

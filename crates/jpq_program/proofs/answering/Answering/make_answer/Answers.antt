@@ -1,5 +1,5 @@
 use Rattle.jpq_program.specs.declared.rows.Separator.TheVariants.{Tab}
-use Rattle.jpq_program.proofs.Words.{◌≡◌, Some, has_counts, is_array, is_table, is_tsv, ◌∙◌, IfOk-weaker, false, rules, sym, true, view, shown_in_part_by}
+use Rattle.jpq_program.proofs.Words.{◌≡◌, Some, has_counts, is_array, is_table, is_tsv, IfOk-weaker, false, rules, true, view, shown_in_part_by}
 use Rattle.jpq_program.proofs.Cells.{as_all, as_row, begun_as_all, has_tabs, looked_at, no_table}
 use Rattle.jpq_program.proofs.Arrays.{each_as_all, each_begun_as_all}
 use Rattle.jpq_program.proofs.Sending.{no_answer}

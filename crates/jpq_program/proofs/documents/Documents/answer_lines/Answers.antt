@@ -1,4 +1,4 @@
-use Rattle.jpq_program.proofs.Words.{◌≡◌, ◌∙◌, ◌+◌, ◌++◌, ◌<◌, ℕ, IfOk-weaker, List, [], Some, refl, ap, subst, true, arith, common_steps, length, Begins, IsInputShown, IsLineShown, SendsLine, Streams, IfMore, drop_through, take_through, shown_by, shown_in_part_by, More, Sends}
+use Rattle.jpq_program.proofs.Words.{◌≡◌, ◌∙◌, ◌+◌, ◌++◌, ◌<◌, ℕ, IfOk-weaker, List, [], Some, refl, ap, subst, true, arith, common_steps, length, Begins, IsInputShown, IsLineShown, Streams, IfMore, drop_through, take_through, shown_by, shown_in_part_by, More, Sends}
 use Rattle.jpq_program.proofs.Sending.{known_at, line_taken, no_answer, no_input, lines_begun, lines_refused, sent_all, sent_begun, sent_further, sent_none, some_known, starts_whole, goes_on, lines_until}
 use Rattle.jpq_program.proofs.Shown.{answered_begun, nothing_begun, of_more}
 use Rattle.jpq_program.proofs.documents.Documents.answer_lines.Goals as goal

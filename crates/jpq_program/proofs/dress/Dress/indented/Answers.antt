@@ -1,4 +1,4 @@
-use Rattle.jpq_program.proofs.Words.{◌≡◌, ◌∙◌, IfOk-weaker, List, Option, String, Global, ℕ, ap, chars, indented, led_by, string_bytes, sym, true}
+use Rattle.jpq_program.proofs.Words.{◌∙◌, IfOk-weaker, List, Option, String, Global, ℕ, ap, chars, indented, led_by, string_bytes, sym, true}
 use Rattle.std.specs.Prelude.{option_map}
 use Rattle.jpq_program.proofs.dress.Dress.indented.Goals as goal
 

@@ -1,4 +1,4 @@
-use Rattle.jpq_program.proofs.Words.{◌≡◌, Dress, IsLook, OnOk, Option, located, look_with, string_bytes, subst, sym}
+use Rattle.jpq_program.proofs.Words.{Dress, IsLook, Option, located, look_with, string_bytes, subst, sym}
 use Rattle.jsonpath_lines.specs.Inside as lines
 use Rattle.jpq_program.proofs.Dressed.{bare_look, usual_palette}
 use Rattle.jpq_program.proofs.Shown.{on_ok_as}
