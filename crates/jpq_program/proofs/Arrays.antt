@@ -1,6 +1,7 @@
 -- What is shown of a document in one array, or for each path.
 use Rattle.jpq_program.proofs.Words.{◌≡◌, ◌∙◌, ◌++◌, ◌||◌, ℕ, Bool, true, false, List, [], Option, refl, sym, ap, subst, inr, append_assoc, codes, string_bytes, Adds, Answered, Answering, AnswersAll, AnswersEach, AppendsBeginning, Begins, IsArrayInPart, IsArrayOf, MatchBool, Output, Streams, Writes, all_in_part_by, array_end, array_text, each_by, each_in_part_by, end_text, is_array}
 use Rattle.jpq_program.proofs.Nodes.{adds_both, appends_nothing}
+use Rattle.jpq_program.proofs.Shown.{answered_begun, begun_still}
 
 -- ---- what is shown for each path
 
@@ -60,6 +61,12 @@ array_begun {W} {E} contents output ArePart before opened now bracket opening be
 
     whole : string_bytes before.pending ++ (codes "[" ++ (begun.0 ++ end)) ≡ (string_bytes opened.pending ++ begun.0) ++ end
     whole = sym (append_assoc (string_bytes before.pending) (codes "[") (begun.0 ++ end)) ∙ ap (λ (t : List ℕ). t ++ (begun.0 ++ end)) (sym opening) ∙ sym (append_assoc (string_bytes opened.pending) begun.0 end)
+
+-- of what is shown for each path, and nothing after it, a beginning is out
+pub array_left : {W E : Type 0} {silent : Bool} (contents : W → Option (List ℕ)) (output : Output) (Are ArePart : List ℕ → Bool → Type 0) (before opened old now : Streams W E) → opened ≡ record before { pending = opened.pending }
+    → string_bytes opened.pending ≡ string_bytes before.pending ++ codes "[" → Answered silent contents Are ArePart opened old → now.out ≡ old.out → Begins contents (IsArrayInPart output ArePart) before now
+array_left contents output Are ArePart before opened old now bracket opening each same =
+    array_begun contents output ArePart before opened now bracket opening (begun_still contents ArePart opened old now (answered_begun contents Are ArePart opened old each) same)
 
 -- such an array is all that is shown of a document
 pub array_as_all : {W E : Type 0} (contents : W → Option (List ℕ)) (answering : Answering) (name : List ℕ) (number : ℕ) (bytes : List ℕ) (before now : Streams W E) → is_array answering.showing.output.form ≡ true

@@ -1,5 +1,5 @@
 -- What options ask for, as documents are answered.
-use Rattle.jpq_program.proofs.Words.{◌≡◌, ◌∙◌, ◌&&◌, ◌||◌, ℕ, Bool, true, false, List, [], Option, None, length, length-map, map, not, refl, sym, ap, subst, string_bytes, Appends, AreInputsShown, AreKnown, ArePaths, IsAnswered, IsShownInPart, IsShownOn, cells_for, head_for, Outcome, names_in, rule_in, status_of, Answered, AppendsBeginning, AskedPath, Answering, Begins, IsAnsweredInPart, IsShownInPartFor, SendsFor, Shown, inr, ◌++◌, Documents, Heads, IsPlain, IsShownFor, JsonPath, Keeps, IfSome, Nodes, OptionShown, Options, Output, Colours, Csv, Tsv, Form, IsRowInPart, IsRowOn, Look, MatchBool, first_cells, is_tsv, look_in, has_palette, Streams, builtin_functions, form_in, has_counts, has_nodes, head_by, heads_in, is_each, is_plain_answer, is_table, output_in, path_tree, shows_places, LocationAndValue, Value, Raw, Location, Pointer, Json, Count, Nothing, path_texts, ◌⊎◌, AnswersRun, Ends, IfMore, IsKnownRun, IsUsualRun, More, Next, SendsUntil, arith, common_steps, nat_tests, inl, is_quiet}
+use Rattle.jpq_program.proofs.Words.{◌≡◌, ◌∙◌, ◌&&◌, ◌||◌, ℕ, Bool, true, false, List, [], Option, None, length, length-map, map, not, refl, sym, ap, subst, string_bytes, Appends, AreInputsShown, AreKnown, ArePaths, IsAnswered, IsShownInPart, IsShownOn, cells_for, head_for, Outcome, names_in, rule_in, status_of, Answered, AppendsBeginning, AskedPath, Answering, Begins, IsAnsweredInPart, IsShownInPartFor, SendsFor, Shown, inr, ◌++◌, Documents, Heads, IsPlain, IsShownFor, JsonPath, Keeps, IfSome, Nodes, OptionShown, Options, Output, Colours, Csv, Tsv, Form, IsRowInPart, IsRowOn, Look, MatchBool, first_cells, row_line, look_in, has_palette, Streams, builtin_functions, form_in, has_counts, has_nodes, head_by, heads_in, is_each, is_plain_answer, is_table, output_in, path_tree, shows_places, LocationAndValue, Value, Raw, Location, Pointer, Json, Count, Nothing, path_texts, ◌⊎◌, AnswersRun, Ends, IfMore, IsKnownRun, IsUsualRun, More, Next, SendsUntil, arith, common_steps, nat_tests, inl, is_quiet}
 use Rattle.jpq_program.proofs.Ended.{sent_out, status_is}
 use Rattle.jpq_program.proofs.Sending.{no_named, no_shown}
 use Rattle.jpq_program.proofs.Shown.{answered_since, begun_since, nothing_begun}
@@ -9,7 +9,7 @@ use Rattle.jpq_program.specs.Run.{is_colored}
 
 -- an answer is plain, by what it shows, its form, whether the environment says which colours lines have, and whether counts are summed up
 abbrev plain_by : OptionShown → Form → Bool → Bool → Bool
-plain_by shown form palette total = is_tsv shown || (not (is_table shown) && ((not palette && has_nodes form) || (has_counts form && not total)))
+plain_by shown form palette total = is_table shown || ((not palette && has_nodes form) || (has_counts form && not total))
 
 each_plain : (shown : OptionShown) → is_each shown ≡ true → plain_by shown (form_in shown) false false ≡ true
 each_plain (Nodes LocationAndValue) is = refl
@@ -21,7 +21,7 @@ each_plain (Nodes Count) is = refl
 each_plain (Nodes Json) is = refl
 each_plain (Nodes Nothing) is = absurd cc
 each_plain Tsv is = refl
-each_plain Csv is = absurd cc
+each_plain Csv is = refl
 
 plain_answer : (answering : Answering) (options : Options) → is_each options.shown ≡ true → answering.shown ≡ options.shown → answering.showing.output ≡ output_in options → has_palette answering.showing.dress ≡ false → answering.total ≡ false
     → is_plain_answer answering ≡ true
@@ -71,11 +71,11 @@ plain_documents documents options colours run shown output usual total read = re
 -- ---- what is shown of the inputs is what the options ask for
 
 abbrev Whole : OptionShown → List JsonPath → Look → Heads → Shown
-Whole shown paths look heads name number bytes text any = MatchBool (is_table shown) (IsRowOn builtin_functions paths look.output.end (first_cells heads.file heads.line name number) bytes text any)
+Whole shown paths look heads name number bytes text any = MatchBool (is_table shown) (IsRowOn builtin_functions paths (row_line shown look.output.end) (first_cells heads.file heads.line name number) bytes text any)
     (IsShownOn builtin_functions paths look (head_by look.output heads name number) bytes text any)
 
 abbrev InPart : OptionShown → List JsonPath → Look → Heads → Shown
-InPart shown paths look heads name number bytes text any = MatchBool (is_table shown) (IsRowInPart builtin_functions paths look.output.end (first_cells heads.file heads.line name number) bytes text any)
+InPart shown paths look heads name number bytes text any = MatchBool (is_table shown) (IsRowInPart builtin_functions paths (row_line shown look.output.end) (first_cells heads.file heads.line name number) bytes text any)
     (IsShownInPart builtin_functions paths look (head_by look.output heads name number) bytes text any)
 
 heads_as_asked : (options : Options) (asked : List AskedPath) (heads : Heads) → heads ≡ heads_in options (length asked) → heads ≡ heads_in options (length (map (λ (path : AskedPath). path.path) asked))
@@ -118,7 +118,7 @@ begun_for contents options taken asked look heads bytes_of before start now look
 pub nothing_for : {W E : Type 0} (contents : W → Option (List ℕ)) (options : Options) (taken : Bool) (paths : List JsonPath) (bytes_of : List ℕ → Option (List ℕ)) (before now : Streams W E) → AreKnown bytes_of (names_in options) → now.out ≡ before.out
     → Begins contents (AreInputsShown (IsShownInPartFor options taken paths) options.lines bytes_of (names_in options)) before now
 nothing_for contents options taken paths bytes_of before now known same = nothing_begun contents (AreInputsShown (IsShownInPartFor options taken paths) options.lines bytes_of (names_in options)) before now
-    (no_named (IsShownInPartFor options taken paths) options.lines bytes_of (names_in options) (λ name number bytes. no_shown (is_table options.shown) paths (look_in options taken) options.end (cells_for options name number) (head_for options (length paths) name number) bytes) known 1 false) same
+    (no_named (IsShownInPartFor options taken paths) options.lines bytes_of (names_in options) (λ name number bytes. no_shown (is_table options.shown) paths (look_in options taken) (row_line options.shown options.end) (cells_for options name number) (head_for options (length paths) name number) bytes) known 1 false) same
 
 -- a run was answered
 pub run_answered : {W E : Type 0} (contents : W → Option (List ℕ)) (bytes_of : List ℕ → Option (List ℕ)) (options : Options) (taken : Bool) (next : Next) (asked : List AskedPath) (old start answer final : Streams W E)

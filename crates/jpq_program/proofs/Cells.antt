@@ -1,5 +1,8 @@
 -- Rows of tables, cell by cell.
-use Rattle.jpq_program.proofs.Words.{◌≡◌, ◌∙◌, ◌||◌, ◌+◌, ◌<◌, ◌++◌, ◌∷◌, ℕ, Bool, true, false, List, [], Option, None, Some, String, Global, length, nat_lt, map, refl, sym, ap, subst, inl, inr, suc, ◌-◌, Err, IfOk, Ok, OnOk, Result, arith, is_some, length-append, length-map, length-take-le, nat_tests, take-append-le, take_all, append-nil, append_assoc, append_cancel_right, codes, flat_map, flat_map-append, if◌then◌else◌, string_bytes, true≢false, Adds, Answered, AreCells, Compact, Data, Finds, FunctionSet, IsAnswer, IsAsked, IsCellInPart, IsCellOf, IsCellOn, IsFirstOf, ArePieces, IsRowInPart, IsRowOn, IsText, Answering, AnswersAll, AnswersBy, AnswersRow, AreShownAs, Begins, Csv, MatchBool, Nodes, OptionShown, Tsv, all_by, all_in_part_by, asked_look, is_table, is_tsv, look_of, not, ◌&&◌, row_by, row_in_part_by, shown_in_part_by, JsonPath, LineEnd, Located, OnlyRefuses, Outcome, Raw, Selects, ShowsAs, Streams, builtin_functions, cell_look, cell_text, end_text, get_or, path_tree, row_text, take, with_most, with_rule_of}
+use Rattle.jpq_program.proofs.Words.{◌≡◌, ◌∙◌, ◌||◌, ◌+◌, ◌<◌, ◌++◌, ◌∷◌, ℕ, Bool, true, false, List, [], Option, None, Some, String, Global, length, nat_lt, map, refl, sym, ap, subst, inl, inr, suc, ◌-◌, Err, IfOk, Ok, OnOk, Result, arith, is_some, length-append, length-map, length-take-le, nat_tests, take-append-le, take_all, append-nil, append_assoc, append_cancel_right, codes, flat_map, flat_map-append, if◌then◌else◌, string_bytes, true≢false, Adds, Answered, AreCells, Compact, Data, Finds, FunctionSet, IsAnswer, IsAsked, IsCellInPart, IsCellOf, IsCellOn, IsFirstOf, ArePieces, IsRowInPart, IsRowOn, IsText, Answering, AnswersAll, AnswersBy, AnswersRow, AreShownAs, Begins, Csv, MatchBool, Nodes, OptionShown, Tsv, all_by, all_in_part_by, asked_look, is_table, look_of, not, ◌&&◌, row_by, row_in_part_by, shown_in_part_by, JsonPath, LineEnd, Located, OnlyRefuses, Outcome, Raw, Selects, ShowsAs, Streams, builtin_functions, cell_look, cell_text, end_text, get_or, path_tree, row_line, row_text, take, with_most, with_rule_of}
+use Rattle.jpq_program.specs.Inside.{separated, separator_in}
+use Rattle.jpq_program.specs.declared.rows.Separator.{Separator}
+use Rattle.jpq_program.specs.declared.rows.Separator.TheVariants.{Comma, Tab}
 use Rattle.jpq_program.proofs.Dressed.{bare_line}
 use Rattle.jpq_program.proofs.Nodes.{appends_nothing, further_mapped}
 use Rattle.jpq_program.proofs.Shown.{or_assoc, or_false, shown_of_asked}
@@ -96,11 +99,6 @@ pub first_taken : (nodes : List Located) (n : Located) (old : Option (String Glo
 first_taken [] n old text none first is = (text, refl, is)
 first_taken (m ∷ ms) n old text none first is = absurd (true≢false (sym (ap is_some first.1) ∙ none))
 
--- what follows where a call goes well, if something holds
-pub ok_where : {A E : Type 0} (r : Result A E) (T P Q : Type 0) → (T → OnOk r P) → (T → P → Q) → IfOk r (λ _. T → Q)
-ok_where (Ok x) T P Q holds step = λ t. step t (holds t)
-ok_where (Err e) T P Q holds step = tt
-
 -- what a call gave is one or the other
 pub of_either : {E : Type 0} {P : Type 0} (r : Result Bool E) (b : Bool) → r ≡ Ok b → (r ≡ Ok true → P) → (r ≡ Ok false → P) → P
 of_either r true is one other = one is
@@ -188,10 +186,10 @@ cells_found bytes paths path cells cell before old now first second = record {
 }
 
 -- those of all paths, and their row was added
-pub row_answered : {W E : Type 0} {silent : Bool} (contents : W → Option (List ℕ)) (paths : List JsonPath) (end : LineEnd) (firsts cells : List (List ℕ)) (bytes : List ℕ) (before old now : Streams W E) → FindsCells silent bytes paths cells before old
-    → now ≡ record old { pending = now.pending } → string_bytes now.pending ≡ string_bytes old.pending ++ (row_text (firsts ++ cells) ++ end_text end)
-    → Answered silent contents (IsRowOn builtin_functions paths end firsts bytes) (IsRowInPart builtin_functions paths end firsts bytes) before now
-row_answered {W} {E} contents paths end firsts cells bytes before old now found kept pushed = record {
+pub row_answered : {W E : Type 0} {silent : Bool} (contents : W → Option (List ℕ)) (paths : List JsonPath) (line : List (List ℕ) → List ℕ) (firsts cells : List (List ℕ)) (bytes : List ℕ) (before old now : Streams W E) → FindsCells silent bytes paths cells before old
+    → now ≡ record old { pending = now.pending } → string_bytes now.pending ≡ string_bytes old.pending ++ line (firsts ++ cells)
+    → Answered silent contents (IsRowOn builtin_functions paths line firsts bytes) (IsRowInPart builtin_functions paths line firsts bytes) before now
+row_answered {W} {E} contents paths line firsts cells bytes before old now found kept pushed = record {
   text = text;
   any = found.any;
   whole = λ right.
@@ -206,7 +204,7 @@ row_answered {W} {E} contents paths end firsts cells bytes before old now found 
 }
   where
     text : List ℕ
-    text = row_text (firsts ++ cells) ++ end_text end
+    text = line (firsts ++ cells)
 
 -- ---- what is shown of a document
 
@@ -230,13 +228,30 @@ pub looked_at : (answering : Answering) (bytes : List ℕ) (value : Data) (table
     → AreShownAs (if table then cell_look else look_of answering.showing) bytes value answering.paths.now
 looked_at answering bytes value table is are = subst (λ (t : Bool). AreShownAs (if t then cell_look else look_of answering.showing) bytes value answering.paths.now) is are
 
--- a plain answer in rows has tabs, and others are lines or counts
-pub has_tabs : (shown : OptionShown) (rest : Bool) → (is_tsv shown || (not (is_table shown) && rest)) ≡ true → is_table shown ≡ true → is_tsv shown ≡ true
-has_tabs (Nodes form) rest plain table = absurd cc
-has_tabs Tsv rest plain table = refl
-has_tabs Csv rest plain table = absurd cc
+-- rows are shown where something stands between their cells, and then they have this line
+pub shows_rows : (shown : OptionShown) (separator : Separator) → separator_in shown ≡ Some separator → is_table shown ≡ true
+shows_rows (Nodes form) separator is = absurd cc
+shows_rows Tsv separator is = refl
+shows_rows Csv separator is = refl
 
-pub no_table : (shown : OptionShown) (rest : Bool) → (is_tsv shown || (not (is_table shown) && rest)) ≡ true → is_table shown ≡ false → rest ≡ true
+pub shows_none : (shown : OptionShown) → separator_in shown ≡ None → is_table shown ≡ false
+shows_none (Nodes form) is = refl
+shows_none Tsv is = absurd cc
+shows_none Csv is = absurd cc
+
+pub line_is : (shown : OptionShown) (separator : Separator) (end : LineEnd) (cells : List (List ℕ)) → separator_in shown ≡ Some separator → separated separator end cells ≡ row_line shown end cells
+line_is (Nodes form) separator end cells is = absurd cc
+line_is Tsv separator end cells is = ap (λ (s : Separator). separated s end cells) (of_some separator Tab is)
+  where
+    of_some : (s t : Separator) → Some t ≡ Some s → s ≡ t
+    of_some s t same = cc
+line_is Csv separator end cells is = ap (λ (s : Separator). separated s end cells) (of_some separator Comma is)
+  where
+    of_some : (s t : Separator) → Some t ≡ Some s → s ≡ t
+    of_some s t same = cc
+
+-- what is shown in no rows is shown as nodes or counts
+pub no_table : (shown : OptionShown) (rest : Bool) → (is_table shown || rest) ≡ true → is_table shown ≡ false → rest ≡ true
 no_table (Nodes form) rest plain table = plain
 no_table Tsv rest plain table = absurd cc
 no_table Csv rest plain table = absurd cc

@@ -3,6 +3,7 @@
 -- Shown: what was written of a document is what its paths show.
 -- Dressed: lines that are indented and escaped.
 -- Cells: rows of tables, cell by cell.
+-- Commas: rows with commas are UTF-8.
 -- Arrays: what is shown of a document in one array, or for each path.
 -- Read: what is shown of what was read is what is shown of the document.
 -- Parsed: the paths of words, one after the other.
@@ -17,6 +18,7 @@ mod Nodes
 mod Shown
 mod Dressed
 mod Cells
+mod Commas
 mod Arrays
 mod Read
 mod Parsed

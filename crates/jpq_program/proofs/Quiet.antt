@@ -1,5 +1,5 @@
 -- Runs that show nothing, and answer whether there is a node.
-use Rattle.jpq_program.proofs.Words.{◌≡◌, ◌∙◌, ◌≤◌, ◌⊎◌, ◌++◌, ◌∷◌, ℕ, Bool, true, false, List, [], Option, Result, Ok, Err, inl, inr, refl, sym, ap, subst, arith, common_steps, nat_tests, true≢false, Appends, AppendsBeginning, AnswersRun, AreAnswersInPart, AreEach, AreInputsShown, Ends, Form, FunctionSet, IsAnsweredInPart, IsAnswerInPart, IsFound, IsInputShown, IsLineShown, IsNamedShown, IsQuietRun, IsShownInPartFor, JsonPath, MatchBool, More, Next, Nothing, Options, Outcome, Output, Shown, Stop, Streams, AreLines, AreLinesIn, ArePieces, IsArrayOf, IsRowInPart, IsShownInPart, OptionShown, cells_for, head_for, is_array, is_table, output_in, ◌||◌, Located, Look, look_in, has_nodes, is_blank, lines_of, names_in, status_after, strip_last, without_mark, ◌+◌, IsShownFor, form_in, builtin_functions, chosen, length}
+use Rattle.jpq_program.proofs.Words.{◌≡◌, ◌∙◌, ◌≤◌, ◌⊎◌, ◌++◌, ◌∷◌, ℕ, Bool, true, false, List, [], Option, Result, Ok, Err, inl, inr, refl, sym, ap, subst, arith, common_steps, nat_tests, true≢false, Appends, AppendsBeginning, AnswersRun, AreAnswersInPart, AreEach, AreInputsShown, Ends, Form, FunctionSet, IsAnsweredInPart, IsAnswerInPart, IsFound, IsInputShown, IsLineShown, IsNamedShown, IsQuietRun, IsShownInPartFor, JsonPath, MatchBool, More, Next, Nothing, Options, Outcome, Output, Shown, Stop, Streams, AreLines, AreLinesIn, ArePieces, IsArrayOf, IsRowInPart, IsShownInPart, OptionShown, cells_for, head_for, row_line, is_array, is_table, output_in, ◌||◌, Located, Look, look_in, has_nodes, is_blank, lines_of, names_in, status_after, strip_last, without_mark, ◌+◌, IsShownFor, form_in, builtin_functions, chosen, length}
 use Rattle.jpq_program.proofs.Nodes.{appends_nothing}
 
 -- ---- what is shown has no text
@@ -44,7 +44,7 @@ quiet_text options taken paths bytes_of text any quiet are =
     document_empty name line bytes text any shown =
         let head = head_for options (length paths) name line in
         let each = AreAnswersInPart builtin_functions paths (look_in options taken) head bytes in
-        let all = subst (λ (table : Bool). MatchBool table (IsRowInPart builtin_functions paths options.end (cells_for options name line) bytes text any) (IsShownInPart builtin_functions paths (look_in options taken) head bytes text any)) (ap is_table quiet.1) shown in
+        let all = subst (λ (table : Bool). MatchBool table (IsRowInPart builtin_functions paths (row_line options.shown options.end) (cells_for options name line) bytes text any) (IsShownInPart builtin_functions paths (look_in options taken) head bytes text any)) (ap is_table quiet.1) shown in
         let are = subst (λ (array : Bool). MatchBool array (((text ≡ []) × (any ≡ false)) ⊎ IsArrayOf (output_in options) each text any) (each text any)) (ap (λ (s : OptionShown). is_array (form_in s)) quiet.1) all in
         each_empty (λ (number : ℕ) (later : Bool) (path : JsonPath). IsAnswerInPart builtin_functions path (look_in options taken) later (head number) bytes)
         (λ number later path text any is. path_empty builtin_functions path (look_in options taken) later (head number) bytes text any (ap form_in quiet.1) is) 1 false paths text any are

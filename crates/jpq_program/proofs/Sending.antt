@@ -1,5 +1,5 @@
 -- What is sent of inputs, one after the other.
-use Rattle.jpq_program.proofs.Words.{◌≡◌, ◌∙◌, ◌+◌, ◌==◌, ◌<◌, ℕ, Bool, true, false, List, [], ◌∷◌, ◌++◌, None, Option, length, length-append, refl, sym, ap, subst, append-nil, append_assoc, arith, string_bytes, Answering, AreAnswersInPart, IsAnswerInPart, Look, look_of, LineEnd, IsArrayInPart, IsRowInPart, IsShownInPart, first_cells, ◌||◌, is_table, paths_in, JsonPath, builtin_functions, head_by, inl, all_in_part_by, shown_in_part_by, AreEach, AreInputsShown, AreKnown, Answered, Begins, Bor, IsInputShown, IsNamedShown, More, Next, get_or, get_or-map, length-map, map, suc, take, zero, IsLineShown, OnlyNotes, OnlyRefuses, Sends, Shown, Streams, drop_through, Global, IfSome, Some, MatchBool, if◌then◌else◌, is_array, is_blank, lines_of, strip_last, take_through, with_byte, without_mark, Form, IfMore, SendsUntil, Ends, drop}
+use Rattle.jpq_program.proofs.Words.{◌≡◌, ◌∙◌, ◌+◌, ◌==◌, ◌<◌, ℕ, Bool, true, false, List, [], ◌∷◌, ◌++◌, None, Option, length, length-append, refl, sym, ap, subst, append-nil, append_assoc, arith, string_bytes, Answering, AreAnswersInPart, IsAnswerInPart, Look, look_of, IsArrayInPart, IsRowInPart, IsShownInPart, first_cells, row_line, ◌||◌, is_table, paths_in, JsonPath, builtin_functions, head_by, inl, all_in_part_by, shown_in_part_by, AreEach, AreInputsShown, AreKnown, Answered, Begins, Bor, IsInputShown, IsNamedShown, More, Next, get_or, get_or-map, length-map, map, suc, take, zero, IsLineShown, OnlyNotes, OnlyRefuses, Sends, Shown, Streams, drop_through, Global, IfSome, Some, MatchBool, if◌then◌else◌, is_array, is_blank, lines_of, strip_last, take_through, with_byte, without_mark, Form, IfMore, SendsUntil, Ends, drop}
 use Rattle.std.specs.Io.Buffered.{reader_buffer, reader_capacity, reader_inner, reader_remaining}
 use Rattle.std.specs.Io.KnownBytes.{prepend_known}
 use Rattle.std.specs.declared.io.buffered.BufReader.{BufReader}
@@ -67,16 +67,16 @@ no_all : (array : Bool) (paths : List JsonPath) (look : Look) (head : ℕ → Li
 no_all true paths look head bytes = inl (refl, refl)
 no_all false paths look head bytes = no_paths paths look head bytes
 
-pub no_shown : (table : Bool) (paths : List JsonPath) (look : Look) (end : LineEnd) (firsts : List (List ℕ)) (head : ℕ → List ℕ) (bytes : List ℕ)
-    → MatchBool table (IsRowInPart builtin_functions paths end firsts bytes [] false) (IsShownInPart builtin_functions paths look head bytes [] false)
-no_shown true paths look end firsts head bytes = inl (refl, refl)
-no_shown false paths look end firsts head bytes = no_all (is_array look.output.form) paths look head bytes
+pub no_shown : (table : Bool) (paths : List JsonPath) (look : Look) (line : List (List ℕ) → List ℕ) (firsts : List (List ℕ)) (head : ℕ → List ℕ) (bytes : List ℕ)
+    → MatchBool table (IsRowInPart builtin_functions paths line firsts bytes [] false) (IsShownInPart builtin_functions paths look head bytes [] false)
+no_shown true paths look line firsts head bytes = inl (refl, refl)
+no_shown false paths look line firsts head bytes = no_all (is_array look.output.form) paths look head bytes
 
 pub no_all_by : (answering : Answering) (name : List ℕ) (number : ℕ) (bytes : List ℕ) → all_in_part_by answering name number bytes [] false
 no_all_by answering name number bytes = no_all (is_array answering.showing.output.form) (paths_in answering) (look_of answering.showing) (head_by answering.showing.output answering.heads name number) bytes
 
 pub no_answer : (answering : Answering) (name : List ℕ) (number : ℕ) (bytes : List ℕ) → shown_in_part_by answering name number bytes [] false
-no_answer answering name number bytes = no_shown (is_table answering.shown) (paths_in answering) (look_of answering.showing) answering.showing.output.end (first_cells answering.heads.file answering.heads.line name number) (head_by answering.showing.output answering.heads name number) bytes
+no_answer answering name number bytes = no_shown (is_table answering.shown) (paths_in answering) (look_of answering.showing) (row_line answering.shown answering.showing.output.end) (first_cells answering.heads.file answering.heads.line name number) (head_by answering.showing.output answering.heads name number) bytes
 
 -- of a blank line nothing is
 pub blank_sent : {W E : Type 0} {silent : Bool} (contents : W → Option (List ℕ)) (Is IsPart : Shown) (name : List ℕ) (number : ℕ) (line : List ℕ) (streams : Streams W E) → is_blank line ≡ true → streams.left ≡ None

@@ -5,7 +5,7 @@ use Rattle.std.specs.declared.alloc.Global.{Global}
 use Rattle.serde_json_path_nodes.specs.Location.{Located}
 use Rattle.jsonpath_lines.specs.Inside.{is_reached, once}
 use Rattle.jsonpath_lines.specs.Inside as lines
-use Rattle.jsonpath_lines.specs.Output.{AreLines, IsCount, IsText, compact_lines, up_to}
+use Rattle.jsonpath_lines.specs.Output.{AreLines, IsCount, IsText, compact_lines, end_text, up_to}
 use Rattle.jsonpath_lines.specs.declared.forms.Form.{Form}
 use Rattle.jsonpath_lines.specs.declared.forms.Form.TheVariants.{Count, Location, Nothing, Pointer, Raw}
 use Rattle.jsonpath_lines.specs.declared.forms.Layout.TheVariants.{Compact}
@@ -26,11 +26,15 @@ use Rattle.jpq_program.specs.Answers.{AreAnswersInPart, AreAnswersOn, IsAnswer, 
 use Rattle.jpq_program.specs.Looks.{ArePieces, IsPiece, Look, is_array, led_by}
 use Rattle.jpq_program.specs.Heads.{head_in}
 use Rattle.jpq_program.specs.Inputs.{AreInputsShown, IsInputShown, IsLineShown, Shown}
-use Rattle.jpq_program.specs.Rows.{IsRowInPart, IsRowOn, first_cells}
+use Rattle.csv.specs.Writing as csv
+use Rattle.jsonpath_lines.specs.declared.forms.LineEnd.{LineEnd}
+use Rattle.jpq_program.specs.declared.rows.Separator.{Separator}
+use Rattle.jpq_program.specs.declared.rows.Separator.TheVariants.{Comma, Tab}
+use Rattle.jpq_program.specs.Rows.{comma_rows, IsRowInPart, IsRowOn, first_cells, row_line, row_text}
 use Rattle.jpq_program.specs.Run.{ArePaths, IsPlainRun, IsQuietRun, IsShownFor, IsShownInPartFor, form_in, has_line_numbers, has_names, has_numbers, names_in, path_texts, rule_in}
 use Rattle.jpq_options.specs.declared.options.Options.{Options}
 use Rattle.jpq_options.specs.declared.options.Shown.{Shown as OptionShown}
-use Rattle.jpq_options.specs.declared.options.Shown.TheVariants.{Nodes, Tsv}
+use Rattle.jpq_options.specs.declared.options.Shown.TheVariants.{Csv, Nodes, Tsv}
 use Rattle.jpq_program.specs.declared.colours.Colours.{Colours}
 use Rattle.jpq_program.specs.declared.documents.Documents.{Documents}
 use Rattle.jpq_program.specs.declared.answering.Answering.{Answering}
@@ -240,15 +244,21 @@ is_plain showing = not (has_palette showing.dress)
 abbrev pub shows_nodes : Showing → Bool
 shows_nodes showing = is_plain showing && has_nodes showing.output.form
 
--- the cells of rows are parted by tabs
-abbrev pub is_tsv : OptionShown → Bool
-is_tsv Tsv = true
-is_tsv _ = false
+-- what stands between the cells of a row, where rows are shown
+abbrev pub separator_in : OptionShown → Option Separator
+separator_in Tsv = Some Tab
+separator_in Csv = Some Comma
+separator_in (Nodes form) = None
 
--- the nodes are shown so, or counted for each path, or of each path the first in a row with tabs
+-- the line of a row of cells with this between
+abbrev pub separated : Separator → LineEnd → List (List ℕ) → List ℕ
+separated Tab end cells = row_text cells ++ end_text end
+separated Comma end cells = csv.row_text (comma_rows end) cells
+
+-- the nodes are shown so, or counted for each path, or of each path the first in a row
 abbrev pub is_plain_answer : Answering → Bool
-is_plain_answer answering = is_tsv answering.shown || (not (is_table answering.shown)
-    && (shows_nodes answering.showing || (has_counts answering.showing.output.form && not answering.total)))
+is_plain_answer answering = is_table answering.shown
+    || (shows_nodes answering.showing || (has_counts answering.showing.output.form && not answering.total))
 
 -- the text of the first node, in a cell
 abbrev pub IsFirstOf : List Located → Option (String Global) → Type 0
@@ -298,11 +308,11 @@ all_in_part_by answering name number bytes text any =
 
 -- the same in a row
 abbrev pub row_by : Answering → Shown
-row_by answering name number bytes text any = IsRowOn builtin_functions (paths_in answering) answering.showing.output.end
+row_by answering name number bytes text any = IsRowOn builtin_functions (paths_in answering) (row_line answering.shown answering.showing.output.end)
     (first_cells answering.heads.file answering.heads.line name number) bytes text any
 
 abbrev pub row_in_part_by : Answering → Shown
-row_in_part_by answering name number bytes text any = IsRowInPart builtin_functions (paths_in answering) answering.showing.output.end
+row_in_part_by answering name number bytes text any = IsRowInPart builtin_functions (paths_in answering) (row_line answering.shown answering.showing.output.end)
     (first_cells answering.heads.file answering.heads.line name number) bytes text any
 
 -- the same by what is asked to be shown

@@ -15,6 +15,13 @@ use Rattle.jsonpath_lines.specs.Output.{IsText, end_text}
 use Rattle.jsonpath_lines.specs.declared.forms.Form.TheVariants.{Raw}
 use Rattle.jsonpath_lines.specs.declared.forms.Layout.TheVariants.{Compact}
 use Rattle.jsonpath_lines.specs.declared.forms.LineEnd.{LineEnd}
+use Rattle.csv.specs.Writing as csv
+use Rattle.csv.specs.Writing.{default_writer}
+use Rattle.csv.specs.declared.parser.Terminator.TheVariants.{Any}
+use Rattle.csv.specs.declared.writer.WriterBuilder.{WriterBuilder}
+use Rattle.jsonpath_lines.specs.declared.forms.LineEnd.TheVariants.{LineFeed, Nul}
+use Rattle.jpq_options.specs.declared.options.Shown.{Shown}
+use Rattle.jpq_options.specs.declared.options.Shown.TheVariants.{Csv}
 use Rattle.jpq_program.specs.Heads.{shown_name}
 
 -- ---- texts
@@ -30,6 +37,21 @@ cell_text cell = flat_map in_cell (chars cell)
 -- cells, with a tab between
 abbrev pub row_text : List (List ℕ) → List ℕ
 row_text cells = join_by cell_text (codes "\t") cells
+
+-- what ends a row, as a byte
+abbrev pub end_byte : LineEnd → ℕ
+end_byte LineFeed = 10
+end_byte Nul = 0
+
+-- how rows are written whose cells have commas between: a cell with a comma, a quote or a line's end in it has quotes around it, and
+-- each of its own twice (RFC 4180, section 2)
+abbrev pub comma_rows : LineEnd → WriterBuilder
+comma_rows end = record default_writer { terminator = Any (end_byte end) }
+
+-- the line of a row: with commas, or else with tabs
+abbrev pub row_line : Shown → LineEnd → List (List ℕ) → List ℕ
+row_line Csv end cells = csv.row_text (comma_rows end) cells
+row_line _ end cells = row_text cells ++ end_text end
 
 -- the cells before those of the paths: the input's name and the number of the document's line, each where it is asked for
 abbrev pub first_cells : Bool → Bool → List ℕ → ℕ → List (List ℕ)
@@ -64,16 +86,16 @@ AreCells Is (path ∷ paths) cells any = (cell : List ℕ) × (rest : List (List
 
 -- ---- rows
 
--- a document's row, after first cells
-abbrev pub IsRow : (JsonPath → List ℕ → Bool → Type 0) → List JsonPath → LineEnd → List (List ℕ) → List ℕ → Bool → Type 0
-IsRow Is paths end firsts text any =
-    (cells : List (List ℕ)) × AreCells Is paths cells any × (text ≡ row_text (firsts ++ cells) ++ end_text end)
+-- a document's row, after first cells, in this line
+abbrev pub IsRow : (JsonPath → List ℕ → Bool → Type 0) → List JsonPath → (List (List ℕ) → List ℕ) → List (List ℕ) → List ℕ → Bool → Type 0
+IsRow Is paths line firsts text any =
+    (cells : List (List ℕ)) × AreCells Is paths cells any × (text ≡ line (firsts ++ cells))
 
 -- the same of the document that the bytes are
-abbrev pub IsRowOn : FunctionSet → List JsonPath → LineEnd → List (List ℕ) → List ℕ → List ℕ → Bool → Type 0
-IsRowOn F paths end firsts bytes text any = IsRow (IsCellOn F bytes) paths end firsts text any
+abbrev pub IsRowOn : FunctionSet → List JsonPath → (List (List ℕ) → List ℕ) → List (List ℕ) → List ℕ → List ℕ → Bool → Type 0
+IsRowOn F paths line firsts bytes text any = IsRow (IsCellOn F bytes) paths line firsts text any
 
 -- the same where the document may be refused, which has no row then, or the query of a path
-abbrev pub IsRowInPart : FunctionSet → List JsonPath → LineEnd → List (List ℕ) → List ℕ → List ℕ → Bool → Type 0
-IsRowInPart F paths end firsts bytes text any =
-    ((text ≡ []) × (any ≡ false)) ⊎ IsRow (IsCellInPart F bytes) paths end firsts text any
+abbrev pub IsRowInPart : FunctionSet → List JsonPath → (List (List ℕ) → List ℕ) → List (List ℕ) → List ℕ → List ℕ → Bool → Type 0
+IsRowInPart F paths line firsts bytes text any =
+    ((text ≡ []) × (any ≡ false)) ⊎ IsRow (IsCellInPart F bytes) paths line firsts text any

@@ -20,12 +20,12 @@ use Rattle.jpq_options.specs.declared.options.Options.{Options}
 use Rattle.jpq_options.specs.declared.options.Request.{Request}
 use Rattle.jpq_options.specs.declared.options.Request.TheVariants.{Run, Print, WrongUse}
 use Rattle.jpq_options.specs.declared.options.Shown.{Shown}
-use Rattle.jpq_options.specs.declared.options.Shown.TheVariants.{Csv, Nodes}
+use Rattle.jpq_options.specs.declared.options.Shown.TheVariants.{Nodes}
 use Rattle.jpq_program.specs.Answers.{IsShownInPart, IsShownOn}
 use Rattle.jpq_program.specs.Heads.{head_in}
 use Rattle.jpq_program.specs.Inputs.{AreInputsShown, AreKnown, Opens, OpensFirst, without_mark}
 use Rattle.jpq_program.specs.Looks.{Look, is_array}
-use Rattle.jpq_program.specs.Rows.{IsRowInPart, IsRowOn, first_cells}
+use Rattle.jpq_program.specs.Rows.{IsRowInPart, IsRowOn, first_cells, row_line}
 use Rattle.jpq_program.specs.declared.colours.Colours.{Colours}
 use Rattle.jpq_program.specs.declared.streams.Streams.{Streams}
 
@@ -99,13 +99,13 @@ cells_for options = first_cells (has_names options) (has_line_numbers options)
 -- what is shown of a document for the paths: a name, the number of its line, its bytes, the text, and whether a node is shown
 abbrev pub IsShownFor : Options → Bool → List JsonPath → List ℕ → ℕ → List ℕ → List ℕ → Bool → Type 0
 IsShownFor options taken paths name number bytes text any = MatchBool (is_table options.shown)
-    (IsRowOn builtin_functions paths options.end (cells_for options name number) bytes text any)
+    (IsRowOn builtin_functions paths (row_line options.shown options.end) (cells_for options name number) bytes text any)
     (IsShownOn builtin_functions paths (look_in options taken) (head_for options (length paths) name number) bytes text any)
 
 -- the same where it, or the query of a path, may be refused
 abbrev pub IsShownInPartFor : Options → Bool → List JsonPath → List ℕ → ℕ → List ℕ → List ℕ → Bool → Type 0
 IsShownInPartFor options taken paths name number bytes text any = MatchBool (is_table options.shown)
-    (IsRowInPart builtin_functions paths options.end (cells_for options name number) bytes text any)
+    (IsRowInPart builtin_functions paths (row_line options.shown options.end) (cells_for options name number) bytes text any)
     (IsShownInPart builtin_functions paths (look_in options taken) (head_for options (length paths) name number) bytes text any)
 
 -- the inputs' names, in order; `-` is standard input
@@ -146,11 +146,9 @@ abbrev pub OpensInOrder : Options → ℕ → Option (List (List ℕ)) → Optio
 OpensInOrder options status before after =
     OpensFirst before after (opened_in options) ⊎ ((2 ≤ status) × OpensFirst before after (looked_at_in options))
 
--- each node is shown, in a line or an object of its own, or the nodes are counted, or the first of each path are shown in a row with
--- tabs
+-- each node is shown, in a line or an object of its own, or the nodes are counted, or the first of each path are shown in a row
 abbrev pub is_each : Shown → Bool
 is_each (Nodes Nothing) = false
-is_each Csv = false
 is_each _ = true
 
 -- Nodes are neither summed up nor bounded over all documents, and no row of names stands before them. In the paths no values are bound to

@@ -13,6 +13,5 @@ pub(crate) struct AskedPath {
     pub(crate) text: String,
     /// What messages call it, unless it is the only one.
     pub(crate) name: Option<String>,
-    ghost fits: { FitsBuiltin (path_signatures path) }
-        by { FitsBuiltin-prop (path_signatures path) },
+    ghost fits: { FitsBuiltin (path_signatures path) } by { FitsBuiltin-prop (path_signatures path) },
 }

@@ -1,12 +1,14 @@
 //! Tables: a row for each document, with a cell for each path.
 
 ghost use Rattle.std.specs.Prelude.{◌≡◌, ◌++◌, ◌<◌, IfOk, OnOk, map, string_bytes};
-ghost use Rattle.std.specs.Str.{chars};
+ghost use Rattle.std.specs.Str.{IsUtf8};
 ghost use Rattle.serde_json_path_nodes.specs.Views.{located};
 ghost use Rattle.jsonpath_lines.specs.Output.{IsText, end_text};
 ghost use Rattle.jsonpath_lines.specs.declared.forms.Form.TheVariants as form;
 ghost use Rattle.jsonpath_lines.specs.declared.forms.Layout.TheVariants as layout;
-ghost use Rattle.jpq_program.specs.Rows.{cell_text, in_cell, row_text};
+ghost use Rattle.csv.specs.Writing as csv;
+ghost use Rattle.jpq_program.specs.Inside.{separated};
+ghost use Rattle.jpq_program.specs.Rows.{cell_text, comma_rows, end_byte, in_cell, row_text};
 
 use crate::inexact::may_be_inexact;
 use crate::showing::end_of;
@@ -108,21 +110,67 @@ fn push_tabbed(to: &mut String, cells: &[String]) -> Result<(), AllocError>
     Ok(())
 }
 
-/// A row whose cells are parted by commas.
-fn comma_row(alloc: Global, cells: &[String], end: LineEnd) -> Result<Vec<u8>, csv::Error> {
-    let end = match end {
+/// The bytes of cells.
+fn cells_bytes(alloc: Global, cells: &[String]) -> Result<Vec<&[u8]>, AllocError>
+    ensures { IfOk result (λ fields. map (λ field. field.now) fields.items
+        ≡ map string_bytes cells.now) }
+{
+    let mut fields = Vec::new(alloc);
+    for cell in cells {
+        fields.push(cell.as_bytes())?;
+    }
+    Ok(fields)
+}
+
+/// What ends a row, as a byte.
+fn end_byte(end: LineEnd) -> u8
+    ensures { result ≡ end_byte end }
+{
+    match end {
         LineEnd::LineFeed => b'\n',
         LineEnd::Nul => b'\0',
-    };
-    let mut writer = WriterBuilder::new()
-        .terminator(Terminator::Any(end))
-        .from_writer(Vec::new(alloc));
-    for cell in cells {
-        writer.write_field(cell.as_bytes())?;
     }
-    writer.end_record()?;
-    writer.flush()?;
+}
+
+/// A row whose cells are parted by commas.
+fn comma_row(alloc: Global, fields: &[&[u8]], end: LineEnd) -> Result<Vec<u8>, csv::Error>
+    ensures { IfOk result (λ row. row.items
+        ≡ csv.row_text (comma_rows end) (map (λ field. field.now) fields.now)) }
+{
+    let mut writer = WriterBuilder::new()
+        .terminator(Terminator::Any(end_byte(end)))
+        .from_writer(Vec::new(alloc));
+    writer.write_fields(fields)?;
     writer.into_inner().map_err(|e| e.into_error())
+}
+
+/// Appends bytes that are a text.
+fn push_text(to: &mut String, bytes: &[u8]) -> Result<(), AllocError>
+    requires { IsUtf8 bytes.now }
+    ensures { OnOk result (string_bytes to.new ≡ string_bytes to.old ++ bytes.now) }
+{
+    match from_utf8(bytes) {
+        Ok(text) => to.push_str(text),
+        Err(_) => unreachable!(),
+    }
+}
+
+/// Appends a row whose cells are parted by commas.
+fn push_commas(
+    alloc: Global,
+    to: &mut String,
+    end: LineEnd,
+    cells: &[String],
+) -> Result<(), AllocError>
+    ensures { OnOk result (string_bytes to.new ≡ string_bytes to.old
+        ++ csv.row_text (comma_rows end) (map string_bytes cells.now)) }
+{
+    let fields = cells_bytes(alloc, cells)?;
+    // What it writes to is a vector, so that only memory can be refused.
+    let Ok(row) = comma_row(alloc, &fields, end) else {
+        return Err(AllocError);
+    };
+    push_text(to, &row)
 }
 
 /// Appends a row of cells and its end.
@@ -133,20 +181,14 @@ pub(crate) fn push_row(
     end: LineEnd,
     cells: &[String],
 ) -> Result<(), AllocError>
-    ensures { separator ≡ Separator.Tab → OnOk result (string_bytes to.new
-        ≡ string_bytes to.old ++ (row_text (map string_bytes cells.now) ++ end_text end)) }
+    ensures { OnOk result (string_bytes to.new ≡ string_bytes to.old
+        ++ separated separator end (map string_bytes cells.now)) }
 {
     match separator {
         Separator::Tab => {
             push_tabbed(to, cells)?;
             to.push(end_of(end))
         }
-        Separator::Comma => {
-            // What it writes to is a vector, so that only memory can be refused.
-            let Ok(row) = comma_row(alloc, cells, end) else {
-                return Err(AllocError);
-            };
-            to.push_str(from_utf8(&row).unwrap_or(""))
-        }
+        Separator::Comma => push_commas(alloc, to, end, cells),
     }
 }

@@ -418,8 +418,7 @@ fn run_with<I: Inputs, W: Write, E: Write>(
         OpensFirst (I.opened inputs.old) (I.opened inputs.new) (opened_in options.now)) }
     ensures all { IfOk result (λ next. options.now.check ≡ false → next ≡ Next.More
         → Opens (I.opened inputs.old) (I.opened inputs.new) (opened_in options.now)) }
-    ensures in_order {
-        OpensFirst (I.opened inputs.old) (I.opened inputs.new) (opened_in options.now)
+    ensures in_order { OpensFirst (I.opened inputs.old) (I.opened inputs.new) (opened_in options.now)
         ⊎ OpensFirst (I.opened inputs.old) (I.opened inputs.new) (looked_at_in options.now) }
 {
     let paths = asked_paths(alloc, options, inputs, streams)?;

@@ -1,14 +1,12 @@
 //! Rows of tables: of each document one, with the first node of each path.
 
-ghost use Rattle.std.specs.Prelude.{◌≡◌, ◌++◌, List, None, Some, IfOk, OnOk, is_some, map, string_bytes, true};
+ghost use Rattle.std.specs.Prelude.{◌≡◌, ◌++◌, List, None, Some, IfOk, OnOk, map, string_bytes, true};
 ghost use Rattle.serde_json_path_core.specs.Inside.Words.{view, Located, OnlyMemoryOrPattern, Selects};
 ghost use Rattle.serde_json_path_functions.specs.Patterns.{builtin_functions};
 ghost use Rattle.serde_json_path.specs.Paths.{path_tree, with_rule_of};
-ghost use Rattle.jpq_options.specs.Options.{is_table};
 ghost use Rattle.serde_json.specs.Data.{Data};
-ghost use Rattle.jsonpath_lines.specs.Output.{end_text};
-ghost use Rattle.jpq_program.specs.Inside.{AnswersRow, AreShownAs, Finds, IsAsked, IsFirstOf, ShowsAs, cell_look, is_tsv};
-ghost use Rattle.jpq_program.specs.Rows.{IsCellInPart, IsCellOn, first_cells, row_text};
+ghost use Rattle.jpq_program.specs.Inside.{AnswersRow, AreShownAs, Finds, IsAsked, IsFirstOf, ShowsAs, cell_look, separated, separator_in};
+ghost use Rattle.jpq_program.specs.Rows.{IsCellInPart, IsCellOn, first_cells};
 
 use crate::answering::{Answering, Document};
 use crate::asked_path::AskedPath;
@@ -23,8 +21,7 @@ use std::io::Write;
 
 /// What stands between the cells of a row, where rows are shown.
 pub(crate) fn separator_of(shown: Shown) -> Option<Separator>
-    ensures some { is_some result ≡ is_table shown }
-    ensures tab { is_tsv shown ≡ true → result ≡ Some Separator.Tab }
+    ensures { result ≡ separator_in shown }
 {
     match shown {
         Shown::Tsv => Some(Separator::Tab),
@@ -152,7 +149,7 @@ impl Answering<'_> {
         document: Document<'_>,
         streams: &mut Streams<W, E>,
     ) -> Result<(), Stop>
-        ensures answered { IfOk result (λ _. separator ≡ Separator.Tab
+        ensures answered { IfOk result (λ _. separator_in self.now.shown ≡ Some separator
             → AreShownAs cell_look document.entry.bytes.now (view document.entry.value.now)
             self.now.paths.now → streams.old.left ≡ None
             → AnswersRow W.contents self.now document.entry.source.name.now
@@ -174,9 +171,9 @@ impl Answering<'_> {
         streams: &mut Streams<W, E>,
     ) -> Result<(), Stop>
         ensures kept { streams.new ≡ record streams.old { pending = streams.new.pending } }
-        ensures row { separator ≡ Separator.Tab → OnOk result (string_bytes streams.new.pending
+        ensures row { OnOk result (string_bytes streams.new.pending
             ≡ string_bytes streams.old.pending
-            ++ (row_text (map string_bytes cells.now) ++ end_text self.now.showing.output.end)) }
+            ++ separated separator self.now.showing.output.end (map string_bytes cells.now)) }
     {
         let end = self.showing.output.end;
         push_row(self.alloc, &mut streams.pending, separator, end, cells)?;

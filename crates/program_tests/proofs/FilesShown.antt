@@ -23,7 +23,7 @@ use Rattle.jpq_program.specs.Answers.{AreAnswersOn, IsAnswerOn, IsArrayOf}
 use Rattle.jpq_program.specs.Heads.{head_in, head_text}
 use Rattle.jpq_options.specs.Options.{is_table}
 use Rattle.jpq_program.specs.Looks.{Look, is_array}
-use Rattle.jpq_program.specs.Rows.{IsRowOn, first_cells}
+use Rattle.jpq_program.specs.Rows.{IsRowOn, first_cells, row_line}
 use Rattle.jpq_program.specs.declared.colours.Colours.{Colours}
 use Rattle.jpq_program.specs.Inputs.{AreInputsShown, AreKnown, IsInputShown, IsLineShown, IsNamedShown, Opens, Shown}
 use Rattle.jpq_program.specs.Run.{ArePaths, ComesOf, IsPathOf, IsPlainRun, IsShownFor, form_in, known_bytes, path_texts, texts_in_file, has_line_numbers, has_names, has_numbers, is_colored, is_each, look_in, names_in, opened_in, rule_in}
@@ -183,7 +183,7 @@ run_shown o taken p q known text any none are paths is_one is_two shown = files_
     shows = λ i name line bytes text any.
         let head = head_in (is_array (form_in (are.shown i))) (are.layout i) (has_names_is o are i) (has_line_numbers_is o are i) (has_numbers_is o are i) name line in
         let each = AreAnswersOn builtin_functions (p ∷ q ∷ []) (look i) head bytes in
-        MatchBool (is_table (are.shown i)) (IsRowOn builtin_functions (p ∷ q ∷ []) (are.end i) (first_cells (has_names_is o are i) (has_line_numbers_is o are i) name line) bytes text any)
+        MatchBool (is_table (are.shown i)) (IsRowOn builtin_functions (p ∷ q ∷ []) (row_line (are.shown i) (are.end i)) (first_cells (has_names_is o are i) (has_line_numbers_is o are i) name line) bytes text any)
         (MatchBool (is_array (form_in (are.shown i))) (IsArrayOf (look i).output each text any) (each text any))
 
 -- two texts were read as two paths

@@ -1,7 +1,7 @@
 use Rattle.jpq_program.proofs.Words.{◌∙◌, ◌++◌, Bool, ap, refl, array_end, each_by, each_in_part_by, all_in_part_by, end_text, string_bytes}
-use Rattle.jpq_program.proofs.Arrays.{array_answered, array_as_all, array_begun, array_begun_as_all}
+use Rattle.jpq_program.proofs.Arrays.{array_answered, array_as_all, array_begun, array_begun_as_all, array_left}
 use Rattle.jpq_program.proofs.Sending.{no_all_by}
-use Rattle.jpq_program.proofs.Shown.{answered_begun, begun_still, nothing_begun}
+use Rattle.jpq_program.proofs.Shown.{nothing_begun}
 use Rattle.jpq_program.proofs.answering.Answering.answer_array.Goals as goal
 
 pub returns-clause-answered : goal.returns-clause-answered
@@ -22,22 +22,16 @@ returns-clause-begun g c = λ are plain is left.
     let name = c.args.document.source.name.now in
     let line = c.args.document.source.line in
     let bytes = c.args.document.bytes.now in
-    let each = c.in_ok-holds.ensures.answered are plain left in
-    let parts = each_in_part_by c.args.self.now name line bytes in
     array_begun_as_all g.W.Write.contents c.args.self.now name line bytes c.args.streams.now (record c.answer_each.new.streams { pending = c.push_array_end.new.to }) is
-    (array_begun g.W.Write.contents c.args.self.now.showing.output parts c.args.streams.now (record c.args.streams.now { pending = c.push_str.new.self }) (record c.answer_each.new.streams { pending = c.push_array_end.new.to }) refl c.in_ok-push_str.ensures.bytes
-    (begun_still g.W.Write.contents parts (record c.args.streams.now { pending = c.push_str.new.self }) c.answer_each.new.streams (record c.answer_each.new.streams { pending = c.push_array_end.new.to }) (answered_begun g.W.Write.contents (each_by c.args.self.now name line bytes) parts (record c.args.streams.now { pending = c.push_str.new.self }) c.answer_each.new.streams each.0) refl))
+    (array_left g.W.Write.contents c.args.self.now.showing.output (each_by c.args.self.now name line bytes) (each_in_part_by c.args.self.now name line bytes) c.args.streams.now (record c.args.streams.now { pending = c.push_str.new.self }) c.answer_each.new.streams (record c.answer_each.new.streams { pending = c.push_array_end.new.to }) refl c.in_ok-push_str.ensures.bytes (c.in_ok-holds.ensures.answered are plain left).0 refl)
 
 pub returns-in_err-push_array_end-clause-begun : goal.returns-in_err-push_array_end-clause-begun
 returns-in_err-push_array_end-clause-begun g c = λ are plain is left.
     let name = c.args.document.source.name.now in
     let line = c.args.document.source.line in
     let bytes = c.args.document.bytes.now in
-    let each = c.in_ok-holds.ensures.answered are plain left in
-    let parts = each_in_part_by c.args.self.now name line bytes in
     array_begun_as_all g.W.Write.contents c.args.self.now name line bytes c.args.streams.now (record c.answer_each.new.streams { pending = c.push_array_end.new.to }) is
-    (array_begun g.W.Write.contents c.args.self.now.showing.output parts c.args.streams.now (record c.args.streams.now { pending = c.push_str.new.self }) (record c.answer_each.new.streams { pending = c.push_array_end.new.to }) refl c.in_ok-push_str.ensures.bytes
-    (begun_still g.W.Write.contents parts (record c.args.streams.now { pending = c.push_str.new.self }) c.answer_each.new.streams (record c.answer_each.new.streams { pending = c.push_array_end.new.to }) (answered_begun g.W.Write.contents (each_by c.args.self.now name line bytes) parts (record c.args.streams.now { pending = c.push_str.new.self }) c.answer_each.new.streams each.0) refl))
+    (array_left g.W.Write.contents c.args.self.now.showing.output (each_by c.args.self.now name line bytes) (each_in_part_by c.args.self.now name line bytes) c.args.streams.now (record c.args.streams.now { pending = c.push_str.new.self }) c.answer_each.new.streams (record c.answer_each.new.streams { pending = c.push_array_end.new.to }) refl c.in_ok-push_str.ensures.bytes (c.in_ok-holds.ensures.answered are plain left).0 refl)
 
 pub returns-in_err-holds-clause-begun : goal.returns-in_err-holds-clause-begun
 returns-in_err-holds-clause-begun g c = λ are plain is left.

@@ -1,6 +1,8 @@
-use Rattle.jpq_program.proofs.Words.{◌∙◌, ◌++◌, ◌∷◌, List, [], ℕ, JsonPath, ap, append_assoc, append-nil, end_text, first_cells, map, map_push, refl, row_text, string_bytes, subst, sym, take, take_all, true, AskedPath}
+use Rattle.jpq_program.proofs.Words.{◌∙◌, ◌++◌, ◌∷◌, List, [], ℕ, JsonPath, ap, append_assoc, append-nil, first_cells, map, map_push, refl, row_line, string_bytes, subst, sym, take, take_all, true, AskedPath}
 use Rattle.jpq_program.proofs.Nodes.{further_mapped}
-use Rattle.jpq_program.proofs.Cells.{FindsCells, cells_found, no_cells, ok_where, row_answered}
+use Rattle.jpq_program.proofs.Cells.{FindsCells, cells_found, line_is, no_cells, row_answered}
+use Rattle.jpq_program.proofs.Shown.{on_ok_then}
+use Rattle.jpq_program.specs.Inside.{separated}
 use Rattle.jpq_program.proofs.answering.Answering.answer_row.Goals as goal
 
 pub loop-path-init : goal.loop-path-init
@@ -23,9 +25,10 @@ loop-path-preserved g c = (
 )
 
 pub returns-clause-answered : goal.returns-clause-answered
-returns-clause-answered g c = ok_where c.push_row.result _ _ _ c.push_row.ensures.row (λ tab pushed are left.
+returns-clause-answered g c = on_ok_then c.push_row.result _ _ c.push_row.ensures.row (λ pushed _ is are left.
     let held = c.loop-path.invariant.1 are left in
     let firsts = first_cells c.args.self.now.heads.file c.args.self.now.heads.line c.args.document.source.name.now c.args.document.source.line in
-    row_answered g.W.Write.contents (map (λ (p : AskedPath). p.path) c.args.self.now.paths.now) c.args.self.now.showing.output.end firsts held.0 c.args.document.bytes.now c.args.streams.now c.loop-path.streams c.push_row.new.streams
+    row_answered g.W.Write.contents (map (λ (p : AskedPath). p.path) c.args.self.now.paths.now) (row_line c.args.self.now.shown c.args.self.now.showing.output.end) firsts held.0 c.args.document.bytes.now c.args.streams.now c.loop-path.streams c.push_row.new.streams
     (subst (λ (paths : List AskedPath). FindsCells c.args.self.now.silent c.args.document.bytes.now (map (λ (p : AskedPath). p.path) paths) held.0 c.args.streams.now c.loop-path.streams) (take_all c.loop-path.path-index c.args.self.now.paths.now c.loop-path-test.false) held.2)
-    c.push_row.ensures.kept (pushed ∙ ap (λ (cells : List (List ℕ)). string_bytes c.loop-path.streams.pending ++ (row_text cells ++ end_text c.args.self.now.showing.output.end)) (ap (map string_bytes) c.as_slice.ensures.value ∙ held.1)))
+    c.push_row.ensures.kept (pushed ∙ ap (λ (cells : List (List ℕ)). string_bytes c.loop-path.streams.pending ++ separated c.args.separator c.args.self.now.showing.output.end cells) (ap (map string_bytes) c.as_slice.ensures.value ∙ held.1)
+    ∙ ap (λ (row : List ℕ). string_bytes c.loop-path.streams.pending ++ row) (line_is c.args.self.now.shown c.args.separator c.args.self.now.showing.output.end (firsts ++ held.0) is)))
