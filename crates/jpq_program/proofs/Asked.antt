@@ -1,8 +1,8 @@
 -- What options ask for, as documents are answered.
-use Rattle.jpq_program.proofs.Words.{◌≡◌, ◌∙◌, ◌&&◌, ◌||◌, ℕ, Bool, true, false, List, [], Option, None, length, length-map, map, not, refl, sym, ap, subst, string_bytes, Appends, AreInputsShown, AreKnown, ArePaths, IsAnswered, IsShownInPart, IsShownOn, cells_for, head_for, Outcome, names_in, rule_in, status_of, Answered, AppendsBeginning, AskedPath, Answering, Begins, IsAnsweredInPart, IsShownInPartFor, SendsFor, Shown, inr, ◌++◌, Documents, Heads, IsPlain, IsShownFor, JsonPath, Keeps, IfSome, Nodes, OptionShown, Options, Output, Colours, Csv, Tsv, Form, IsRowInPart, IsRowOn, Look, MatchBool, first_cells, row_line, look_in, has_palette, Streams, builtin_functions, form_in, has_counts, has_nodes, head_by, heads_in, is_each, is_plain_answer, is_table, output_in, path_tree, shows_places, LocationAndValue, Value, Raw, Location, Pointer, Json, Count, Nothing, path_texts, ◌⊎◌, AnswersRun, Ends, IfMore, IsKnownRun, IsUsualRun, More, Next, SendsUntil, arith, common_steps, nat_tests, inl, is_quiet}
+use Rattle.jpq_program.proofs.Words.{AreAllInPart, AreAllShown, IsAfter, header_cells, header_for, if◌then◌else◌, texts_asked, ◌≡◌, ◌∙◌, ◌&&◌, ◌||◌, ℕ, Bool, true, false, List, [], Option, None, length, length-map, map, not, refl, sym, ap, subst, string_bytes, Appends, AreInputsShown, AreKnown, ArePaths, IsAnswered, IsShownInPart, IsShownOn, cells_for, head_for, Outcome, names_in, rule_in, status_of, Answered, AppendsBeginning, AskedPath, Answering, Begins, IsAnsweredInPart, IsShownInPartFor, SendsFor, Shown, inr, ◌++◌, Documents, Heads, IsPlain, JsonPath, Keeps, IfSome, Nodes, OptionShown, Options, Output, Colours, Csv, Tsv, Form, IsRowInPart, IsRowOn, Look, MatchBool, first_cells, row_line, look_in, has_palette, Streams, builtin_functions, form_in, has_counts, has_nodes, head_by, heads_in, is_each, is_plain_answer, is_table, output_in, path_tree, shows_places, LocationAndValue, Value, Raw, Location, Pointer, Json, Count, Nothing, path_texts, ◌⊎◌, AnswersRun, Ends, IfMore, IsKnownRun, IsUsualRun, More, Next, SendsUntil, arith, common_steps, nat_tests, inl, is_quiet}
 use Rattle.jpq_program.proofs.Ended.{sent_out, status_is}
 use Rattle.jpq_program.proofs.Sending.{no_named, no_shown}
-use Rattle.jpq_program.proofs.Shown.{answered_since, begun_since, nothing_begun}
+use Rattle.jpq_program.proofs.Shown.{answered_since, begun_since, none_begun_of}
 use Rattle.jpq_program.specs.Run.{is_colored}
 
 -- ---- plain answers
@@ -81,44 +81,52 @@ InPart shown paths look heads name number bytes text any = MatchBool (is_table s
 heads_as_asked : (options : Options) (asked : List AskedPath) (heads : Heads) → heads ≡ heads_in options (length asked) → heads ≡ heads_in options (length (map (λ (path : AskedPath). path.path) asked))
 heads_as_asked options asked heads is = is ∙ ap (heads_in options) (sym (length-map asked (λ (path : AskedPath). path.path)))
 
+-- the first row and what is shown of the inputs, by how they are shown
+abbrev Header : Options → Look → Heads → List (List ℕ) → List ℕ
+Header options look heads texts = if options.header && is_table options.shown then row_line options.shown look.output.end (header_cells heads.file heads.line texts) else []
+
+abbrev AllWhole : Options → List JsonPath → Look → Heads → List (List ℕ) → (List ℕ → Option (List ℕ)) → List ℕ → Bool → Type 0
+AllWhole options paths look heads texts bytes_of text any = IsAfter (Header options look heads texts) (AreInputsShown (Whole options.shown paths look heads) options.lines bytes_of (names_in options)) text any
+
+abbrev AllInPart : Options → List JsonPath → Look → Heads → List (List ℕ) → (List ℕ → Option (List ℕ)) → List ℕ → Bool → Type 0
+AllInPart options paths look heads texts bytes_of text any = IsAfter (Header options look heads texts) (AreInputsShown (InPart options.shown paths look heads) options.lines bytes_of (names_in options)) text any
+
 pub sent_for : {W E : Type 0} (contents : W → Option (List ℕ)) (options : Options) (taken : Bool) (next : Next) (asked : List AskedPath) (look : Look) (heads : Heads) (bytes_of : List ℕ → Option (List ℕ)) (before start now : Streams W E)
-    → look ≡ look_in options taken → heads ≡ heads_in options (length asked) → start.out ≡ before.out → start.pending ≡ before.pending → start.outcome ≡ before.outcome → (options.silent ≡ true → start.err ≡ before.err)
-    → SendsUntil options.silent contents look.output.form next (AreInputsShown (Whole options.shown (map (λ (path : AskedPath). path.path) asked) look heads) options.lines bytes_of (names_in options))
-    (AreInputsShown (InPart options.shown (map (λ (path : AskedPath). path.path) asked) look heads) options.lines bytes_of (names_in options)) start now
+    → look ≡ look_in options taken → heads ≡ heads_in options (length asked) → texts_asked asked ≡ path_texts bytes_of options → start.out ≡ before.out → start.pending ≡ before.pending → start.outcome ≡ before.outcome → (options.silent ≡ true → start.err ≡ before.err)
+    → SendsUntil options.silent contents look.output.form next (AllWhole options (map (λ (path : AskedPath). path.path) asked) look heads (texts_asked asked) bytes_of) (AllInPart options (map (λ (path : AskedPath). path.path) asked) look heads (texts_asked asked) bytes_of) start now
     → SendsFor contents options taken next (map (λ (path : AskedPath). path.path) asked) bytes_of before now
-sent_for contents options taken next asked look heads bytes_of before start now look_is heads_is out pending outcome err sent = (
+sent_for contents options taken next asked look heads bytes_of before start now look_is heads_is texts_are out pending outcome err sent = (
   subst (λ (l : Look). Ends l.output.form next now) look_is sent.0,
   (
-    answered_since contents (IfMore next (AreInputsShown (IsShownFor options taken paths) options.lines bytes_of names)) (AreInputsShown (IsShownInPartFor options taken paths) options.lines bytes_of names) before start now out pending outcome err
-        (subst (λ (h : Heads). Answered options.silent contents (IfMore next (AreInputsShown (Whole options.shown paths (look_in options taken) h) options.lines bytes_of names)) (AreInputsShown (InPart options.shown paths (look_in options taken) h) options.lines bytes_of names) start now) (heads_as_asked options asked heads heads_is)
-        (subst (λ (l : Look). Answered options.silent contents (IfMore next (AreInputsShown (Whole options.shown paths l heads) options.lines bytes_of names)) (AreInputsShown (InPart options.shown paths l heads) options.lines bytes_of names) start now) look_is sent.1.0)),
+    answered_since contents (IfMore next (AreAllShown options taken paths bytes_of)) (AreAllInPart options taken paths bytes_of) before start now out pending outcome err
+        (subst (λ (t : List (List ℕ)). Answered options.silent contents (IfMore next (AllWhole options paths (look_in options taken) (heads_in options (length paths)) t bytes_of)) (AllInPart options paths (look_in options taken) (heads_in options (length paths)) t bytes_of) start now) texts_are
+        (subst (λ (h : Heads). Answered options.silent contents (IfMore next (AllWhole options paths (look_in options taken) h (texts_asked asked) bytes_of)) (AllInPart options paths (look_in options taken) h (texts_asked asked) bytes_of) start now) (heads_as_asked options asked heads heads_is)
+        (subst (λ (l : Look). Answered options.silent contents (IfMore next (AllWhole options paths l heads (texts_asked asked) bytes_of)) (AllInPart options paths l heads (texts_asked asked) bytes_of) start now) look_is sent.1.0))),
     sent.1.1,
   ),
 )
   where
-    names : List (List ℕ)
-    names = names_in options
-
     paths : List JsonPath
     paths = map (λ (path : AskedPath). path.path) asked
 
 pub begun_for : {W E : Type 0} (contents : W → Option (List ℕ)) (options : Options) (taken : Bool) (asked : List AskedPath) (look : Look) (heads : Heads) (bytes_of : List ℕ → Option (List ℕ)) (before start now : Streams W E)
-    → look ≡ look_in options taken → heads ≡ heads_in options (length asked) → start.out ≡ before.out → start.pending ≡ before.pending
-    → Begins contents (AreInputsShown (InPart options.shown (map (λ (path : AskedPath). path.path) asked) look heads) options.lines bytes_of (names_in options)) start now
-    → Begins contents (AreInputsShown (IsShownInPartFor options taken (map (λ (path : AskedPath). path.path) asked)) options.lines bytes_of (names_in options)) before now
-begun_for contents options taken asked look heads bytes_of before start now look_is heads_is out pending begun =
-    begun_since contents (AreInputsShown (IsShownInPartFor options taken paths) options.lines bytes_of (names_in options)) before start now out pending
-    (subst (λ (h : Heads). Begins contents (AreInputsShown (InPart options.shown paths (look_in options taken) h) options.lines bytes_of (names_in options)) start now) (heads_as_asked options asked heads heads_is)
-    (subst (λ (l : Look). Begins contents (AreInputsShown (InPart options.shown paths l heads) options.lines bytes_of (names_in options)) start now) look_is begun))
+    → look ≡ look_in options taken → heads ≡ heads_in options (length asked) → texts_asked asked ≡ path_texts bytes_of options → start.out ≡ before.out → start.pending ≡ before.pending
+    → Begins contents (AllInPart options (map (λ (path : AskedPath). path.path) asked) look heads (texts_asked asked) bytes_of) start now
+    → Begins contents (AreAllInPart options taken (map (λ (path : AskedPath). path.path) asked) bytes_of) before now
+begun_for contents options taken asked look heads bytes_of before start now look_is heads_is texts_are out pending begun =
+    begun_since contents (AreAllInPart options taken paths bytes_of) before start now out pending
+    (subst (λ (t : List (List ℕ)). Begins contents (AllInPart options paths (look_in options taken) (heads_in options (length paths)) t bytes_of) start now) texts_are
+    (subst (λ (h : Heads). Begins contents (AllInPart options paths (look_in options taken) h (texts_asked asked) bytes_of) start now) (heads_as_asked options asked heads heads_is)
+    (subst (λ (l : Look). Begins contents (AllInPart options paths l heads (texts_asked asked) bytes_of) start now) look_is begun)))
   where
     paths : List JsonPath
     paths = map (λ (path : AskedPath). path.path) asked
 
--- of inputs that are known nothing may be shown
+-- of inputs that are known nothing may be shown, and of the first row nothing is out
 pub nothing_for : {W E : Type 0} (contents : W → Option (List ℕ)) (options : Options) (taken : Bool) (paths : List JsonPath) (bytes_of : List ℕ → Option (List ℕ)) (before now : Streams W E) → AreKnown bytes_of (names_in options) → now.out ≡ before.out
-    → Begins contents (AreInputsShown (IsShownInPartFor options taken paths) options.lines bytes_of (names_in options)) before now
-nothing_for contents options taken paths bytes_of before now known same = nothing_begun contents (AreInputsShown (IsShownInPartFor options taken paths) options.lines bytes_of (names_in options)) before now
-    (no_named (IsShownInPartFor options taken paths) options.lines bytes_of (names_in options) (λ name number bytes. no_shown (is_table options.shown) paths (look_in options taken) (row_line options.shown options.end) (cells_for options name number) (head_for options (length paths) name number) bytes) known 1 false) same
+    → Begins contents (AreAllInPart options taken paths bytes_of) before now
+nothing_for contents options taken paths bytes_of before now known same = none_begun_of contents (AreAllInPart options taken paths bytes_of) (header_for options (path_texts bytes_of options) ++ []) false before now
+    ([], no_named (IsShownInPartFor options taken paths) options.lines bytes_of (names_in options) (λ name number bytes. no_shown (is_table options.shown) paths (look_in options taken) (row_line options.shown options.end) (cells_for options name number) (head_for options (length paths) name number) bytes) known 1 false, refl) same
 
 -- a run was answered
 pub run_answered : {W E : Type 0} (contents : W → Option (List ℕ)) (bytes_of : List ℕ → Option (List ℕ)) (options : Options) (taken : Bool) (next : Next) (asked : List AskedPath) (old start answer final : Streams W E)
@@ -175,7 +183,7 @@ plain_answered contents bytes_of options taken next before after each right run 
 pub run_begun : {W E : Type 0} (contents : W → Option (List ℕ)) (bytes_of : List ℕ → Option (List ℕ)) (options : Options) (taken : Bool) (asked : List AskedPath) (old start answer final : Streams W E)
     → ArePaths (rule_in options) (path_texts bytes_of options) (map (λ (path : AskedPath). path.path) asked)
     → start.out ≡ old.out → string_bytes start.pending ≡ [] → final.out ≡ answer.out
-    → Begins contents (AreInputsShown (IsShownInPartFor options taken (map (λ (path : AskedPath). path.path) asked)) options.lines bytes_of (names_in options)) start answer
+    → Begins contents (AreAllInPart options taken (map (λ (path : AskedPath). path.path) asked) bytes_of) start answer
     → IsAnsweredInPart contents bytes_of options taken old.out final.out
 run_begun {W} {E} contents bytes_of options taken asked old start answer final are out empty final_out begun = inr (
   map (λ (path : AskedPath). path.path) asked,

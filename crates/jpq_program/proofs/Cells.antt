@@ -1,5 +1,5 @@
 -- Rows of tables, cell by cell.
-use Rattle.jpq_program.proofs.Words.{◌≡◌, ◌∙◌, ◌||◌, ◌+◌, ◌<◌, ◌++◌, ◌∷◌, ℕ, Bool, true, false, List, [], Option, None, Some, String, Global, length, nat_lt, map, refl, sym, ap, subst, inl, inr, suc, ◌-◌, Err, IfOk, Ok, OnOk, Result, arith, is_some, length-append, length-map, length-take-le, nat_tests, take-append-le, take_all, append-nil, append_assoc, append_cancel_right, codes, flat_map, flat_map-append, if◌then◌else◌, string_bytes, true≢false, Adds, Answered, AreCells, Compact, Data, Finds, FunctionSet, IsAnswer, IsAsked, IsCellInPart, IsCellOf, IsCellOn, IsFirstOf, ArePieces, IsRowInPart, IsRowOn, IsText, Answering, AnswersAll, AnswersBy, AnswersRow, AreShownAs, Begins, Csv, MatchBool, Nodes, OptionShown, Tsv, all_by, all_in_part_by, asked_look, is_table, look_of, not, ◌&&◌, row_by, row_in_part_by, shown_in_part_by, JsonPath, LineEnd, Located, OnlyRefuses, Outcome, Raw, Selects, ShowsAs, Streams, builtin_functions, cell_look, cell_text, end_text, get_or, path_tree, row_line, row_text, take, with_most, with_rule_of}
+use Rattle.jpq_program.proofs.Words.{◌≡◌, ◌∙◌, ◌||◌, ◌+◌, ◌<◌, ◌++◌, ◌∷◌, ℕ, Bool, true, false, List, [], Option, None, Some, String, Global, length, nat_lt, map, refl, sym, ap, subst, inl, inr, suc, ◌-◌, Ok, Result, arith, is_some, length-append, length-map, length-take-le, nat_tests, take-append-le, take_all, append-nil, append_assoc, append_cancel_right, codes, flat_map, flat_map-append, if◌then◌else◌, string_bytes, true≢false, Adds, Answered, AreCells, Compact, Data, Finds, FunctionSet, IsAnswer, IsAsked, IsCellInPart, IsCellOf, IsCellOn, IsFirstOf, ArePieces, IsRowInPart, IsRowOn, IsText, Answering, AnswersAll, AnswersBy, AnswersRow, AreShownAs, Begins, Csv, MatchBool, Nodes, OptionShown, Tsv, all_by, all_in_part_by, asked_look, is_table, look_of, row_by, row_in_part_by, shown_in_part_by, JsonPath, LineEnd, Located, OnlyRefuses, Outcome, Raw, Selects, ShowsAs, Streams, builtin_functions, cell_look, cell_text, get_or, path_tree, row_line, row_text, take, with_most, with_rule_of}
 use Rattle.jpq_program.specs.Inside.{separated, separator_in}
 use Rattle.jpq_program.specs.declared.rows.Separator.{Separator}
 use Rattle.jpq_program.specs.declared.rows.Separator.TheVariants.{Comma, Tab}

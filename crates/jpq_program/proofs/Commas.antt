@@ -1,7 +1,7 @@
 -- Rows of cells with commas between are UTF-8, as their cells are.
-use Rattle.jpq_program.proofs.Words.{◌≡◌, ◌∙◌, ◌==◌, ◌&&◌, ◌++◌, ◌∷◌, ℕ, Bool, true, false, List, [], String, Global, refl, sym, ap, subst, not, arith, common_steps, nat_tests, append-nil, append_assoc, if◌then◌else◌, length, map, string_bytes, IsUtf8, LineEnd, LineFeed, Nul, comma_rows}
+use Rattle.jpq_program.proofs.Words.{◌≡◌, ◌∙◌, ◌==◌, ◌&&◌, ◌++◌, ◌∷◌, ℕ, Bool, true, false, List, [], String, Global, refl, sym, ap, subst, not, arith, common_steps, nat_tests, if◌then◌else◌, map, string_bytes, IsUtf8, LineEnd, LineFeed, Nul, comma_rows}
 use Rattle.std.proofs.Math.Utf8.{encode, encodes, scalar, scalars}
-use Rattle.std.proofs.lemmas.Str.{IsUtf8-append, IsUtf8-encode, IsUtf8-nil, IsUtf8-string_bytes, encodes-append}
+use Rattle.std.proofs.lemmas.Str.{IsUtf8-append, IsUtf8-encode, IsUtf8-nil, IsUtf8-string_bytes}
 use Rattle.std.specs.List.{list_all}
 use Rattle.csv.specs.Writing as csv
 use Rattle.csv.specs.Writing.{by_style, escaped, field_text, fields_text, is_blank, needs_quotes, quoted, row_body}

@@ -1,6 +1,7 @@
 -- Runs that show nothing, and answer whether there is a node.
-use Rattle.jpq_program.proofs.Words.{◌≡◌, ◌∙◌, ◌≤◌, ◌⊎◌, ◌++◌, ◌∷◌, ℕ, Bool, true, false, List, [], Option, Result, Ok, Err, inl, inr, refl, sym, ap, subst, arith, common_steps, nat_tests, true≢false, Appends, AppendsBeginning, AnswersRun, AreAnswersInPart, AreEach, AreInputsShown, Ends, Form, FunctionSet, IsAnsweredInPart, IsAnswerInPart, IsFound, IsInputShown, IsLineShown, IsNamedShown, IsQuietRun, IsShownInPartFor, JsonPath, MatchBool, More, Next, Nothing, Options, Outcome, Output, Shown, Stop, Streams, AreLines, AreLinesIn, ArePieces, IsArrayOf, IsRowInPart, IsShownInPart, OptionShown, cells_for, head_for, row_line, is_array, is_table, output_in, ◌||◌, Located, Look, look_in, has_nodes, is_blank, lines_of, names_in, status_after, strip_last, without_mark, ◌+◌, IsShownFor, form_in, builtin_functions, chosen, length}
+use Rattle.jpq_program.proofs.Words.{◌&&◌, AreAllInPart, header_cells, header_for, path_texts, if◌then◌else◌, ◌≡◌, ◌∙◌, ◌≤◌, ◌⊎◌, ◌++◌, ◌∷◌, ℕ, Bool, true, false, List, [], Option, Result, Ok, Err, inl, inr, refl, sym, ap, subst, arith, common_steps, nat_tests, true≢false, Appends, AppendsBeginning, AnswersRun, AreAnswersInPart, AreEach, AreInputsShown, Ends, Form, FunctionSet, IsAnsweredInPart, IsAnswerInPart, IsFound, IsInputShown, IsLineShown, IsNamedShown, IsQuietRun, IsShownInPartFor, JsonPath, MatchBool, More, Next, Nothing, Options, Outcome, Output, Shown, Stop, Streams, AreLines, AreLinesIn, ArePieces, IsArrayOf, IsRowInPart, IsShownInPart, OptionShown, cells_for, head_for, row_line, is_array, is_table, output_in, ◌||◌, Located, Look, look_in, has_nodes, is_blank, lines_of, names_in, status_after, strip_last, without_mark, ◌+◌, IsShownFor, form_in, builtin_functions, chosen, length}
 use Rattle.jpq_program.proofs.Nodes.{appends_nothing}
+use Rattle.jpq_program.specs.Run.{has_line_numbers, has_names}
 
 -- ---- what is shown has no text
 
@@ -35,8 +36,8 @@ input_empty Is empty true name bytes text any are = each_empty (λ (number : ℕ
 input_empty Is empty false name bytes text any is = empty name 1 (without_mark bytes) text any is
 
 -- nothing is shown of the inputs of such a run
-quiet_text : (options : Options) (taken : Bool) (paths : List JsonPath) (bytes_of : List ℕ → Option (List ℕ)) (text : List ℕ) (any : Bool) → IsQuietRun options → AreInputsShown (IsShownInPartFor options taken paths) options.lines bytes_of (names_in options) text any → text ≡ []
-quiet_text options taken paths bytes_of text any quiet are =
+inputs_text : (options : Options) (taken : Bool) (paths : List JsonPath) (bytes_of : List ℕ → Option (List ℕ)) (text : List ℕ) (any : Bool) → IsQuietRun options → AreInputsShown (IsShownInPartFor options taken paths) options.lines bytes_of (names_in options) text any → text ≡ []
+inputs_text options taken paths bytes_of text any quiet are =
     each_empty (λ (number : ℕ) (later : Bool) (name : List ℕ). IsNamedShown (IsShownInPartFor options taken paths) options.lines bytes_of name)
     (λ number later name text any shown. input_empty (IsShownInPartFor options taken paths) document_empty options.lines name shown.0 text any shown.2) 1 false (names_in options) text any are
   where
@@ -48,6 +49,18 @@ quiet_text options taken paths bytes_of text any quiet are =
         let are = subst (λ (array : Bool). MatchBool array (((text ≡ []) × (any ≡ false)) ⊎ IsArrayOf (output_in options) each text any) (each text any)) (ap (λ (s : OptionShown). is_array (form_in s)) quiet.1) all in
         each_empty (λ (number : ℕ) (later : Bool) (path : JsonPath). IsAnswerInPart builtin_functions path (look_in options taken) later (head number) bytes)
         (λ number later path text any is. path_empty builtin_functions path (look_in options taken) later (head number) bytes text any (ap form_in quiet.1) is) 1 false paths text any are
+
+-- no row stands before
+quiet_header : (options : Options) (texts : List (List ℕ)) → IsQuietRun options → header_for options texts ≡ []
+quiet_header options texts quiet = ap (λ (s : OptionShown). if options.header && is_table s then row_line options.shown options.end (header_cells (has_names options) (has_line_numbers options) texts) else []) quiet.1 ∙ none options.header _
+  where
+    none : (b : Bool) (row : List ℕ) → (if b && false then row else []) ≡ []
+    none true row = refl
+    none false row = refl
+
+quiet_text : (options : Options) (taken : Bool) (paths : List JsonPath) (bytes_of : List ℕ → Option (List ℕ)) (text : List ℕ) (any : Bool) → IsQuietRun options → AreAllInPart options taken paths bytes_of text any → text ≡ []
+quiet_text options taken paths bytes_of text any quiet are =
+    are.2 ∙ ap (λ (first : List ℕ). first ++ are.0) (quiet_header options (path_texts bytes_of options) quiet) ∙ inputs_text options taken paths bytes_of are.0 any quiet are.1
 
 -- ---- what comes of such a run
 
@@ -86,15 +99,15 @@ quiet_goes_on form next after none (inr found) = absurd (true≢false (sym found
 pub quiet_found : {W E : Type 0} (contents : W → Option (List ℕ)) (bytes_of : List ℕ → Option (List ℕ)) (options : Options) (taken : Bool) (next : Next) (before after : Streams W E) (status : ℕ) → IsQuietRun options
     → (status ≡ 0 → after.outcome.selected ≡ true) → (status ≡ 1 → (after.outcome.selected ≡ false) × (after.outcome.refused ≡ false))
     → AnswersRun contents bytes_of options taken next before after → IsFound bytes_of options taken status
-quiet_found contents bytes_of options taken next before after status quiet found none run =
-    let empty = quiet_text options taken run.paths bytes_of run.text run.any quiet run.part in record {
-      paths = run.paths;
-      are = run.are;
-      found = λ zero. subst (λ (text : List ℕ). AreInputsShown (IsShownInPartFor options taken run.paths) options.lines bytes_of (names_in options) text true) empty
-          (subst (AreInputsShown (IsShownInPartFor options taken run.paths) options.lines bytes_of (names_in options) run.text) (sym run.selected ∙ found zero) run.part);
-      none = λ one.
-          let nothing = none one in
-          let whole = run.whole nothing.1 (quiet_goes_on _ next after nothing.0 run.ends) in
-          subst (λ (text : List ℕ). AreInputsShown (IsShownFor options taken run.paths) options.lines bytes_of (names_in options) text false) empty
-          (subst (AreInputsShown (IsShownFor options taken run.paths) options.lines bytes_of (names_in options) run.text) (sym run.selected ∙ nothing.0) whole);
-    }
+quiet_found contents bytes_of options taken next before after status quiet found none run = record {
+  paths = run.paths;
+  are = run.are;
+  found = λ zero. subst (λ (text : List ℕ). AreInputsShown (IsShownInPartFor options taken run.paths) options.lines bytes_of (names_in options) text true) (inputs_text options taken run.paths bytes_of run.part.0 run.any quiet run.part.1)
+      (subst (AreInputsShown (IsShownInPartFor options taken run.paths) options.lines bytes_of (names_in options) run.part.0) (sym run.selected ∙ found zero) run.part.1);
+  none = λ one.
+      let nothing = none one in
+      let whole = run.whole nothing.1 (quiet_goes_on _ next after nothing.0 run.ends) in
+      let rest : whole.0 ≡ [] = sym (whole.2 ∙ ap (λ (first : List ℕ). first ++ whole.0) (quiet_header options (path_texts bytes_of options) quiet)) ∙ quiet_text options taken run.paths bytes_of run.text run.any quiet run.part in
+      subst (λ (text : List ℕ). AreInputsShown (IsShownFor options taken run.paths) options.lines bytes_of (names_in options) text false) rest
+      (subst (AreInputsShown (IsShownFor options taken run.paths) options.lines bytes_of (names_in options) whole.0) (sym run.selected ∙ nothing.0) whole.1);
+}

@@ -1,10 +1,10 @@
 -- What is sent of inputs, one after the other.
-use Rattle.jpq_program.proofs.Words.{◌≡◌, ◌∙◌, ◌+◌, ◌==◌, ◌<◌, ℕ, Bool, true, false, List, [], ◌∷◌, ◌++◌, None, Option, length, length-append, refl, sym, ap, subst, append-nil, append_assoc, arith, string_bytes, Answering, AreAnswersInPart, IsAnswerInPart, Look, look_of, IsArrayInPart, IsRowInPart, IsShownInPart, first_cells, row_line, ◌||◌, is_table, paths_in, JsonPath, builtin_functions, head_by, inl, all_in_part_by, shown_in_part_by, AreEach, AreInputsShown, AreKnown, Answered, Begins, Bor, IsInputShown, IsNamedShown, More, Next, get_or, get_or-map, length-map, map, suc, take, zero, IsLineShown, OnlyNotes, OnlyRefuses, Sends, Shown, Streams, drop_through, Global, IfSome, Some, MatchBool, if◌then◌else◌, is_array, is_blank, lines_of, strip_last, take_through, with_byte, without_mark, Form, IfMore, SendsUntil, Ends, drop}
+use Rattle.jpq_program.proofs.Words.{IsAfter, IsHeader, header_by, ◌≡◌, ◌∙◌, ◌+◌, ◌==◌, ◌<◌, ℕ, Bool, true, false, List, [], ◌∷◌, ◌++◌, None, Option, length, length-append, refl, sym, ap, subst, append-nil, append_assoc, arith, string_bytes, Answering, AreAnswersInPart, IsAnswerInPart, Look, look_of, IsArrayInPart, IsRowInPart, IsShownInPart, first_cells, row_line, ◌||◌, is_table, paths_in, JsonPath, builtin_functions, head_by, inl, all_in_part_by, shown_in_part_by, AreEach, AreInputsShown, AreKnown, Answered, Begins, Bor, IsInputShown, IsNamedShown, More, Next, get_or, get_or-map, length-map, map, suc, take, zero, IsLineShown, OnlyNotes, OnlyRefuses, Sends, Shown, Streams, drop_through, Global, IfSome, Some, MatchBool, if◌then◌else◌, is_array, is_blank, lines_of, strip_last, take_through, with_byte, without_mark, Form, IfMore, SendsUntil, Ends, drop}
 use Rattle.std.specs.Io.Buffered.{reader_buffer, reader_capacity, reader_inner, reader_remaining}
 use Rattle.std.specs.Io.KnownBytes.{prepend_known}
 use Rattle.std.specs.declared.io.buffered.BufReader.{BufReader}
-use Rattle.jpq_program.proofs.Nodes.{adds_nothing, split_mapped}
-use Rattle.jpq_program.proofs.Shown.{answered_as, answered_further, answered_noted, begun_as, begun_further, begun_still, answered_begun, answered_refused, each_nothing, each_rest, mapped_begun, mapped_further, none_answered, or_false, answered_until, mapped_until, if_more}
+use Rattle.jpq_program.proofs.Nodes.{adds_nothing, begun_after, split_mapped}
+use Rattle.jpq_program.proofs.Shown.{answered_as, answered_both, answered_further, answered_noted, begun_as, begun_further, begun_still, answered_begun, answered_refused, each_nothing, each_rest, mapped_begun, mapped_further, none_answered, or_false, answered_until, mapped_until, if_more}
 
 -- a text was sent, and the run goes on
 pub goes_on : {W E : Type 0} {silent : Bool} (contents : W → Option (List ℕ)) (form : Form) (Is IsPart : List ℕ → Bool → Type 0) (next : Next) (before now : Streams W E) → next ≡ More → Sends silent contents Is IsPart before now → SendsUntil silent contents form next Is IsPart before now
@@ -303,3 +303,36 @@ input_until {silent = silent} contents form Is IsPart Other lines bytes_of bytes
         sent.1.1,
       ),
     )
+
+-- ---- what is sent after a first row
+
+after_both : (first : List ℕ) (Is : List ℕ → Bool → Type 0) (text own : List ℕ) (any one : Bool) → text ≡ first → any ≡ false → Is own one → IsAfter first Is (text ++ own) (any || one)
+after_both first Is text own any one these none is = (own, subst (Is own) (sym (ap (λ (b : Bool). b || one) none)) is, ap (λ (t : List ℕ). t ++ own) these)
+
+pub sends_after : {W E : Type 0} (contents : W → Option (List ℕ)) (answering : Answering) (is_wanted : Bool) (form : Form) (Is IsPart : List ℕ → Bool → Type 0) (next : Next) (before old now : Streams W E) → Sends answering.silent contents (IsHeader answering is_wanted) (IsHeader answering is_wanted) before old
+    → SendsUntil answering.silent contents form next Is IsPart old now → SendsUntil answering.silent contents form next (IsAfter (header_by answering is_wanted) Is) (IsAfter (header_by answering is_wanted) IsPart) before now
+sends_after contents answering is_wanted form Is IsPart next before old now head sent =
+    let first = header_by answering is_wanted in (
+      sent.0,
+      (
+        answered_both contents (IsHeader answering is_wanted) (IsHeader answering is_wanted) (IfMore next Is) IsPart (IfMore next (IsAfter first Is)) (IsAfter first IsPart) before old now head.0
+            (λ own one is shown more. after_both first Is head.0.text own head.0.any one is.0 is.1 (shown more))
+            (λ own one shown. after_both first IsPart head.0.text own head.0.any one head.0.part.0 head.0.part.1 shown) sent.1.0,
+        sent.1.1,
+      ),
+    )
+
+pub begins_after : {W E : Type 0} (contents : W → Option (List ℕ)) (answering : Answering) (is_wanted : Bool) (IsPart : List ℕ → Bool → Type 0) (before old now : Streams W E) → Sends answering.silent contents (IsHeader answering is_wanted) (IsHeader answering is_wanted) before old
+    → Begins contents IsPart old now → Begins contents (IsAfter (header_by answering is_wanted) IsPart) before now
+begins_after contents answering is_wanted IsPart before old now head begun = (
+  head.0.text ++ begun.0,
+  head.0.any || begun.1,
+  after_both (header_by answering is_wanted) IsPart head.0.text begun.0 head.0.any begun.1 head.0.part.0 head.0.part.1 begun.2,
+  begun_after (contents before.out) (contents old.out) (contents now.out) (string_bytes before.pending) (string_bytes old.pending) head.0.text begun.0 head.0.writes begun.3,
+)
+
+-- of the row alone
+pub header_begun : {W E : Type 0} (contents : W → Option (List ℕ)) (answering : Answering) (is_wanted : Bool) (IsPart : List ℕ → Bool → Type 0) (before now : Streams W E) → IsPart [] false → Begins contents (IsHeader answering is_wanted) before now
+    → Begins contents (IsAfter (header_by answering is_wanted) IsPart) before now
+header_begun contents answering is_wanted IsPart before now none begun = begun_as contents (IsHeader answering is_wanted) (IsAfter (header_by answering is_wanted) IsPart) before now
+    (λ text any is. ([], subst (IsPart []) (sym is.1) none, is.0 ∙ sym (append-nil (header_by answering is_wanted)))) begun

@@ -215,10 +215,13 @@ nothing_answered {W} {E} contents Is IsPart before now part kept refused left = 
   told = λ silent right. absurd (true≢false (sym refused ∙ right));
 }
 
--- nothing is out that was not before
+-- nothing is out that was not before, of some text, or of none
+pub none_begun_of : {W E : Type 0} (contents : W → Option (List ℕ)) (IsPart : List ℕ → Bool → Type 0) (text : List ℕ) (any : Bool) (before now : Streams W E) → IsPart text any → now.out ≡ before.out → Begins contents IsPart before now
+none_begun_of {W} contents IsPart text any before now part same =
+    (text, any, part, subst (λ (o : W). AppendsBeginning (contents before.out) (contents o) (string_bytes before.pending ++ text)) (sym same) (none_begun (contents before.out) (string_bytes before.pending ++ text)))
+
 pub nothing_begun : {W E : Type 0} (contents : W → Option (List ℕ)) (IsPart : List ℕ → Bool → Type 0) (before now : Streams W E) → IsPart [] false → now.out ≡ before.out → Begins contents IsPart before now
-nothing_begun {W} contents IsPart before now part same =
-    ([], false, part, subst (λ (o : W). AppendsBeginning (contents before.out) (contents o) (string_bytes before.pending ++ [])) (sym same) (none_begun (contents before.out) (string_bytes before.pending ++ [])))
+nothing_begun contents IsPart before now part same = none_begun_of contents IsPart [] false before now part same
 
 -- of what was added a beginning is out
 pub answered_begun : {W E : Type 0} {silent : Bool} (contents : W → Option (List ℕ)) (Is IsPart : List ℕ → Bool → Type 0) (before now : Streams W E) → Answered silent contents Is IsPart before now → Begins contents IsPart before now
@@ -325,7 +328,7 @@ each_rest Is number later [] rest text any none are = subst (λ (t : List ℕ). 
 each_rest Is number later (item ∷ items) rest text any none are = (are.0, are.1, are.2, are.3, are.4, each_rest Is (number + 1) (later || are.2) items rest are.1 are.3 none are.5, are.6, are.7)
 
 -- one text was added after another
-answered_both : {W E : Type 0} {silent : Bool} (contents : W → Option (List ℕ)) (Is IsPart Own OwnPart Both BothPart : List ℕ → Bool → Type 0) (before old now : Streams W E) (first : Answered silent contents Is IsPart before old)
+pub answered_both : {W E : Type 0} {silent : Bool} (contents : W → Option (List ℕ)) (Is IsPart Own OwnPart Both BothPart : List ℕ → Bool → Type 0) (before old now : Streams W E) (first : Answered silent contents Is IsPart before old)
     → ((own : List ℕ) (one : Bool) → Is first.text first.any → Own own one → Both (first.text ++ own) (first.any || one)) → ((own : List ℕ) (one : Bool) → OwnPart own one → BothPart (first.text ++ own) (first.any || one))
     → Answered silent contents Own OwnPart old now → Answered silent contents Both BothPart before now
 answered_both contents Is IsPart Own OwnPart Both BothPart before old now first step part second = record {

@@ -1,6 +1,7 @@
 -- What contracts of private functions cite alone.
 use Rattle.std.specs.Prelude.{◌≡◌, ◌+◌, ◌<◌, ◌≤◌, get_or, ◌⊎◌, Err, Ok, Result, codes, if◌then◌else◌, ℕ, Bool, true, false, not, ◌&&◌, ◌||◌, List, [], ◌∷◌, ◌++◌, map, MatchBool, Option, None, Some, String, IfSome, length, option_map, is_some, nat_lt, string_bytes}
 use Rattle.std.specs.Io.KnownBytes.{Appends}
+use Rattle.std.specs.List.{AllZip}
 use Rattle.std.specs.declared.alloc.Global.{Global}
 use Rattle.serde_json_path_nodes.specs.Location.{Located}
 use Rattle.jsonpath_lines.specs.Inside.{is_reached, once}
@@ -30,8 +31,8 @@ use Rattle.csv.specs.Writing as csv
 use Rattle.jsonpath_lines.specs.declared.forms.LineEnd.{LineEnd}
 use Rattle.jpq_program.specs.declared.rows.Separator.{Separator}
 use Rattle.jpq_program.specs.declared.rows.Separator.TheVariants.{Comma, Tab}
-use Rattle.jpq_program.specs.Rows.{comma_rows, IsRowInPart, IsRowOn, first_cells, row_line, row_text}
-use Rattle.jpq_program.specs.Run.{ArePaths, IsPlainRun, IsQuietRun, IsShownFor, IsShownInPartFor, form_in, has_line_numbers, has_names, has_numbers, names_in, path_texts, rule_in}
+use Rattle.jpq_program.specs.Rows.{comma_rows, header_cells, IsRowInPart, IsRowOn, first_cells, row_line, row_text}
+use Rattle.jpq_program.specs.Run.{AreAllInPart, AreAllShown, ArePaths, IsAfter, IsPathOf, IsPlainRun, IsQuietRun, form_in, has_line_numbers, has_names, has_numbers, path_texts, rule_in}
 use Rattle.jpq_options.specs.declared.options.Options.{Options}
 use Rattle.jpq_options.specs.declared.options.Shown.{Shown as OptionShown}
 use Rattle.jpq_options.specs.declared.options.Shown.TheVariants.{Csv, Nodes, Tsv}
@@ -91,9 +92,21 @@ Tells before after = after ≡ record before { err = after.err; outcome = record
 abbrev pub Reads : PathReading → PathReading → Type 0
 Reads before after = after ≡ record before { used = after.used }
 
+-- a text was read as a path that is asked
+abbrev pub IsAskedBy : Numbers → List ℕ → AskedPath → Type 0
+IsAskedBy rule text asked = IsPathOf rule text asked.path × (string_bytes asked.text ≡ text)
+
+-- the same of several texts
+abbrev pub AreAskedBy : Numbers → List (List ℕ) → List AskedPath → Type 0
+AreAskedBy rule texts asked = AllZip (IsAskedBy rule) texts asked
+
+-- the texts of paths that are asked
+abbrev pub texts_asked : List AskedPath → List (List ℕ)
+texts_asked asked = map (λ (path : AskedPath). string_bytes path.text) asked
+
 -- these texts were read as paths, after those that were read before
 abbrev pub ReadsFurther : Numbers → List (List ℕ) → List AskedPath → List AskedPath → Type 0
-ReadsFurther rule texts before after = (read : List AskedPath) × (after ≡ before ++ read) × ArePaths rule texts (map (λ path. path.path) read)
+ReadsFurther rule texts before after = (read : List AskedPath) × (after ≡ before ++ read) × AreAskedBy rule texts read
 
 -- what is shown of the path's result on a value was appended, and the count says how many nodes are chosen
 abbrev pub Counts : FunctionSet → JsonPath → Output → List ℕ → Data → List ℕ → List ℕ → ℕ → Type 0
@@ -324,6 +337,15 @@ abbrev pub shown_in_part_by : Answering → Shown
 shown_in_part_by answering name number bytes text any =
     MatchBool (is_table answering.shown) (row_in_part_by answering name number bytes text any) (all_in_part_by answering name number bytes text any)
 
+-- the row before all, where it is asked for
+abbrev pub header_by : Answering → Bool → List ℕ
+header_by answering is_wanted = if is_wanted && is_table answering.shown then row_line answering.shown answering.showing.output.end
+    (header_cells answering.heads.file answering.heads.line (texts_asked answering.paths.now)) else []
+
+-- it shows no node
+abbrev pub IsHeader : Answering → Bool → List ℕ → Bool → Type 0
+IsHeader answering is_wanted text any = (text ≡ header_by answering is_wanted) × (any ≡ false)
+
 -- what is shown of a document was added so, or sent
 abbrev pub AnswersEach : {W E : Type 0} → (W → Option (List ℕ)) → Answering → List ℕ → ℕ → List ℕ → Streams W E → Streams W E → Type 0
 AnswersEach contents answering name number bytes before after =
@@ -382,11 +404,16 @@ abbrev pub SendsInputs : {W E : Type 0} → (W → Option (List ℕ)) → Answer
 SendsInputs contents answering next lines bytes_of names before after = SendsUntil answering.silent contents answering.showing.output.form next
     (AreInputsShown (shown_by answering) lines bytes_of names) (AreInputsShown (shown_in_part_by answering) lines bytes_of names) before after
 
+-- the same after that row
+abbrev pub SendsAll : {W E : Type 0} → (W → Option (List ℕ)) → Answering → Bool → Next → Bool → (List ℕ → Option (List ℕ)) → List (List ℕ) → Streams W E → Streams W E → Type 0
+SendsAll contents answering is_wanted next lines bytes_of names before after = SendsUntil answering.silent contents answering.showing.output.form next
+    (IsAfter (header_by answering is_wanted) (AreInputsShown (shown_by answering) lines bytes_of names))
+    (IsAfter (header_by answering is_wanted) (AreInputsShown (shown_in_part_by answering) lines bytes_of names)) before after
+
 -- the same of what options ask for
 abbrev pub SendsFor : {W E : Type 0} → (W → Option (List ℕ)) → Options → Bool → Next → List JsonPath → (List ℕ → Option (List ℕ)) → Streams W E → Streams W E → Type 0
 SendsFor contents options taken next paths bytes_of before after = SendsUntil options.silent contents (form_in options.shown) next
-    (AreInputsShown (IsShownFor options taken paths) options.lines bytes_of (names_in options))
-    (AreInputsShown (IsShownInPartFor options taken paths) options.lines bytes_of (names_in options)) before after
+    (AreAllShown options taken paths bytes_of) (AreAllInPart options taken paths bytes_of) before after
 
 -- nothing is shown of nodes
 abbrev pub is_quiet : OptionShown → Bool
@@ -405,8 +432,8 @@ pub record AnswersRun {W E : Type 0} (contents : W → Option (List ℕ)) (bytes
   pub text : List ℕ
   pub any : Bool
   pub ends : Ends (form_in options.shown) next after
-  pub whole : after.outcome.refused ≡ false → next ≡ More → AreInputsShown (IsShownFor options taken paths) options.lines bytes_of (names_in options) text any
-  pub part : AreInputsShown (IsShownInPartFor options taken paths) options.lines bytes_of (names_in options) text any
+  pub whole : after.outcome.refused ≡ false → next ≡ More → AreAllShown options taken paths bytes_of text any
+  pub part : AreAllInPart options taken paths bytes_of text any
   pub out : Appends (contents before.out) (contents after.out) text
   pub selected : after.outcome.selected ≡ any
   pub told : options.silent ≡ true → after.outcome.refused ≡ false → after.err ≡ before.err

@@ -58,6 +58,11 @@ abbrev pub first_cells : Bool → Bool → List ℕ → ℕ → List (List ℕ)
 first_cells has_name has_line name line =
     (if has_name then shown_name name ∷ [] else []) ++ (if has_line then decimal line ∷ [] else [])
 
+-- the cells of the first row of a table, where it has one: `file` and `line` for those before the paths', and the texts of the paths
+abbrev pub header_cells : Bool → Bool → List (List ℕ) → List (List ℕ)
+header_cells has_name has_line texts =
+    ((if has_name then codes "file" ∷ [] else []) ++ (if has_line then codes "line" ∷ [] else [])) ++ texts
+
 -- ---- cells
 
 -- the cell of some nodes: the text of the first, of a string its own and of any other value its JSON, or nothing; and whether there

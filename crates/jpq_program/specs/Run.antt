@@ -25,7 +25,7 @@ use Rattle.jpq_program.specs.Answers.{IsShownInPart, IsShownOn}
 use Rattle.jpq_program.specs.Heads.{head_in}
 use Rattle.jpq_program.specs.Inputs.{AreInputsShown, AreKnown, Opens, OpensFirst, without_mark}
 use Rattle.jpq_program.specs.Looks.{Look, is_array}
-use Rattle.jpq_program.specs.Rows.{IsRowInPart, IsRowOn, first_cells, row_line}
+use Rattle.jpq_program.specs.Rows.{IsRowInPart, IsRowOn, first_cells, header_cells, row_line}
 use Rattle.jpq_program.specs.declared.colours.Colours.{Colours}
 use Rattle.jpq_program.specs.declared.streams.Streams.{Streams}
 
@@ -108,6 +108,15 @@ IsShownInPartFor options taken paths name number bytes text any = MatchBool (is_
     (IsRowInPart builtin_functions paths (row_line options.shown options.end) (cells_for options name number) bytes text any)
     (IsShownInPart builtin_functions paths (look_in options taken) (head_for options (length paths) name number) bytes text any)
 
+-- the row of a table that stands before all, where it is asked for, by the texts of the paths
+abbrev pub header_for : Options → List (List ℕ) → List ℕ
+header_for options texts = if options.header && is_table options.shown
+    then row_line options.shown options.end (header_cells (has_names options) (has_line_numbers options) texts) else []
+
+-- a first text, and what is shown after it
+abbrev pub IsAfter : List ℕ → (List ℕ → Bool → Type 0) → List ℕ → Bool → Type 0
+IsAfter first Is text any = (rest : List ℕ) × Is rest any × (text ≡ first ++ rest)
+
 -- the inputs' names, in order; `-` is standard input
 abbrev pub names_in : Options → List (List ℕ)
 names_in options = if nat_eq (length options.files.items) 0 then codes "-" ∷ [] else map (λ file. file.now) options.files.items
@@ -133,6 +142,16 @@ abbrev pub path_texts : (List ℕ → Option (List ℕ)) → Options → List (L
 path_texts bytes_of options = map (λ text. text.now) options.paths.items
     ++ flat_map (λ name. texts_in_file (known_bytes bytes_of name)) (path_files_in options)
 
+-- all that is shown for the paths: the first row, where it is asked for, and what is shown of the inputs
+abbrev pub AreAllShown : Options → Bool → List JsonPath → (List ℕ → Option (List ℕ)) → List ℕ → Bool → Type 0
+AreAllShown options taken paths bytes_of text any = IsAfter (header_for options (path_texts bytes_of options))
+    (AreInputsShown (IsShownFor options taken paths) options.lines bytes_of (names_in options)) text any
+
+-- the same where documents, or the queries of paths, may be refused
+abbrev pub AreAllInPart : Options → Bool → List JsonPath → (List ℕ → Option (List ℕ)) → List ℕ → Bool → Type 0
+AreAllInPart options taken paths bytes_of text any = IsAfter (header_for options (path_texts bytes_of options))
+    (AreInputsShown (IsShownInPartFor options taken paths) options.lines bytes_of (names_in options)) text any
+
 -- what a run opens: the files of paths, and then the inputs, unless paths are only checked
 abbrev pub opened_in : Options → List (List ℕ)
 opened_in options = path_files_in options ++ (if options.check then [] else names_in options)
@@ -151,10 +170,8 @@ abbrev pub is_each : Shown → Bool
 is_each (Nodes Nothing) = false
 is_each _ = true
 
--- Nodes are neither summed up nor bounded over all documents, and no row of names stands before them. In the paths no values are bound to
--- names, and they are not only checked.
+-- Nodes are neither summed up nor bounded over all documents. In the paths no values are bound to names, and they are not only checked.
 pub record IsUsualRun (options : Options) : Type 0 where
-  pub header : options.header ≡ false
   pub total : options.total ≡ false
   pub most_of_all : options.most_of_all ≡ None
   pub bindings : options.bindings.items ≡ []
@@ -173,7 +190,7 @@ pub record IsAnswered {W : Type 0} (contents : W → Option (List ℕ)) (bytes_o
   pub are : ArePaths (rule_in options) (path_texts bytes_of options) paths
   pub text : List ℕ
   pub any : Bool
-  pub shown : AreInputsShown (IsShownFor options taken paths) options.lines bytes_of (names_in options) text any
+  pub shown : AreAllShown options taken paths bytes_of text any
   pub out : Appends (contents before) (contents after) text
   pub ends : status ≡ (if any then 0 else 1)
 
@@ -182,7 +199,7 @@ pub record IsAnswered {W : Type 0} (contents : W → Option (List ℕ)) (bytes_o
 abbrev pub IsAnsweredInPart : {W : Type 0} → (W → Option (List ℕ)) → (List ℕ → Option (List ℕ)) → Options → Bool → W → W → Type 0
 IsAnsweredInPart contents bytes_of options taken before after = (after ≡ before)
     ⊎ ((paths : List JsonPath) × ArePaths (rule_in options) (path_texts bytes_of options) paths
-    × (text : List ℕ) × (any : Bool) × AreInputsShown (IsShownInPartFor options taken paths) options.lines bytes_of (names_in options) text any
+    × (text : List ℕ) × (any : Bool) × AreAllInPart options taken paths bytes_of text any
     × AppendsBeginning (contents before) (contents after) text)
 
 -- ---- whether there is a node

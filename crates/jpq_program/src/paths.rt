@@ -4,9 +4,9 @@ ghost use Rattle.std.specs.Prelude.{◌≡◌, ◌∷◌, ℕ, [], List, IfOk, I
 ghost use Rattle.serde_json_path_functions.specs.Terms.{numbers_view};
 ghost use Rattle.serde_json_path.specs.Paths.{path_signatures};
 ghost use Rattle.serde_json_path.specs.Fitting.{FitsBuiltin};
-ghost use Rattle.jpq_program.specs.Inside.{OnlyTells, Reads, ReadsFurther, Tells};
+ghost use Rattle.jpq_program.specs.Inside.{AreAskedBy, IsAskedBy, OnlyTells, Reads, ReadsFurther, Tells, texts_asked};
 ghost use Rattle.jpq_program.specs.Inputs.{AreKnown, Opens, OpensFirst, without_mark};
-ghost use Rattle.jpq_program.specs.Run.{ArePaths, IsPathOf, has_text, looked_at_in, path_files_in, path_texts, rule_in};
+ghost use Rattle.jpq_program.specs.Run.{ArePaths, has_text, looked_at_in, path_files_in, path_texts, rule_in};
 ghost use Rattle.jpq_options.specs.Paths.{path_lines};
 ghost use Rattle.std.specs.List.{filter};
 
@@ -77,7 +77,7 @@ impl PathReading<'_> {
         ensures read { IfOk result (λ read. MatchOption read
             (streams.new.outcome.refused ≡ true)
             (λ path. (streams.new ≡ streams.old) × (self.old.bindings.items ≡ []
-            → IsPathOf (numbers_view self.old.numbers) text.now path.path))) }
+            → IsAskedBy (numbers_view self.old.numbers) text.now path))) }
     {
         let e = match JsonPath::parse_by(self.alloc, text, self.numbers) {
             Ok(path) => {
@@ -114,8 +114,8 @@ impl PathReading<'_> {
         ensures right { IfOk result (λ _. streams.new.outcome.refused ≡ false
             → streams.new ≡ streams.old) }
         ensures read { IfOk result (λ _. self.old.bindings.items ≡ [] → paths.old.items ≡ []
-            → streams.new.outcome.refused ≡ false → ArePaths (numbers_view self.old.numbers)
-            (map (λ text. text.now) texts.now) (map (λ path. path.path) paths.new.items)) }
+            → streams.new.outcome.refused ≡ false → AreAskedBy (numbers_view self.old.numbers)
+            (map (λ text. text.now) texts.now) paths.new.items) }
     {
         for (index, text) in texts.iter().enumerate() {
             let name = if several {
@@ -280,6 +280,9 @@ pub(crate) fn asked_paths<I: Inputs, W: Write, E: Write>(
         → AreKnown (I.bytes_of inputs.old) (path_files_in options.now)
         → ArePaths (rule_in options.now) (path_texts (I.bytes_of inputs.old) options.now)
         (map (λ path. path.path) paths.items)) }
+    ensures texts { IfOk result (λ paths. options.now.bindings.items ≡ []
+        → AreKnown (I.bytes_of inputs.old) (path_files_in options.now)
+        → texts_asked paths.items ≡ path_texts (I.bytes_of inputs.old) options.now) }
 {
     let bindings = match bindings_of(alloc, &options.bindings)? {
         Ok(bindings) => bindings,

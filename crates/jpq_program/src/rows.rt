@@ -3,7 +3,7 @@
 ghost use Rattle.std.specs.Prelude.{◌≡◌, ◌++◌, ◌<◌, IfOk, OnOk, map, string_bytes};
 ghost use Rattle.std.specs.Str.{IsUtf8};
 ghost use Rattle.serde_json_path_nodes.specs.Views.{located};
-ghost use Rattle.jsonpath_lines.specs.Output.{IsText, end_text};
+ghost use Rattle.jsonpath_lines.specs.Output.{IsText};
 ghost use Rattle.jsonpath_lines.specs.declared.forms.Form.TheVariants as form;
 ghost use Rattle.jsonpath_lines.specs.declared.forms.Layout.TheVariants as layout;
 ghost use Rattle.csv.specs.Writing as csv;

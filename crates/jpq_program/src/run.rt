@@ -9,8 +9,8 @@ ghost use Rattle.jsonpath_lines.specs.Sent.{AppendsBeginning};
 ghost use Rattle.jpq_options.specs.Options.{AsksFor};
 ghost use Rattle.jpq_options.specs.declared.options.Request as input;
 ghost use Rattle.jpq_program.specs.Inputs.{AreInputsShown, AreKnown, Opens, OpensFirst};
-ghost use Rattle.jpq_program.specs.Inside.{AnswersRun, Begins, IsKnownRun, IsPlain, OnlyTells, SendsFor, SendsInputs, has_palette, heads_in, is_quiet, look_with, shown_in_part_by, shows_places, status_after, status_of, told_after};
-ghost use Rattle.jpq_program.specs.Run.{ComesOf, IsAnsweredInPart, IsChecked, IsCheckedInPart, IsCheckRun, IsPrinted, IsShownInPartFor, LacksMemory, canonical_lines, is_colored, look_in, looked_at_in, names_in, opened_in, output_in, path_files_in, unit_in};
+ghost use Rattle.jpq_program.specs.Inside.{AnswersRun, Begins, IsKnownRun, IsPlain, OnlyTells, SendsAll, SendsFor, SendsInputs, header_by, texts_asked, has_palette, heads_in, is_quiet, look_with, shown_in_part_by, shows_places, status_after, status_of, told_after};
+ghost use Rattle.jpq_program.specs.Run.{AreAllInPart, ComesOf, IsAfter, IsAnsweredInPart, IsChecked, IsCheckedInPart, IsCheckRun, IsPrinted, LacksMemory, canonical_lines, is_colored, look_in, looked_at_in, names_in, opened_in, output_in, path_files_in, path_texts, unit_in};
 
 use crate::answering::Answering;
 use crate::asked_path::AskedPath;
@@ -287,23 +287,21 @@ fn answer_documents<I: Inputs, W: Write, E: Write>(
     ensures opens { OpensFirst (I.opened inputs.old) (I.opened inputs.new) (names_in options.now) }
     ensures all { IfOk result (λ next. next ≡ Next.More
         → Opens (I.opened inputs.old) (I.opened inputs.new) (names_in options.now)) }
-    ensures answered { IfOk result (λ next. IsPlain documents.now → options.now.header ≡ false
+    ensures answered { IfOk result (λ next. IsPlain documents.now
         → options.now.total ≡ false → streams.old.left ≡ None
         → string_bytes streams.old.pending ≡ []
         → AreKnown (I.bytes_of inputs.old) (names_in options.now)
-        → SendsInputs W.contents documents.now.answering next documents.now.lines
+        → SendsAll W.contents documents.now.answering options.now.header next documents.now.lines
         (I.bytes_of inputs.old) (names_in options.now) streams.old streams.new) }
-    ensures begun { IsPlain documents.now → options.now.header ≡ false
+    ensures begun { IsPlain documents.now
         → options.now.total ≡ false → streams.old.left ≡ None
         → string_bytes streams.old.pending ≡ []
         → AreKnown (I.bytes_of inputs.old) (names_in options.now)
-        → Begins W.contents (AreInputsShown (shown_in_part_by documents.now.answering)
-        documents.now.lines (I.bytes_of inputs.old) (names_in options.now))
-        streams.old streams.new }
+        → Begins W.contents (IsAfter (header_by documents.now.answering options.now.header)
+        (AreInputsShown (shown_in_part_by documents.now.answering) documents.now.lines
+        (I.bytes_of inputs.old) (names_in options.now))) streams.old streams.new }
 {
-    if options.header {
-        documents.answering.write_header(streams)?;
-    }
+    documents.answering.write_header(options.header, streams)?;
     let next = answer_inputs(documents, options, inputs, streams)?;
     if options.total {
         documents.answering.write_total(streams)?;
@@ -341,16 +339,17 @@ fn answer_paths<I: Inputs, W: Write, E: Write>(
     ensures all { IfOk result (λ next. next ≡ Next.More
         → Opens (I.opened inputs.old) (I.opened inputs.new) (names_in options.now)) }
     ensures answered { IfOk result (λ next. IsKnownRun options.now colours.entry
+        → texts_asked paths.now ≡ path_texts (I.bytes_of inputs.old) options.now
         → string_bytes streams.old.pending ≡ []
         → AreKnown (I.bytes_of inputs.old) (names_in options.now)
         → SendsFor W.contents options.now colours.entry.taken next
         (map (λ path. path.path) paths.now) (I.bytes_of inputs.old) streams.old streams.new) }
     ensures begun { IsKnownRun options.now colours.entry
+        → texts_asked paths.now ≡ path_texts (I.bytes_of inputs.old) options.now
         → string_bytes streams.old.pending ≡ []
         → AreKnown (I.bytes_of inputs.old) (names_in options.now)
-        → Begins W.contents (AreInputsShown (IsShownInPartFor options.now
-        colours.entry.taken (map (λ path. path.path) paths.now)) options.now.lines
-        (I.bytes_of inputs.old) (names_in options.now)) streams.old streams.new }
+        → Begins W.contents (AreAllInPart options.now colours.entry.taken
+        (map (λ path. path.path) paths.now) (I.bytes_of inputs.old)) streams.old streams.new }
 {
     let store = PatternStore::new();
     let trees = trees_of(alloc, paths)?;

@@ -1,12 +1,12 @@
 //! Rows of tables: of each document one, with the first node of each path.
 
-ghost use Rattle.std.specs.Prelude.{◌≡◌, ◌++◌, List, None, Some, IfOk, OnOk, map, string_bytes, true};
+ghost use Rattle.std.specs.Prelude.{◌≡◌, ◌++◌, ◌∷◌, [], List, None, Some, IfOk, OnOk, codes, if◌then◌else◌, map, string_bytes, true};
 ghost use Rattle.serde_json_path_core.specs.Inside.Words.{view, Located, OnlyMemoryOrPattern, Selects};
 ghost use Rattle.serde_json_path_functions.specs.Patterns.{builtin_functions};
 ghost use Rattle.serde_json_path.specs.Paths.{path_tree, with_rule_of};
 ghost use Rattle.serde_json.specs.Data.{Data};
-ghost use Rattle.jpq_program.specs.Inside.{AnswersRow, AreShownAs, Finds, IsAsked, IsFirstOf, ShowsAs, cell_look, separated, separator_in};
-ghost use Rattle.jpq_program.specs.Rows.{IsCellInPart, IsCellOn, first_cells};
+ghost use Rattle.jpq_program.specs.Inside.{AnswersRow, AreShownAs, Finds, IsAsked, Begins, IsFirstOf, IsHeader, Sends, ShowsAs, cell_look, separated, separator_in, texts_asked};
+ghost use Rattle.jpq_program.specs.Rows.{IsCellInPart, IsCellOn, first_cells, header_cells};
 
 use crate::answering::{Answering, Document};
 use crate::asked_path::AskedPath;
@@ -17,6 +17,7 @@ use jpq_options::options::Shown;
 use jsonpath_document::read_document;
 use serde_json::Value;
 use serde_json_path::QueryError;
+use std::alloc::AllocError;
 use std::io::Write;
 
 /// What stands between the cells of a row, where rows are shown.
@@ -180,23 +181,53 @@ impl Answering<'_> {
         Ok(())
     }
 
-    /// Writes the paths as the first row of a table.
-    pub(crate) fn write_header<W: Write, E: Write>(
-        &self,
-        streams: &mut Streams<W, E>,
-    ) -> Result<(), Stop> {
-        let Some(separator) = separator_of(self.shown) else {
-            return Ok(());
-        };
+    /// The cells of a table's first row before those of the paths.
+    fn first_names(&self) -> Result<Vec<String>, AllocError>
+        ensures { IfOk result (λ cells. map string_bytes cells.items
+            ≡ (if self.now.heads.file then codes "file" ∷ [] else [])
+            ++ (if self.now.heads.line then codes "line" ∷ [] else [])) }
+    {
         let mut cells = Vec::new(self.alloc);
-        for (is_shown, name) in [(self.heads.file, "file"), (self.heads.line, "line")] {
-            if is_shown {
-                cells.push(String::from_str(self.alloc, name)?)?;
-            }
+        if self.heads.file {
+            cells.push(String::from_str(self.alloc, "file")?)?;
         }
+        if self.heads.line {
+            cells.push(String::from_str(self.alloc, "line")?)?;
+        }
+        Ok(cells)
+    }
+
+    /// The cells of a table's first row: of the paths their texts.
+    fn header_cells(&self) -> Result<Vec<String>, AllocError>
+        ensures { IfOk result (λ cells. map string_bytes cells.items
+            ≡ header_cells self.now.heads.file self.now.heads.line
+            (texts_asked self.now.paths.now)) }
+    {
+        let mut cells = self.first_names()?;
         for path in self.paths {
             cells.push(String::from_str(self.alloc, path.text.as_str())?)?;
         }
+        Ok(cells)
+    }
+
+    /// Writes the paths as the first row of a table, where that is wanted.
+    pub(crate) fn write_header<W: Write, E: Write>(
+        &self,
+        is_wanted: bool,
+        streams: &mut Streams<W, E>,
+    ) -> Result<(), Stop>
+        ensures sent { streams.old.left ≡ None → string_bytes streams.old.pending ≡ []
+            → OnOk result (Sends self.now.silent W.contents (IsHeader self.now is_wanted)
+            (IsHeader self.now is_wanted) streams.old streams.new) }
+        ensures begun { Begins W.contents (IsHeader self.now is_wanted) streams.old streams.new }
+    {
+        if !is_wanted {
+            return Ok(());
+        }
+        let Some(separator) = separator_of(self.shown) else {
+            return Ok(());
+        };
+        let cells = self.header_cells()?;
         self.push_row(separator, cells.as_slice(), streams)?;
         streams.write()
     }

@@ -23,10 +23,10 @@ use Rattle.jpq_program.specs.Answers.{AreAnswersOn, IsAnswerOn, IsArrayOf}
 use Rattle.jpq_program.specs.Heads.{head_in, head_text}
 use Rattle.jpq_options.specs.Options.{is_table}
 use Rattle.jpq_program.specs.Looks.{Look, is_array}
-use Rattle.jpq_program.specs.Rows.{IsRowOn, first_cells, row_line}
+use Rattle.jpq_program.specs.Rows.{IsRowOn, first_cells, header_cells, row_line}
 use Rattle.jpq_program.specs.declared.colours.Colours.{Colours}
 use Rattle.jpq_program.specs.Inputs.{AreInputsShown, AreKnown, IsInputShown, IsLineShown, IsNamedShown, Opens, Shown}
-use Rattle.jpq_program.specs.Run.{ArePaths, ComesOf, IsPathOf, IsPlainRun, IsShownFor, form_in, known_bytes, path_texts, texts_in_file, has_line_numbers, has_names, has_numbers, is_colored, is_each, look_in, names_in, opened_in, rule_in}
+use Rattle.jpq_program.specs.Run.{ArePaths, ComesOf, IsPathOf, IsPlainRun, IsShownFor, form_in, known_bytes, path_texts, texts_in_file, has_line_numbers, has_names, header_for, has_numbers, is_colored, is_each, look_in, names_in, opened_in, rule_in}
 use Rattle.jpq_program.specs.declared.streams.Streams.{Streams}
 use Rattle.std.specs.Io.KnownBytes.{Appends}
 use Rattle.program_tests.proofs.AskedWords.{OptionsAre, asks_for_run, words}
@@ -135,7 +135,6 @@ nothing_in (x ∷ xs) is = absurd cc
 pub is_plain : (o : Options) (colours : Colours) → colours.palette ≡ None → OptionsAre o → IsPlainRun o colours
 is_plain o colours usual are = record {
   usual = record {
-    header = are.header;
     total = are.total;
     most_of_all = are.most_of_all;
     bindings = nothing_in o.bindings.items are.bindings;
@@ -185,6 +184,10 @@ run_shown o taken p q known text any none are paths is_one is_two shown = files_
         let each = AreAnswersOn builtin_functions (p ∷ q ∷ []) (look i) head bytes in
         MatchBool (is_table (are.shown i)) (IsRowOn builtin_functions (p ∷ q ∷ []) (row_line (are.shown i) (are.end i)) (first_cells (has_names_is o are i) (has_line_numbers_is o are i) name line) bytes text any)
         (MatchBool (is_array (form_in (are.shown i))) (IsArrayOf (look i).output each text any) (each text any))
+
+-- no row stands before
+no_header : (o : Options) (texts : List (List ℕ)) → OptionsAre o → header_for o texts ≡ []
+no_header o texts are = λ i. if are.header i && is_table o.shown then row_line o.shown o.end (header_cells (has_names o) (has_line_numbers o) texts) else []
 
 -- two texts were read as two paths
 pub two_paths : (rule : Numbers) (texts : List (List ℕ)) (paths : List JsonPath) (a b : List ℕ) → texts ≡ a ∷ b ∷ [] → ArePaths rule texts paths → (p q : JsonPath) × (paths ≡ p ∷ q ∷ []) × IsPathOf rule a p × IsPathOf rule b q
@@ -257,9 +260,10 @@ run_comes {I} {W} {E} out err known opened colours asked inputs later before aft
       normal_b = normal_law to_b ((98 ∷ [], (refl, refl)), tt) (grind arith, tt);
       unique = unique;
     } in
-    let shown = run_shown o colours.taken both.0 both.1 known answered.text answered.any none are paths is_one is_two
-    (subst (λ (ps : List JsonPath). AreInputsShown (IsShownFor o colours.taken ps) o.lines known (names_in o) answered.text answered.any) both.2 answered.shown) in (
+    let rest : answered.text ≡ answered.shown.0 = answered.shown.2 ∙ ap (λ (first : List ℕ). first ++ answered.shown.0) (no_header o (path_texts known o) are) in
+    let shown = run_shown o colours.taken both.0 both.1 known answered.shown.0 answered.any none are paths is_one is_two
+    (subst (λ (ps : List JsonPath). AreInputsShown (IsShownFor o colours.taken ps) o.lines known (names_in o) answered.shown.0 answered.any) both.2 answered.shown.1) in (
       answered.ends ∙ ap (λ (any : Bool). if any then 0 else 1) shown.1,
-      subst (λ (text : List ℕ). Appends (out before.out) (out after.out) text) shown.0 answered.out,
+      subst (λ (text : List ℕ). Appends (out before.out) (out after.out) text) (rest ∙ shown.0) answered.out,
       subst (Opens (opened inputs) (opened later)) (opened_are o are) ended.1,
     )

@@ -1,7 +1,7 @@
-use Rattle.jpq_program.proofs.Words.{◌≡◌, ◌∙◌, ◌++◌, ◌+◌, ◌<◌, ◌≤◌, ◌∷◌, Option, get_or, [], AreKnown, ArePaths, AskedPath, Bor, List, Numbers, OpensFirst, PathReading, ReadsFurther, Streams, Opens, ap, append-nil, arith, has_text, known_bytes, length, looked_at_in, map, numbers_view, path_files_in, path_lines, refl, rule_in, string_bytes, subst, sym, take, take_all, texts_in_file, without_mark, ℕ}
+use Rattle.jpq_program.proofs.Words.{◌≡◌, ◌∙◌, ◌++◌, ◌+◌, ◌<◌, ◌≤◌, ◌∷◌, Option, get_or, [], AreKnown, AreAskedBy, Bor, List, Numbers, OpensFirst, PathReading, ReadsFurther, Streams, Opens, ap, append-nil, arith, has_text, known_bytes, length, looked_at_in, map, numbers_view, path_files_in, path_lines, refl, rule_in, string_bytes, subst, sym, take, texts_in_file, without_mark, ℕ}
 use Rattle.jpq_program.proofs.Opened.{opens_all, opens_alone, opens_further, opens_none, opens_nothing, opens_some, opens_then, opens_within}
-use Rattle.jpq_program.proofs.Parsed.{file_read}
-use Rattle.std.specs.List.{filter, flat_map}
+use Rattle.jpq_program.proofs.Parsed.{are_paths, are_texts, file_read, files_read}
+use Rattle.std.specs.List.{filter}
 use Rattle.jpq_program.proofs.paths.asked_paths.Goals as goal
 
 abbrev names_of : List (Bor (List ℕ)) → List (List ℕ)
@@ -11,7 +11,7 @@ pub loop-file-init : goal.loop-file-init
 loop-file-init g c =
     let kept = c.parse_words.ensures.kept in
     let words = names_of c.args.options.now.paths.items in
-    let read = map (λ (path : AskedPath). path.path) c.parse_words.new.paths.items in
+    let read = c.parse_words.new.paths.items in
     record {
       same = λ name. refl;
       opens = opens_none (g.I.Inputs.opened c.args.inputs.now);
@@ -19,8 +19,8 @@ loop-file-init g c =
       tells = refl;
       right = λ right. refl;
       unopened = λ none. refl;
-      are = λ none known right. subst (λ (rule : Numbers). ArePaths rule (words ++ []) read) (sym (ap (λ (r : PathReading). numbers_view r.numbers) kept))
-          (subst (λ (texts : List (List ℕ)). ArePaths (numbers_view c.numbers_of.result) texts read) (ap names_of c.deref-2.ensures.value ∙ sym (append-nil words))
+      are = λ none known right. subst (λ (rule : Numbers). AreAskedBy rule (words ++ []) read) (sym (ap (λ (r : PathReading). numbers_view r.numbers) kept))
+          (subst (λ (texts : List (List ℕ)). AreAskedBy (numbers_view c.numbers_of.result) texts read) (ap names_of c.deref-2.ensures.value ∙ sym (append-nil words))
           (c.in_ok-parse_words.ensures.read (sym (ap (λ (r : PathReading). r.bindings.items) kept) ∙ none) c.new-paths.ensures.items right));
     }
 
@@ -54,18 +54,19 @@ loop-file-preserved g c =
 
 pub returns-then-not-streams-clause-read : goal.returns-then-not-streams-clause-read
 returns-then-not-streams-clause-read g c = λ none known.
-    let loop = c.loop-file.invariant in
-    let files = c.deref-file-items.result.now in
     let kept = c.parse_words.ensures.kept in
     let bindings = ap (λ (r : PathReading). r.bindings.items) kept ∙ (rw c.in-Ok.is at c.in_ok-bindings.ensures) (c.deref.ensures.value ∙ none) in
     let here = subst (AreKnown (g.I.Inputs.bytes_of c.args.inputs.now)) (sym (ap names_of c.deref-file-items.ensures.value)) known in
-    let all : names_of (take c.loop-file.file-index files) ≡ path_files_in c.args.options.now = ap names_of (take_all c.loop-file.file-index files c.loop-file-test.false ∙ c.deref-file-items.ensures.value) in
-    let read = map (λ (path : AskedPath). path.path) c.loop-file.paths.items in
-    let words = names_of c.args.options.now.paths.items in
-    let texts = λ (names : List (List ℕ)). words ++ flat_map (λ (name : List ℕ). texts_in_file (known_bytes (g.I.Inputs.bytes_of c.args.inputs.now) name)) names in
-    subst (λ (names : List (List ℕ)). ArePaths (rule_in c.args.options.now) (texts names) read) all
-    (subst (λ (rule : Numbers). ArePaths rule (texts (names_of (take c.loop-file.file-index files))) read) (ap (λ (r : PathReading). numbers_view r.numbers) kept ∙ c.numbers_of.ensures)
-    (loop.are bindings here c.if-not-streams.true))
+    are_paths (rule_in c.args.options.now) _ c.loop-file.paths.items (files_read (rule_in c.args.options.now) _ (λ (name : List ℕ). texts_in_file (known_bytes (g.I.Inputs.bytes_of c.args.inputs.now) name)) (names_of c.args.options.now.paths.items) c.deref-file-items.result.now _
+    c.loop-file.file-index c.loop-file.paths.items c.loop-file-test.false c.deref-file-items.ensures.value (ap (λ (r : PathReading). numbers_view r.numbers) kept ∙ c.numbers_of.ensures) (c.loop-file.invariant.are bindings here c.if-not-streams.true))
+
+pub returns-then-not-streams-clause-texts : goal.returns-then-not-streams-clause-texts
+returns-then-not-streams-clause-texts g c = λ none known.
+    let kept = c.parse_words.ensures.kept in
+    let bindings = ap (λ (r : PathReading). r.bindings.items) kept ∙ (rw c.in-Ok.is at c.in_ok-bindings.ensures) (c.deref.ensures.value ∙ none) in
+    let here = subst (AreKnown (g.I.Inputs.bytes_of c.args.inputs.now)) (sym (ap names_of c.deref-file-items.ensures.value)) known in
+    are_texts (rule_in c.args.options.now) _ c.loop-file.paths.items (files_read (rule_in c.args.options.now) _ (λ (name : List ℕ). texts_in_file (known_bytes (g.I.Inputs.bytes_of c.args.inputs.now) name)) (names_of c.args.options.now.paths.items) c.deref-file-items.result.now _
+    c.loop-file.file-index c.loop-file.paths.items c.loop-file-test.false c.deref-file-items.ensures.value (ap (λ (r : PathReading). numbers_view r.numbers) kept ∙ c.numbers_of.ensures) (c.loop-file.invariant.are bindings here c.if-not-streams.true))
 
 all_opened : {I : Type 0} (opened : I → Option (List (List ℕ))) (inputs later : I) (files listed : List (Bor (List ℕ))) (index : ℕ) → files ≡ listed → length files ≤ index
     → Opens (opened inputs) (opened later) (names_of (take index files)) → Opens (opened inputs) (opened later) (names_of listed)

@@ -1,4 +1,4 @@
-use Rattle.jpq_program.proofs.Words.{◌∙◌, Bor, IsUtf8, List, ap, comma_rows, map, string_bytes, subst, sym, ℕ}
+use Rattle.jpq_program.proofs.Words.{◌∙◌, Bor, IsUtf8, List, ap, comma_rows, map, subst, sym, ℕ}
 use Rattle.csv.specs.Writing as csv
 use Rattle.jpq_program.proofs.Commas.{row_utf8}
 use Rattle.jpq_program.proofs.rows.push_commas.Goals as goal

@@ -1,4 +1,4 @@
-use Rattle.jpq_program.proofs.Words.{◌≡◌, has_counts, is_array, is_table, IfOk-weaker, false, rules, sym, true, view, shown_in_part_by}
+use Rattle.jpq_program.proofs.Words.{◌≡◌, has_counts, is_array, IfOk-weaker, false, rules, sym, true, view, shown_in_part_by}
 use Rattle.jpq_program.proofs.Cells.{as_all, as_row, begun_as_all, looked_at, no_table, shows_none, shows_rows}
 use Rattle.jpq_program.proofs.Arrays.{each_as_all, each_begun_as_all}
 use Rattle.jpq_program.proofs.Sending.{no_answer}
