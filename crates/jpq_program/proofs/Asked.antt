@@ -1,17 +1,17 @@
 -- What options ask for, as documents are answered.
-use Rattle.jpq_program.proofs.Words.{AreAllInPart, AreAllShown, IsAfter, header_cells, header_for, if◌then◌else◌, texts_asked, ◌≡◌, ◌∙◌, ◌&&◌, ◌||◌, ℕ, Bool, true, false, List, [], Option, None, length, length-map, map, not, refl, sym, ap, subst, string_bytes, Appends, AreInputsShown, AreKnown, ArePaths, IsAnswered, IsShownInPart, IsShownOn, cells_for, head_for, Outcome, names_in, rule_in, status_of, Answered, AppendsBeginning, AskedPath, Answering, Begins, IsAnsweredInPart, IsShownInPartFor, SendsFor, Shown, inr, ◌++◌, Documents, Heads, IsPlain, JsonPath, Keeps, IfSome, Nodes, OptionShown, Options, Output, Colours, Csv, Tsv, Form, IsRowInPart, IsRowOn, Look, MatchBool, first_cells, row_line, look_in, has_palette, Streams, builtin_functions, form_in, has_counts, has_nodes, head_by, heads_in, is_each, is_plain_answer, is_table, output_in, path_tree, shows_places, LocationAndValue, Value, Raw, Location, Pointer, Json, Count, Nothing, path_texts, ◌⊎◌, AnswersRun, Ends, IfMore, IsKnownRun, IsUsualRun, More, Next, SendsUntil, arith, common_steps, nat_tests, inl, is_quiet}
+use Rattle.jpq_program.proofs.Words.{AreAllInPart, AreAllShown, IsBetween, IsUntil, total_for, has_enough, nat_lt, decimal, end_text, true≢false, header_cells, header_for, if◌then◌else◌, texts_asked, ◌≡◌, ◌∙◌, ◌&&◌, ◌||◌, ℕ, Bool, true, false, List, [], Option, None, length, length-map, map, not, refl, sym, ap, subst, string_bytes, Appends, AreInputsShown, AreKnown, ArePaths, IsAnswered, IsShownInPart, IsShownOn, cells_for, head_for, Outcome, names_in, rule_in, status_of, Answered, AppendsBeginning, AskedPath, Answering, Begins, IsAnsweredInPart, IsShownInPartFor, SendsFor, Shown, ◌++◌, Documents, Heads, IsPlain, JsonPath, Keeps, IfSome, Nodes, OptionShown, Options, Output, Colours, Csv, Tsv, Form, IsRowInPart, IsRowOn, Look, MatchBool, first_cells, row_line, look_in, has_palette, Streams, builtin_functions, form_in, has_counts, has_nodes, head_by, heads_in, is_each, is_plain_answer, is_table, output_in, path_tree, shows_places, LocationAndValue, Value, Raw, Location, Pointer, Json, Count, Nothing, path_texts, ◌⊎◌, AnswersRun, Ends, IfWhole, is_whole, Enough, Found, IsKnownRun, IsUsualRun, More, Next, inr, SendsUntil, arith, common_steps, nat_tests, inl, is_quiet}
 use Rattle.jpq_program.proofs.Ended.{sent_out, status_is}
-use Rattle.jpq_program.proofs.Sending.{no_named, no_shown}
+use Rattle.jpq_program.proofs.Sending.{ends_still, no_named, no_shown, none_wanted}
 use Rattle.jpq_program.proofs.Shown.{answered_since, begun_since, none_begun_of}
 use Rattle.jpq_program.specs.Run.{is_colored}
 
 -- ---- plain answers
 
--- an answer is plain, by what it shows, its form, whether the environment says which colours lines have, and whether counts are summed up
-abbrev plain_by : OptionShown → Form → Bool → Bool → Bool
-plain_by shown form palette total = is_table shown || ((not palette && has_nodes form) || (has_counts form && not total))
+-- an answer is plain, by what it shows, its form, and whether the environment says which colours lines have
+abbrev plain_by : OptionShown → Form → Bool → Bool
+plain_by shown form palette = is_table shown || ((not palette && has_nodes form) || has_counts form)
 
-each_plain : (shown : OptionShown) → is_each shown ≡ true → plain_by shown (form_in shown) false false ≡ true
+each_plain : (shown : OptionShown) → is_each shown ≡ true → plain_by shown (form_in shown) false ≡ true
 each_plain (Nodes LocationAndValue) is = refl
 each_plain (Nodes Value) is = refl
 each_plain (Nodes Raw) is = refl
@@ -23,24 +23,21 @@ each_plain (Nodes Nothing) is = absurd cc
 each_plain Tsv is = refl
 each_plain Csv is = refl
 
-plain_answer : (answering : Answering) (options : Options) → is_each options.shown ≡ true → answering.shown ≡ options.shown → answering.showing.output ≡ output_in options → has_palette answering.showing.dress ≡ false → answering.total ≡ false
+plain_answer : (answering : Answering) (options : Options) → is_each options.shown ≡ true → answering.shown ≡ options.shown → answering.showing.output ≡ output_in options → has_palette answering.showing.dress ≡ false
     → is_plain_answer answering ≡ true
-plain_answer answering options each shown output usual total =
-    ap (λ (s : OptionShown). plain_by s answering.showing.output.form (has_palette answering.showing.dress) answering.total) shown
-    ∙ ap (λ (o : Output). plain_by options.shown o.form (has_palette answering.showing.dress) answering.total) output
-    ∙ ap (λ p. plain_by options.shown (form_in options.shown) p answering.total) usual
-    ∙ ap (plain_by options.shown (form_in options.shown) false) total
+plain_answer answering options each shown output usual =
+    ap (λ (s : OptionShown). plain_by s answering.showing.output.form (has_palette answering.showing.dress)) shown
+    ∙ ap (λ (o : Output). plain_by options.shown o.form (has_palette answering.showing.dress)) output
+    ∙ ap (λ p. plain_by options.shown (form_in options.shown) p) usual
     ∙ each_plain options.shown each
 
 -- it is, too, where nothing is shown
-quiet_answer : (answering : Answering) (options : Options) → options.shown ≡ Nodes Nothing → answering.shown ≡ options.shown → answering.showing.output ≡ output_in options → answering.total ≡ false
-    → is_plain_answer answering ≡ true
-quiet_answer answering options quiet shown output total =
+quiet_answer : (answering : Answering) (options : Options) → options.shown ≡ Nodes Nothing → answering.shown ≡ options.shown → answering.showing.output ≡ output_in options → is_plain_answer answering ≡ true
+quiet_answer answering options quiet shown output =
     let palette = has_palette answering.showing.dress in
-    ap (λ (s : OptionShown). plain_by s answering.showing.output.form palette answering.total) (shown ∙ quiet)
-    ∙ ap (λ (o : Output). plain_by (Nodes Nothing) o.form palette answering.total) output
-    ∙ ap (λ (s : OptionShown). plain_by (Nodes Nothing) (form_in s) palette answering.total) quiet
-    ∙ ap (plain_by (Nodes Nothing) Nothing palette) total
+    ap (λ (s : OptionShown). plain_by s answering.showing.output.form palette) (shown ∙ quiet)
+    ∙ ap (λ (o : Output). plain_by (Nodes Nothing) o.form palette) output
+    ∙ ap (λ (s : OptionShown). plain_by (Nodes Nothing) (form_in s) palette) quiet
     ∙ or_true (not palette && false)
   where
     or_true : (b : Bool) → (b || true) ≡ true
@@ -48,13 +45,13 @@ quiet_answer answering options quiet shown output total =
 
 pub usual_of : (options : Options) (colours : Colours) → IsKnownRun options colours → IsUsualRun options
 usual_of options colours (inl plain) = plain.usual
-usual_of options colours (inr quiet) = quiet.0
+usual_of options colours (inr quiet) = quiet.usual
 
 pub plain_documents : (documents : Documents) (options : Options) (colours : Colours) → IsKnownRun options colours
-    → documents.answering.shown ≡ options.shown → documents.answering.showing.output ≡ output_in options → ((is_colored options.color colours.taken ≡ true → colours.palette ≡ None) → has_palette documents.answering.showing.dress ≡ false) → documents.answering.total ≡ options.total
+    → documents.answering.shown ≡ options.shown → documents.answering.showing.output ≡ output_in options → ((is_colored options.color colours.taken ≡ true → colours.palette ≡ None) → has_palette documents.answering.showing.dress ≡ false)
     → IfSome documents.reader (λ reader. Keeps reader (shows_places documents.answering.showing.output.form) (map (λ (path : AskedPath). path_tree path.path) documents.answering.paths.now))
     → IsPlain documents
-plain_documents documents options colours run shown output usual total read = record {
+plain_documents documents options colours run shown output usual read = record {
   answer = answer run;
   places = λ table. ap (λ (o : Output). shows_places o.form) output ∙ values options.shown (sym (ap is_table shown) ∙ table);
   read = read;
@@ -65,43 +62,49 @@ plain_documents documents options colours run shown output usual total read = re
     values _ table = refl
 
     answer : IsKnownRun options colours → is_plain_answer documents.answering ≡ true
-    answer (inl plain) = plain_answer documents.answering options plain.each shown output (usual plain.palette) (total ∙ plain.usual.total)
-    answer (inr quiet) = quiet_answer documents.answering options quiet.1 shown output (total ∙ quiet.0.total)
+    answer (inl plain) = plain_answer documents.answering options plain.each shown output (usual plain.palette)
+    answer (inr quiet) = quiet_answer documents.answering options quiet.shown shown output
 
 -- ---- what is shown of the inputs is what the options ask for
 
 abbrev Whole : OptionShown → List JsonPath → Look → Heads → Shown
-Whole shown paths look heads name number bytes text any = MatchBool (is_table shown) (IsRowOn builtin_functions paths (row_line shown look.output.end) (first_cells heads.file heads.line name number) bytes text any)
-    (IsShownOn builtin_functions paths look (head_by look.output heads name number) bytes text any)
+Whole shown paths look heads name number bytes before text count = MatchBool (is_table shown) (IsRowOn builtin_functions paths (row_line shown look.output.end) (first_cells heads.file heads.line name number) bytes text count)
+    (IsShownOn builtin_functions paths look (head_by look.output heads name number) bytes before text count)
 
 abbrev InPart : OptionShown → List JsonPath → Look → Heads → Shown
-InPart shown paths look heads name number bytes text any = MatchBool (is_table shown) (IsRowInPart builtin_functions paths (row_line shown look.output.end) (first_cells heads.file heads.line name number) bytes text any)
-    (IsShownInPart builtin_functions paths look (head_by look.output heads name number) bytes text any)
+InPart shown paths look heads name number bytes before text count = MatchBool (is_table shown) (IsRowInPart builtin_functions paths (row_line shown look.output.end) (first_cells heads.file heads.line name number) bytes text count)
+    (IsShownInPart builtin_functions paths look (head_by look.output heads name number) bytes before text count)
 
 heads_as_asked : (options : Options) (asked : List AskedPath) (heads : Heads) → heads ≡ heads_in options (length asked) → heads ≡ heads_in options (length (map (λ (path : AskedPath). path.path) asked))
 heads_as_asked options asked heads is = is ∙ ap (heads_in options) (sym (length-map asked (λ (path : AskedPath). path.path)))
 
--- the first row and what is shown of the inputs, by how they are shown
+-- the first row, what is shown of the inputs, and the sum, by how they are shown
 abbrev Header : Options → Look → Heads → List (List ℕ) → List ℕ
 Header options look heads texts = if options.header && is_table options.shown then row_line options.shown look.output.end (header_cells heads.file heads.line texts) else []
 
-abbrev AllWhole : Options → List JsonPath → Look → Heads → List (List ℕ) → (List ℕ → Option (List ℕ)) → List ℕ → Bool → Type 0
-AllWhole options paths look heads texts bytes_of text any = IsAfter (Header options look heads texts) (AreInputsShown (Whole options.shown paths look heads) options.lines bytes_of (names_in options)) text any
+abbrev Total : Look → ℕ → List ℕ
+Total look count = if look.summed then decimal count ++ end_text look.output.end else []
 
-abbrev AllInPart : Options → List JsonPath → Look → Heads → List (List ℕ) → (List ℕ → Option (List ℕ)) → List ℕ → Bool → Type 0
-AllInPart options paths look heads texts bytes_of text any = IsAfter (Header options look heads texts) (AreInputsShown (InPart options.shown paths look heads) options.lines bytes_of (names_in options)) text any
+abbrev AllOf : Options → Look → Heads → List (List ℕ) → Shown → (List ℕ → Option (List ℕ)) → List ℕ → ℕ → Type 0
+AllOf options look heads texts Is bytes_of = IsBetween (Header options look heads texts) (Total look) (AreInputsShown (IsUntil look.most_of_all Is) options.lines bytes_of (names_in options) 0)
+
+abbrev AllWhole : Options → List JsonPath → Look → Heads → List (List ℕ) → (List ℕ → Option (List ℕ)) → List ℕ → ℕ → Type 0
+AllWhole options paths look heads texts bytes_of = AllOf options look heads texts (Whole options.shown paths look heads) bytes_of
+
+abbrev AllInPart : Options → List JsonPath → Look → Heads → List (List ℕ) → (List ℕ → Option (List ℕ)) → List ℕ → ℕ → Type 0
+AllInPart options paths look heads texts bytes_of = AllOf options look heads texts (InPart options.shown paths look heads) bytes_of
 
 pub sent_for : {W E : Type 0} (contents : W → Option (List ℕ)) (options : Options) (taken : Bool) (next : Next) (asked : List AskedPath) (look : Look) (heads : Heads) (bytes_of : List ℕ → Option (List ℕ)) (before start now : Streams W E)
-    → look ≡ look_in options taken → heads ≡ heads_in options (length asked) → texts_asked asked ≡ path_texts bytes_of options → start.out ≡ before.out → start.pending ≡ before.pending → start.outcome ≡ before.outcome → (options.silent ≡ true → start.err ≡ before.err)
-    → SendsUntil options.silent contents look.output.form next (AllWhole options (map (λ (path : AskedPath). path.path) asked) look heads (texts_asked asked) bytes_of) (AllInPart options (map (λ (path : AskedPath). path.path) asked) look heads (texts_asked asked) bytes_of) start now
+    → look ≡ look_in options taken → heads ≡ heads_in options (length asked) → texts_asked asked ≡ path_texts bytes_of options → start.out ≡ before.out → start.pending ≡ before.pending → start.outcome ≡ before.outcome → start.total ≡ before.total → (options.silent ≡ true → start.err ≡ before.err)
+    → SendsUntil options.silent contents look.output.form look.most_of_all next (AllWhole options (map (λ (path : AskedPath). path.path) asked) look heads (texts_asked asked) bytes_of) (AllInPart options (map (λ (path : AskedPath). path.path) asked) look heads (texts_asked asked) bytes_of) start now
     → SendsFor contents options taken next (map (λ (path : AskedPath). path.path) asked) bytes_of before now
-sent_for contents options taken next asked look heads bytes_of before start now look_is heads_is texts_are out pending outcome err sent = (
-  subst (λ (l : Look). Ends l.output.form next now) look_is sent.0,
+sent_for contents options taken next asked look heads bytes_of before start now look_is heads_is texts_are out pending outcome total err sent = (
+  subst (λ (l : Look). Ends l.output.form l.most_of_all next now) look_is sent.0,
   (
-    answered_since contents (IfMore next (AreAllShown options taken paths bytes_of)) (AreAllInPart options taken paths bytes_of) before start now out pending outcome err
-        (subst (λ (t : List (List ℕ)). Answered options.silent contents (IfMore next (AllWhole options paths (look_in options taken) (heads_in options (length paths)) t bytes_of)) (AllInPart options paths (look_in options taken) (heads_in options (length paths)) t bytes_of) start now) texts_are
-        (subst (λ (h : Heads). Answered options.silent contents (IfMore next (AllWhole options paths (look_in options taken) h (texts_asked asked) bytes_of)) (AllInPart options paths (look_in options taken) h (texts_asked asked) bytes_of) start now) (heads_as_asked options asked heads heads_is)
-        (subst (λ (l : Look). Answered options.silent contents (IfMore next (AllWhole options paths l heads (texts_asked asked) bytes_of)) (AllInPart options paths l heads (texts_asked asked) bytes_of) start now) look_is sent.1.0))),
+    answered_since contents (IfWhole next (AreAllShown options taken paths bytes_of)) (AreAllInPart options taken paths bytes_of) before start now out pending outcome total err
+        (subst (λ (t : List (List ℕ)). Answered options.silent contents (IfWhole next (AllWhole options paths (look_in options taken) (heads_in options (length paths)) t bytes_of)) (AllInPart options paths (look_in options taken) (heads_in options (length paths)) t bytes_of) start now) texts_are
+        (subst (λ (h : Heads). Answered options.silent contents (IfWhole next (AllWhole options paths (look_in options taken) h (texts_asked asked) bytes_of)) (AllInPart options paths (look_in options taken) h (texts_asked asked) bytes_of) start now) (heads_as_asked options asked heads heads_is)
+        (subst (λ (l : Look). Answered options.silent contents (IfWhole next (AllWhole options paths l heads (texts_asked asked) bytes_of)) (AllInPart options paths l heads (texts_asked asked) bytes_of) start now) look_is sent.1.0))),
     sent.1.1,
   ),
 )
@@ -125,28 +128,31 @@ begun_for contents options taken asked look heads bytes_of before start now look
 -- of inputs that are known nothing may be shown, and of the first row nothing is out
 pub nothing_for : {W E : Type 0} (contents : W → Option (List ℕ)) (options : Options) (taken : Bool) (paths : List JsonPath) (bytes_of : List ℕ → Option (List ℕ)) (before now : Streams W E) → AreKnown bytes_of (names_in options) → now.out ≡ before.out
     → Begins contents (AreAllInPart options taken paths bytes_of) before now
-nothing_for contents options taken paths bytes_of before now known same = none_begun_of contents (AreAllInPart options taken paths bytes_of) (header_for options (path_texts bytes_of options) ++ []) false before now
-    ([], no_named (IsShownInPartFor options taken paths) options.lines bytes_of (names_in options) (λ name number bytes. no_shown (is_table options.shown) paths (look_in options taken) (row_line options.shown options.end) (cells_for options name number) (head_for options (length paths) name number) bytes) known 1 false, refl) same
+nothing_for contents options taken paths bytes_of before now known same =
+    let Is = IsShownInPartFor options taken paths in
+    let none = λ (name : List ℕ) (number : ℕ) (bytes : List ℕ). none_wanted options.most_of_all Is name number bytes 0 (no_shown (is_table options.shown) paths (look_in options taken) (row_line options.shown options.end) (cells_for options name number) (head_for options (length paths) name number) bytes 0) in
+    none_begun_of contents (AreAllInPart options taken paths bytes_of) (header_for options (path_texts bytes_of options) ++ ([] ++ total_for options 0)) 0 before now
+    ([], no_named (IsUntil options.most_of_all Is) options.lines bytes_of (names_in options) 0 none known 1, refl) same
 
 -- a run was answered
 pub run_answered : {W E : Type 0} (contents : W → Option (List ℕ)) (bytes_of : List ℕ → Option (List ℕ)) (options : Options) (taken : Bool) (next : Next) (asked : List AskedPath) (old start answer final : Streams W E)
     → ArePaths (rule_in options) (path_texts bytes_of options) (map (λ (path : AskedPath). path.path) asked)
     → old.outcome ≡ record { selected = false; refused = false } → start.out ≡ old.out → start.outcome ≡ old.outcome → string_bytes start.pending ≡ []
-    → final.out ≡ answer.out → final.outcome ≡ answer.outcome → (options.silent ≡ true → (start.err ≡ old.err) × (final.err ≡ answer.err)) → SendsFor contents options taken next (map (λ (path : AskedPath). path.path) asked) bytes_of start answer
+    → final.out ≡ answer.out → final.outcome ≡ answer.outcome → final.total ≡ answer.total → (options.silent ≡ true → (start.err ≡ old.err) × (final.err ≡ answer.err)) → SendsFor contents options taken next (map (λ (path : AskedPath). path.path) asked) bytes_of start answer
     → AnswersRun contents bytes_of options taken next old final
-run_answered {W} {E} contents bytes_of options taken next asked old start answer final are fresh out outcome empty final_out final_outcome quiet sent =
+run_answered {W} {E} contents bytes_of options taken next asked old start answer final are fresh out outcome empty final_out final_outcome final_total quiet sent =
     let answered = sent.1.0 in
     let appends = sent_out (contents start.out) (contents answer.out) (string_bytes start.pending) (string_bytes answer.pending) answered.text empty sent.1.1 answered.writes in
     record {
       paths = map (λ (path : AskedPath). path.path) asked;
       are = are;
       text = answered.text;
-      any = answered.any;
-      ends = subst (λ (o : Outcome). (next ≡ More) ⊎ ((form_in options.shown ≡ Nothing) × (o.selected ≡ true))) (sym final_outcome) sent.0;
-      whole = λ right more. (answered.whole (sym (ap (λ (o : Outcome). o.refused) final_outcome) ∙ right)).1 more;
+      count = answered.count;
+      ends = ends_still (form_in options.shown) options.most_of_all next answer final final_total (ap (λ (o : Outcome). o.selected) final_outcome) sent.0;
+      whole = λ right all. (answered.whole (sym (ap (λ (o : Outcome). o.refused) final_outcome) ∙ right)).1 all;
       part = answered.part;
       out = subst (λ (o : W). Appends (contents o) (contents final.out) answered.text) out (subst (λ (o : W). Appends (contents start.out) (contents o) answered.text) (sym final_out) appends);
-      selected = ap (λ (o : Outcome). o.selected) final_outcome ∙ answered.selected ∙ ap (λ (o : Outcome). o.selected || answered.any) (outcome ∙ fresh);
+      selected = ap (λ (o : Outcome). o.selected) final_outcome ∙ answered.selected ∙ ap (λ (o : Outcome). o.selected || nat_lt 0 answered.count) (outcome ∙ fresh);
       told = λ silent right. (quiet silent).1 ∙ answered.told silent (sym (ap (λ (o : Outcome). o.refused) final_outcome) ∙ right) ∙ (quiet silent).0;
     }
 
@@ -156,15 +162,21 @@ each_shown (Nodes Nothing) is = absurd cc
 each_shown (Nodes _) is = refl
 each_shown _ is = refl
 
--- a plain run goes on up to its end
-pub plain_goes_on : {W E : Type 0} (options : Options) (next : Next) (after : Streams W E) → is_each options.shown ≡ true → Ends (form_in options.shown) next after → next ≡ More
-plain_goes_on options next after each (inl more) = more
-plain_goes_on options next after each (inr quiet) = absurd (not_quiet options.shown each quiet.0)
+-- a plain run shows all that is wanted, and goes on up to its end where all is
+pub plain_whole : {W E : Type 0} (options : Options) (next : Next) (after : Streams W E) → is_each options.shown ≡ true → Ends (form_in options.shown) options.most_of_all next after → is_whole next ≡ true
+plain_whole options More after each ends = refl
+plain_whole options Enough after each ends = refl
+plain_whole options Found after each ends = absurd (not_quiet options.shown each ends.0)
   where
     not_quiet : (shown : OptionShown) → is_each shown ≡ true → form_in shown ≡ Nothing → ⊥
     not_quiet (Nodes Nothing) is none = absurd cc
     not_quiet (Nodes _) is none = absurd cc
     not_quiet _ is none = absurd cc
+
+pub all_wanted : {W E : Type 0} (form : Form) (most : Option ℕ) (next : Next) (after : Streams W E) → is_whole next ≡ true → most ≡ None → Ends form most next after → next ≡ More
+all_wanted form most More after whole all ends = refl
+all_wanted form most Enough after whole all ends = absurd (true≢false (sym ends ∙ ap (λ (m : Option ℕ). has_enough m after.total) all))
+all_wanted form most Found after whole all ends = absurd (true≢false (sym whole))
 
 -- so what it shows went out
 pub plain_answered : {W E : Type 0} (contents : W → Option (List ℕ)) (bytes_of : List ℕ → Option (List ℕ)) (options : Options) (taken : Bool) (next : Next) (before after : Streams W E) → is_each options.shown ≡ true → after.outcome.refused ≡ false
@@ -173,10 +185,10 @@ plain_answered contents bytes_of options taken next before after each right run 
   paths = run.paths;
   are = run.are;
   text = run.text;
-  any = run.any;
-  shown = run.whole right (plain_goes_on options next after each run.ends);
+  count = run.count;
+  shown = run.whole right (plain_whole options next after each run.ends);
   out = run.out;
-  ends = status_is after.outcome run.any right run.selected;
+  ends = status_is after.outcome (nat_lt 0 run.count) right run.selected;
 }
 
 -- of what is shown of the inputs a beginning is out

@@ -1,11 +1,11 @@
 -- Rows of tables, cell by cell.
-use Rattle.jpq_program.proofs.Words.{◌≡◌, ◌∙◌, ◌||◌, ◌+◌, ◌<◌, ◌++◌, ◌∷◌, ℕ, Bool, true, false, List, [], Option, None, Some, String, Global, length, nat_lt, map, refl, sym, ap, subst, inl, inr, suc, ◌-◌, Ok, Result, arith, is_some, length-append, length-map, length-take-le, nat_tests, take-append-le, take_all, append-nil, append_assoc, append_cancel_right, codes, flat_map, flat_map-append, if◌then◌else◌, string_bytes, true≢false, Adds, Answered, AreCells, Compact, Data, Finds, FunctionSet, IsAnswer, IsAsked, IsCellInPart, IsCellOf, IsCellOn, IsFirstOf, ArePieces, IsRowInPart, IsRowOn, IsText, Answering, AnswersAll, AnswersBy, AnswersRow, AreShownAs, Begins, Csv, MatchBool, Nodes, OptionShown, Tsv, all_by, all_in_part_by, asked_look, is_table, look_of, row_by, row_in_part_by, shown_in_part_by, JsonPath, LineEnd, Located, OnlyRefuses, Outcome, Raw, Selects, ShowsAs, Streams, builtin_functions, cell_look, cell_text, get_or, path_tree, row_line, row_text, take, with_most, with_rule_of}
+use Rattle.jpq_program.proofs.Words.{◌&&◌, header_by, header_cells, texts_asked, ◌≡◌, ◌∙◌, ◌||◌, ◌+◌, ◌<◌, ◌++◌, ◌∷◌, ℕ, Bool, true, false, List, [], Option, None, Some, String, Global, length, nat_lt, map, refl, sym, ap, subst, inl, inr, suc, ◌-◌, Ok, Result, arith, is_some, length-append, length-map, length-take-le, nat_tests, take-append-le, take_all, append-nil, append_assoc, append_cancel_right, codes, flat_map, flat_map-append, if◌then◌else◌, string_bytes, true≢false, Adds, Answered, AreCells, Compact, Data, Finds, FunctionSet, IsAnswer, IsAsked, IsCellInPart, IsCellOf, IsCellOn, IsFirstOf, ArePieces, IsRowInPart, IsRowOn, IsText, Answering, AnswersAll, AnswersAs, AnswersBy, AnswersRow, AreShownAs, Begins, Csv, MatchBool, Nodes, OptionShown, Tsv, all_by, all_in_part_by, asked_look, is_table, look_of, row_by, row_in_part_by, shown_in_part_by, JsonPath, LineEnd, Located, OnlyRefuses, Outcome, Raw, Selects, Shown, ShowsAs, Streams, builtin_functions, cell_look, cell_text, get_or, path_tree, row_line, row_text, take, with_most, with_rule_of}
 use Rattle.jpq_program.specs.Inside.{separated, separator_in}
 use Rattle.jpq_program.specs.declared.rows.Separator.{Separator}
 use Rattle.jpq_program.specs.declared.rows.Separator.TheVariants.{Comma, Tab}
 use Rattle.jpq_program.proofs.Dressed.{bare_line}
-use Rattle.jpq_program.proofs.Nodes.{appends_nothing, further_mapped}
-use Rattle.jpq_program.proofs.Shown.{or_assoc, or_false, shown_of_asked}
+use Rattle.jpq_program.proofs.Nodes.{appends_nothing, further_mapped, plus_zero, zero_plus}
+use Rattle.jpq_program.proofs.Shown.{or_counts, or_false, plus_assoc, shown_of_asked}
 
 -- ---- texts
 
@@ -34,52 +34,52 @@ row_further cells index item start old between now within is so_far tab own =
 -- ---- cells
 
 -- one more cell, of one more path
-cells_further : (Is : JsonPath → List ℕ → Bool → Type 0) (paths : List JsonPath) (path : JsonPath) (cells : List (List ℕ)) (cell : List ℕ) (any one : Bool) → AreCells Is paths cells any → Is path cell one → AreCells Is (paths ++ path ∷ []) (cells ++ cell ∷ []) (any || one)
-cells_further Is [] path cells cell any one are is =
-    (cell, [], one, false, is, (refl, refl), ap (λ (cs : List (List ℕ)). cs ++ cell ∷ []) are.0, ap (λ (b : Bool). b || one) are.1 ∙ or_false one)
-cells_further Is (first ∷ paths) path cells cell any one are is = (
+cells_further : (Is : JsonPath → List ℕ → ℕ → Type 0) (paths : List JsonPath) (path : JsonPath) (cells : List (List ℕ)) (cell : List ℕ) (count one : ℕ) → AreCells Is paths cells count → Is path cell one → AreCells Is (paths ++ path ∷ []) (cells ++ cell ∷ []) (count + one)
+cells_further Is [] path cells cell count one are is =
+    (cell, [], one, 0, is, (refl, refl), ap (λ (cs : List (List ℕ)). cs ++ cell ∷ []) are.0, ap (λ c. c + one) are.1 ∙ zero_plus one)
+cells_further Is (first ∷ paths) path cells cell count one are is = (
   are.0,
   are.1 ++ cell ∷ [],
   are.2,
-  are.3 || one,
+  are.3 + one,
   are.4,
   cells_further Is paths path are.1 cell are.3 one are.5 is,
   ap (λ (cs : List (List ℕ)). cs ++ cell ∷ []) are.6,
-  ap (λ (b : Bool). b || one) are.7 ∙ or_assoc are.2 are.3 one,
+  ap (λ c. c + one) are.7 ∙ plus_assoc are.2 are.3 one,
 )
 
 -- ---- the first node
 
 -- the text of a cell, as a line
-abbrev line_of : List ℕ → Bool → List ℕ
-line_of cell any = if any then cell ++ codes "\n" else []
+abbrev line_of : List ℕ → ℕ → List ℕ
+line_of cell count = if nat_lt 0 count then cell ++ codes "\n" else []
 
 first_shown : (n : Located) (cell : List ℕ) → IsText Raw Compact n cell → ArePieces cell_look false [] (n ∷ []) (cell ++ codes "\n")
 first_shown n cell is = (cell ++ codes "\n", [], (cell ++ codes "\n", cell ++ codes "\n", (cell, is, refl), sym (bare_line cell_look n.value (cell ++ codes "\n") refl refl), refl), refl, sym (append-nil (cell ++ codes "\n")))
 
-cell_answers : (F : FunctionSet) (path : JsonPath) (d : Data) (nodes : List Located) (cell : List ℕ) (any : Bool) → Selects (with_rule_of path F) (path_tree path) d nodes → IsCellOf nodes cell any → IsAnswer F path (with_most cell_look (Some 1)) false [] d (line_of cell any) any
-cell_answers F path d [] cell any selects is = ([], selects, ap (line_of cell) is.1, is.1)
-cell_answers F path d (n ∷ ns) cell any selects is =
-    (n ∷ ns, selects, subst (λ (a : Bool). ArePieces cell_look false [] (n ∷ []) (line_of cell a)) (sym is.1) (first_shown n cell is.0), is.1)
+cell_answers : (F : FunctionSet) (path : JsonPath) (d : Data) (nodes : List Located) (cell : List ℕ) (count : ℕ) → Selects (with_rule_of path F) (path_tree path) d nodes → IsCellOf nodes cell count → IsAnswer F path (with_most cell_look (Some 1)) false [] d (line_of cell count) count
+cell_answers F path d [] cell count selects is = ([], selects, ap (line_of cell) is.1, is.1)
+cell_answers F path d (n ∷ ns) cell count selects is =
+    (n ∷ ns, selects, subst (λ c. ArePieces cell_look false [] (n ∷ []) (line_of cell c)) (sym is.1) (first_shown n cell is.0), is.1)
 
-cell_answered : (nodes : List Located) (cell : List ℕ) (any : Bool) → (any ≡ false → cell ≡ []) → ArePieces cell_look false [] (take 1 nodes) (line_of cell any) → any ≡ nat_lt 0 (length (take 1 nodes)) → IsCellOf nodes cell any
-cell_answered [] cell any none are is = (none is, is)
-cell_answered (n ∷ ns) cell any none are is =
-    let lines = subst (λ (a : Bool). ArePieces cell_look false [] (n ∷ []) (line_of cell a)) is are in
+cell_answered : (nodes : List Located) (cell : List ℕ) (count : ℕ) → (count ≡ 0 → cell ≡ []) → ArePieces cell_look false [] (take 1 nodes) (line_of cell count) → count ≡ length (take 1 nodes) → IsCellOf nodes cell count
+cell_answered [] cell count none are is = (none is, is)
+cell_answered (n ∷ ns) cell count none are is =
+    let lines = subst (λ c. ArePieces cell_look false [] (n ∷ []) (line_of cell c)) is are in
     let own = lines.2 in
     let text : cell ++ codes "\n" ≡ own.2.0 ++ codes "\n" = lines.4 ∙ ap (λ (t : List ℕ). lines.0 ++ t) lines.3 ∙ append-nil lines.0 ∙ own.4 ∙ own.3 ∙ bare_line cell_look n.value own.0 refl refl ∙ own.2.2 in
     (subst (IsText Raw Compact n) (sym (append_cancel_right cell own.2.0 (codes "\n") text)) own.2.1, is)
 
 -- the cell of what was read of a document is that of the document
-cell_on : (bytes : List ℕ) (value asked : Data) (path : JsonPath) (nodes : List Located) (cell : List ℕ) (any : Bool) → ShowsAs cell_look bytes value path → IsAsked bytes value asked → Selects (with_rule_of path builtin_functions) (path_tree path) asked nodes → IsCellOf nodes cell any
-    → IsCellOn builtin_functions bytes path cell any
-cell_on bytes value asked path nodes cell any shows of selects is =
-    let shown = shown_of_asked cell_look bytes value asked path (Some 1) false [] (line_of cell any) any shows of (cell_answers builtin_functions path asked nodes cell any selects is) in
-    (shown.0, shown.1, (shown.2.0, shown.2.1, cell_answered shown.2.0 cell any (no_cell nodes is) shown.2.2 shown.2.3))
+cell_on : (bytes : List ℕ) (value asked : Data) (path : JsonPath) (nodes : List Located) (cell : List ℕ) (count : ℕ) → ShowsAs cell_look bytes value path → IsAsked bytes value asked → Selects (with_rule_of path builtin_functions) (path_tree path) asked nodes → IsCellOf nodes cell count
+    → IsCellOn builtin_functions bytes path cell count
+cell_on bytes value asked path nodes cell count shows of selects is =
+    let shown = shown_of_asked cell_look bytes value asked path (Some 1) false [] (line_of cell count) count shows of (cell_answers builtin_functions path asked nodes cell count selects is) in
+    (shown.0, shown.1, (shown.2.0, shown.2.1, cell_answered shown.2.0 cell count (no_cell nodes is) shown.2.2 shown.2.3))
   where
-    no_cell : (nodes : List Located) → IsCellOf nodes cell any → any ≡ false → cell ≡ []
+    no_cell : (nodes : List Located) → IsCellOf nodes cell count → count ≡ 0 → cell ≡ []
     no_cell [] is none = is.0
-    no_cell (n ∷ ns) is none = absurd (true≢false (sym is.1 ∙ none))
+    no_cell (n ∷ ns) is none = absurd (omega (arith, is.1, none))
 
 -- what is taken of a line, without its end
 pub cut_line : (text line whole cut : List ℕ) (len : ℕ) → line ≡ text ++ codes "\n" → whole ≡ line → len ≡ length whole → cut ≡ take (len - 1) whole → cut ≡ text
@@ -105,14 +105,14 @@ of_either r true is one other = one is
 of_either r false is one other = other is
 
 -- the cell of nodes of which the first was looked for
-pub some_cell : (nodes : List Located) (cell : String Global) → IsFirstOf nodes (Some cell) → IsCellOf nodes (string_bytes cell) true
+pub some_cell : (nodes : List Located) (cell : String Global) → IsFirstOf nodes (Some cell) → IsCellOf nodes (string_bytes cell) 1
 some_cell [] cell is = absurd cc
 some_cell (n ∷ ns) cell is = (subst (λ (c : String Global). IsText Raw Compact n (string_bytes c)) (sym (same_text is.0 is.1)) is.2, refl)
   where
     same_text : (text : String Global) → Some cell ≡ Some text → cell ≡ text
     same_text text same = cc
 
-pub no_node : (nodes : List Located) → IsFirstOf nodes None → IsCellOf nodes [] false
+pub no_node : (nodes : List Located) → IsFirstOf nodes None → IsCellOf nodes [] 0
 no_node [] is = (refl, refl)
 no_node (n ∷ ns) is = absurd (no_text is.0 is.1)
   where
@@ -120,32 +120,32 @@ no_node (n ∷ ns) is = absurd (no_text is.0 is.1)
     no_text text same = absurd cc
 
 -- a cell was found
-pub cell_found : {W E : Type 0} {silent : Bool} (bytes : List ℕ) (value asked : Data) (path : JsonPath) (nodes : List Located) (cell : List ℕ) (any : Bool) (before now : Streams W E) → ShowsAs cell_look bytes value path → IsAsked bytes value asked
-    → Selects (with_rule_of path builtin_functions) (path_tree path) asked nodes → IsCellOf nodes cell any → now.out ≡ before.out → now.pending ≡ before.pending → now.outcome ≡ record before.outcome { selected = before.outcome.selected || any }
-    → now.left ≡ None → (silent ≡ true → now.err ≡ before.err) → Finds silent (IsCellOn builtin_functions bytes path cell) (IsCellInPart builtin_functions bytes path cell) before now
-cell_found bytes value asked path nodes cell any before now shows of selects is out pending outcome left told =
-    let found = cell_on bytes value asked path nodes cell any shows of selects is in record {
-      any = any;
+pub cell_found : {W E : Type 0} {silent : Bool} (bytes : List ℕ) (value asked : Data) (path : JsonPath) (nodes : List Located) (cell : List ℕ) (count : ℕ) (before now : Streams W E) → ShowsAs cell_look bytes value path → IsAsked bytes value asked
+    → Selects (with_rule_of path builtin_functions) (path_tree path) asked nodes → IsCellOf nodes cell count → now.out ≡ before.out → now.pending ≡ before.pending → now.outcome ≡ record before.outcome { selected = before.outcome.selected || nat_lt 0 count }
+    → now.total ≡ before.total + count → (silent ≡ true → now.err ≡ before.err) → Finds silent (IsCellOn builtin_functions bytes path cell) (IsCellInPart builtin_functions bytes path cell) before now
+cell_found bytes value asked path nodes cell count before now shows of selects is out pending outcome total told =
+    let found = cell_on bytes value asked path nodes cell count shows of selects is in record {
+      count = count;
       whole = λ right. (sym (ap (λ (o : Outcome). o.refused) outcome) ∙ right, found);
       part = inr found;
       out = out;
       pending = pending;
       selected = ap (λ (o : Outcome). o.selected) outcome;
-      left = left;
+      total = total;
       told = λ silent right. told silent;
     }
 
 -- the query was refused, and the cell is empty
-pub cell_refused : {W E : Type 0} {silent : Bool} (bytes : List ℕ) (path : JsonPath) (cell : List ℕ) (before now : Streams W E) → cell ≡ [] → OnlyRefuses before now → now.outcome.refused ≡ true → before.left ≡ None
+pub cell_refused : {W E : Type 0} {silent : Bool} (bytes : List ℕ) (path : JsonPath) (cell : List ℕ) (before now : Streams W E) → cell ≡ [] → OnlyRefuses before now → now.outcome.refused ≡ true
     → Finds silent (IsCellOn builtin_functions bytes path cell) (IsCellInPart builtin_functions bytes path cell) before now
-cell_refused {W} {E} bytes path cell before now empty kept refused left = record {
-  any = false;
+cell_refused {W} {E} bytes path cell before now empty kept refused = record {
+  count = 0;
   whole = λ right. absurd (true≢false (sym refused ∙ right));
   part = inl (empty, refl);
   out = ap (λ (s : Streams W E). s.out) kept;
   pending = ap (λ (s : Streams W E). s.pending) kept;
   selected = ap (λ (s : Streams W E). s.outcome.selected) kept ∙ or_false before.outcome.selected;
-  left = ap (λ (s : Streams W E). s.left) kept ∙ left;
+  total = ap (λ (s : Streams W E). s.total) kept ∙ plus_zero before.total;
   told = λ silent right. absurd (true≢false (sym refused ∙ right));
 }
 
@@ -156,15 +156,15 @@ abbrev pub FindsCells : {W E : Type 0} → Bool → List ℕ → List JsonPath �
 FindsCells silent bytes paths cells before now = Finds silent (AreCells (IsCellOn builtin_functions bytes) paths cells) (AreCells (IsCellInPart builtin_functions bytes) paths cells) before now
 
 -- none was yet
-pub no_cells : {W E : Type 0} {silent : Bool} (bytes : List ℕ) (streams : Streams W E) → streams.left ≡ None → FindsCells silent bytes [] [] streams streams
-no_cells bytes streams left = record {
-  any = false;
+pub no_cells : {W E : Type 0} {silent : Bool} (bytes : List ℕ) (streams : Streams W E) → FindsCells silent bytes [] [] streams streams
+no_cells bytes streams = record {
+  count = 0;
   whole = λ right. (right, (refl, refl));
   part = (refl, refl);
   out = refl;
   pending = refl;
   selected = or_false streams.outcome.selected;
-  left = left;
+  total = plus_zero streams.total;
   told = λ silent right. refl;
 }
 
@@ -172,16 +172,16 @@ no_cells bytes streams left = record {
 pub cells_found : {W E : Type 0} {silent : Bool} (bytes : List ℕ) (paths : List JsonPath) (path : JsonPath) (cells : List (List ℕ)) (cell : List ℕ) (before old now : Streams W E) → FindsCells silent bytes paths cells before old
     → Finds silent (IsCellOn builtin_functions bytes path cell) (IsCellInPart builtin_functions bytes path cell) old now → FindsCells silent bytes (paths ++ path ∷ []) (cells ++ cell ∷ []) before now
 cells_found bytes paths path cells cell before old now first second = record {
-  any = first.any || second.any;
+  count = first.count + second.count;
   whole = λ right.
       let own = second.whole right in
       let earlier = first.whole own.0 in
-      (earlier.0, cells_further (IsCellOn builtin_functions bytes) paths path cells cell first.any second.any earlier.1 own.1);
-  part = cells_further (IsCellInPart builtin_functions bytes) paths path cells cell first.any second.any first.part second.part;
+      (earlier.0, cells_further (IsCellOn builtin_functions bytes) paths path cells cell first.count second.count earlier.1 own.1);
+  part = cells_further (IsCellInPart builtin_functions bytes) paths path cells cell first.count second.count first.part second.part;
   out = second.out ∙ first.out;
   pending = second.pending ∙ first.pending;
-  selected = second.selected ∙ ap (λ (b : Bool). b || second.any) first.selected ∙ or_assoc before.outcome.selected first.any second.any;
-  left = second.left;
+  selected = second.selected ∙ ap (λ (b : Bool). b || nat_lt 0 second.count) first.selected ∙ or_counts before.outcome.selected first.count second.count;
+  total = second.total ∙ ap (λ n. n + second.count) first.total ∙ plus_assoc before.total first.count second.count;
   told = λ silent right. second.told silent right ∙ first.told silent (second.whole right).0;
 }
 
@@ -191,7 +191,7 @@ pub row_answered : {W E : Type 0} {silent : Bool} (contents : W → Option (List
     → Answered silent contents (IsRowOn builtin_functions paths line firsts bytes) (IsRowInPart builtin_functions paths line firsts bytes) before now
 row_answered {W} {E} contents paths line firsts cells bytes before old now found kept pushed = record {
   text = text;
-  any = found.any;
+  count = found.count;
   whole = λ right.
       let own = found.whole (sym (ap (λ (s : Streams W E). s.outcome.refused) kept) ∙ right) in
       (own.0, (cells, own.1, refl));
@@ -199,7 +199,7 @@ row_answered {W} {E} contents paths line firsts cells bytes before old now found
   writes = subst (λ (o : W). Adds (contents before.out) (string_bytes before.pending) (contents o) (string_bytes now.pending) text) (sym (ap (λ (s : Streams W E). s.out) kept ∙ found.out))
       ([], appends_nothing (contents before.out), sym (pushed ∙ ap (λ (p : String Global). string_bytes p ++ text) found.pending));
   selected = ap (λ (s : Streams W E). s.outcome.selected) kept ∙ found.selected;
-  left = ap (λ (s : Streams W E). s.left) kept ∙ found.left;
+  total = ap (λ (s : Streams W E). s.total) kept ∙ found.total;
   told = λ silent right. ap (λ (s : Streams W E). s.err) kept ∙ found.told silent (sym (ap (λ (s : Streams W E). s.outcome.refused) kept) ∙ right);
 }
   where
@@ -208,20 +208,25 @@ row_answered {W} {E} contents paths line firsts cells bytes before old now found
 
 -- ---- what is shown of a document
 
+-- what is shown of a document, in a row or not
+abbrev InRow : Bool → Answering → Shown
+InRow table answering name number bytes before text count = MatchBool table (row_by answering name number bytes before text count) (all_by answering name number bytes before text count)
+
+abbrev InRowInPart : Bool → Answering → Shown
+InRowInPart table answering name number bytes before text count = MatchBool table (row_in_part_by answering name number bytes before text count) (all_in_part_by answering name number bytes before text count)
+
 -- what is shown in a row, or of all paths, is what is asked to be shown
 pub as_row : {W E : Type 0} (contents : W → Option (List ℕ)) (answering : Answering) (name : List ℕ) (number : ℕ) (bytes : List ℕ) (before now : Streams W E) → is_table answering.shown ≡ true
     → AnswersRow contents answering name number bytes before now → AnswersBy contents answering name number bytes before now
-as_row contents answering name number bytes before now table answered = subst (λ (t : Bool). Answered answering.silent contents (λ text any. MatchBool t (row_by answering name number bytes text any) (all_by answering name number bytes text any))
-    (λ text any. MatchBool t (row_in_part_by answering name number bytes text any) (all_in_part_by answering name number bytes text any)) before now) (sym table) answered
+as_row contents answering name number bytes before now table answered = subst (λ (t : Bool). AnswersAs contents answering (InRow t answering) (InRowInPart t answering) name number bytes before now) (sym table) answered
 
 pub as_all : {W E : Type 0} (contents : W → Option (List ℕ)) (answering : Answering) (name : List ℕ) (number : ℕ) (bytes : List ℕ) (before now : Streams W E) → is_table answering.shown ≡ false
     → AnswersAll contents answering name number bytes before now → AnswersBy contents answering name number bytes before now
-as_all contents answering name number bytes before now table answered = subst (λ (t : Bool). Answered answering.silent contents (λ text any. MatchBool t (row_by answering name number bytes text any) (all_by answering name number bytes text any))
-    (λ text any. MatchBool t (row_in_part_by answering name number bytes text any) (all_in_part_by answering name number bytes text any)) before now) (sym table) answered
+as_all contents answering name number bytes before now table answered = subst (λ (t : Bool). AnswersAs contents answering (InRow t answering) (InRowInPart t answering) name number bytes before now) (sym table) answered
 
 pub begun_as_all : {W E : Type 0} (contents : W → Option (List ℕ)) (answering : Answering) (name : List ℕ) (number : ℕ) (bytes : List ℕ) (before now : Streams W E) → is_table answering.shown ≡ false
-    → Begins contents (all_in_part_by answering name number bytes) before now → Begins contents (shown_in_part_by answering name number bytes) before now
-begun_as_all contents answering name number bytes before now table begun = subst (λ (t : Bool). Begins contents (λ text any. MatchBool t (row_in_part_by answering name number bytes text any) (all_in_part_by answering name number bytes text any)) before now) (sym table) begun
+    → Begins contents (all_in_part_by answering name number bytes before.total) before now → Begins contents (shown_in_part_by answering name number bytes before.total) before now
+begun_as_all contents answering name number bytes before now table begun = subst (λ (t : Bool). Begins contents (InRowInPart t answering name number bytes before.total) before now) (sym table) begun
 
 -- the nodes are looked at so
 pub looked_at : (answering : Answering) (bytes : List ℕ) (value : Data) (table : Bool) → is_table answering.shown ≡ table → AreShownAs (asked_look answering) bytes value answering.paths.now
@@ -249,6 +254,19 @@ line_is Csv separator end cells is = ap (λ (s : Separator). separated s end cel
   where
     of_some : (s t : Separator) → Some t ≡ Some s → s ≡ t
     of_some s t same = cc
+
+-- the first row, where it is asked for
+pub header_is : (answering : Answering) (separator : Separator) (wanted : Bool) → wanted ≡ true → separator_in answering.shown ≡ Some separator
+    → separated separator answering.showing.output.end (header_cells answering.heads.file answering.heads.line (texts_asked answering.paths.now)) ≡ header_by answering wanted
+header_is answering separator wanted is rows =
+    line_is answering.shown separator answering.showing.output.end cells rows
+    ∙ sym (ap (λ (w : Bool). if w && is_table answering.shown then row else []) is ∙ ap (λ (t : Bool). if true && t then row else []) (shows_rows answering.shown separator rows))
+  where
+    cells : List (List ℕ)
+    cells = header_cells answering.heads.file answering.heads.line (texts_asked answering.paths.now)
+
+    row : List ℕ
+    row = row_line answering.shown answering.showing.output.end cells
 
 -- what is shown in no rows is shown as nodes or counts
 pub no_table : (shown : OptionShown) (rest : Bool) → (is_table shown || rest) ≡ true → is_table shown ≡ false → rest ≡ true

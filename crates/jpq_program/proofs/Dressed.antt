@@ -42,10 +42,10 @@ bare_line look d line unit ascii = by_case (has_escapes look.output.form d)
 
 -- a line that is not dressed
 pub bare_look : (showing : Showing) (head : List ℕ) (n : Located) (old new : List ℕ) → showing.dress ≡ None → lines.Appends (IsLine showing.output head n) old new → lines.Appends (IsLook (look_of showing) head n) old new
-bare_look showing head n old new none is = subst (λ (dress : Option Dress). lines.Appends (IsLook (look_with showing.output dress) head n) old new) (sym none) (is.0, (line, line, (own.0, own.1, refl), sym (bare_line bare n.value line refl refl), own.2), is.2)
+bare_look showing head n old new none is = subst (λ (dress : Option Dress). lines.Appends (IsLook (look_with showing.output showing.most_of_all showing.summed dress) head n) old new) (sym none) (is.0, (line, line, (own.0, own.1, refl), sym (bare_line bare n.value line refl refl), own.2), is.2)
   where
     bare : Look
-    bare = look_with showing.output None
+    bare = look_with showing.output showing.most_of_all showing.summed None
 
     own : IsLine showing.output head n is.0
     own = is.1

@@ -72,6 +72,12 @@ pub node_begun : (look : Look) (later : Bool) (head : List ℕ) (n : Located) (o
 node_begun look later head n out later_out waiting pushed node begun =
     (node.0 ++ [], (node.0, [], node.1, refl, refl), subst (AppendsBeginning out later_out) (node.2 ∙ ap (λ t. waiting ++ t) (sym (append-nil node.0))) begun)
 
+pub plus_zero : (n : ℕ) → n ≡ n + 0
+plus_zero n = grind arith
+
+pub zero_plus : (n : ℕ) → 0 + n ≡ n + 0
+zero_plus n = grind arith
+
 -- ---- nodes that are written
 
 pub keeps_both : {W E : Type 0} (before old now : Written W E) → KeepsRest before old → KeepsRest old now → KeepsRest before now
@@ -83,7 +89,7 @@ keeps_both before old now first second = record {
   limit = second.limit ∙ first.limit;
   outcome = second.outcome ∙ first.outcome;
   err = second.err ∙ first.err;
-  left = second.left ∙ first.left;
+  total = second.total ∙ first.total;
 }
 
 still_shown : {W E : Type 0} (before old : Written W E) → KeepsRest before old → shows_nodes before.showing.now ≡ true → shows_nodes old.showing.now ≡ true
@@ -116,15 +122,12 @@ writes_both contents ns ms before old now rest many first second plain =
 -- none was written
 pub took_none : {W E : Type 0} (contents : W → Option (List ℕ)) (w : Written W E) → w.stop ≡ None → is_reached w.limit w.count ≡ false → TookNodes contents w [] w
 took_none contents w stop more = record {
-  rest = record { same = refl; showing = refl; head = refl; later = refl; limit = refl; outcome = refl; err = refl; left = refl };
+  rest = record { same = refl; showing = refl; head = refl; later = refl; limit = refl; outcome = refl; err = refl; total = refl };
   stop = stop;
-  count = arith_zero w.count;
+  count = plus_zero w.count;
   more = more;
   written = λ plain. ([], refl, adds_nothing (contents w.streams.now.out) (string_bytes w.streams.now.pending));
 }
-  where
-    arith_zero : (n : ℕ) → n ≡ n + 0
-    arith_zero n = grind arith
 
 -- another is written
 pub took_one : {W E : Type 0} (contents : W → Option (List ℕ)) (before : Written W E) (nodes : List Located) (n : Located) (old now : Written W E) → TookNodes contents before nodes old
@@ -223,7 +226,7 @@ begins_nothing contents w = record {
   split = refl;
   few = λ _. no_more w.limit;
   begins = record {
-    rest = record { same = refl; showing = refl; head = refl; later = refl; limit = refl; outcome = refl; err = refl; left = refl };
+    rest = record { same = refl; showing = refl; head = refl; later = refl; limit = refl; outcome = refl; err = refl; total = refl };
     written = λ _. ([], refl, none_begun (contents w.streams.now.out) (string_bytes w.streams.now.pending ++ []));
   };
 }

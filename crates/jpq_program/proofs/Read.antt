@@ -1,5 +1,5 @@
 -- What is shown of what was read of a document is what is shown of the document.
-use Rattle.jpq_program.proofs.Words.{◌≡◌, ◌∙◌, ◌<◌, ℕ, Bool, true, false, List, [], ◌∷◌, ◌++◌, Option, None, Some, length, map, nat_lt, refl, sym, ap, subst, inl, inr, suc, get_or, AreShownAs, AskedPath, Documents, IsPlain, Data, Form, Count, Nothing, Location, Pointer, IsIn, IsLine, IsLook, ArePieces, IsObject, IsPiece, IsSeenIn, Json, is_array, Look, AreLines, AreShown, MatchBool, escaped, has_escapes, indented, look_of, with_most, asked_look, cell_look, is_table, IsReadIn, JsonPath, Located, Output, AreLinesIn, Query, ShowsAs, Step, chosen, first_places, first_places_after, is_among, map-append, path_tree, shows_places, take-map, up_to, with_rule_of, length-map, arith, Layout, IsText, normal, pointer, has_nodes, decimal, end_text, take, zero, if◌then◌else◌}
+use Rattle.jpq_program.proofs.Words.{◌≡◌, ◌∙◌, ◌<◌, ℕ, Bool, true, false, List, [], ◌∷◌, ◌++◌, Option, None, Some, length, map, refl, sym, ap, subst, inl, inr, suc, get_or, AreShownAs, AskedPath, Documents, IsPlain, Data, Form, Count, Nothing, Location, Pointer, IsIn, IsLine, IsLook, ArePieces, IsObject, IsPiece, IsSeenIn, Json, is_array, Look, AreLines, AreShown, IsCountIn, MatchBool, escaped, has_escapes, indented, look_of, with_most, asked_look, cell_look, is_table, IsReadIn, JsonPath, Located, Output, AreLinesIn, Query, ShowsAs, Step, chosen, first_places, first_places_after, is_among, map-append, path_tree, shows_places, take-map, up_to, with_rule_of, length-map, arith, Layout, IsText, normal, pointer, has_nodes, decimal, end_text, take, zero, if◌then◌else◌}
 
 abbrev places_of : List Located → List (List Step)
 places_of nodes = map (λ node. node.location) nodes
@@ -107,26 +107,42 @@ same_shown look later head ns ms text shows same are = by_case (has_nodes look.o
     chosen_same : places_of (chosen look.output ns) ≡ places_of (chosen look.output ms)
     chosen_same = same_chosen look.output ns ms same
 
-    by_case : (has : Bool) → has_nodes look.output.form ≡ has → MatchBool has (ArePieces look later head (chosen look.output ns) text) (AreLines look.output head ns text)
-        → MatchBool has (ArePieces look later head (chosen look.output ms) text) (AreLines look.output head ms text)
+    unless_summed : (summed : Bool) → has_nodes look.output.form ≡ false → MatchBool summed (text ≡ []) (AreLines look.output head ns text) → MatchBool summed (text ≡ []) (AreLines look.output head ms text)
+    unless_summed true is are = are
+    unless_summed false is are = same_counts look.output.form look.output head (chosen look.output ns) (chosen look.output ms) text is shows chosen_same are
+
+    by_case : (has : Bool) → has_nodes look.output.form ≡ has → MatchBool has (ArePieces look later head (chosen look.output ns) text) (MatchBool look.summed (text ≡ []) (AreLines look.output head ns text))
+        → MatchBool has (ArePieces look later head (chosen look.output ms) text) (MatchBool look.summed (text ≡ []) (AreLines look.output head ms text))
     by_case true is are = same_pieces look later head (chosen look.output ns) (chosen look.output ms) text is shows chosen_same are
-    by_case false is are = same_counts look.output.form look.output head (chosen look.output ns) (chosen look.output ms) text is shows chosen_same are
+    by_case false is are = unless_summed look.summed is are
+
+-- so are there as many
+same_empty : (ns ms : List Located) → places_of ns ≡ places_of ms → ns ≡ [] → ms ≡ []
+same_empty ns [] same none = refl
+same_empty ns (m ∷ ms) same none = absurd (no_place (sym (ap places_of none) ∙ same))
+  where
+    no_place : [] ≡ places_of (m ∷ ms) → ⊥
+    no_place is = absurd cc
+
+same_counted : (form : Form) (ns ms : List Located) (count : ℕ) → places_of ns ≡ places_of ms → IsCountIn form ns count → IsCountIn form ms count
+same_counted Nothing ns ms count same is = (is.0, (λ none. same_empty ns ms same (is.1.0 none), λ none. is.1.1 (same_empty ms ns (sym same) none)))
+same_counted _ ns ms count same is = is ∙ same_length ns ms same
 
 -- ---- what was read
 
 shows_by_places : (look : Look) (bytes : List ℕ) (queries : List Query) (value : Data) (path : JsonPath) → shows_places look.output.form ≡ true → IsIn (path_tree path) queries → IsReadIn true bytes queries value → ShowsAs look bytes value path
-shows_by_places look bytes queries value path shows asked read = λ F most later head text any is.
+shows_by_places look bytes queries value path shows asked read = λ F most later head text count is.
     let up = with_most look most in
     let alike = read.1.2 (with_rule_of path F) (path_tree path) (places_of is.0) in
     let there = (alike asked).1 (is.0, is.1, refl) in
     let same = sym there.2 in (
       read.1.0,
       (read.0, read.1.1),
-      (there.0, there.1, same_shown up later head is.0 there.0 text shows same is.2, is.3 ∙ ap (nat_lt 0) (same_length (chosen up.output is.0) (chosen up.output there.0) (same_chosen up.output is.0 there.0 same))),
+      (there.0, there.1, same_shown up later head is.0 there.0 text shows same is.2, same_counted up.output.form (chosen up.output is.0) (chosen up.output there.0) count (same_chosen up.output is.0 there.0 same) is.3),
     )
 
 shows_by_values : (look : Look) (bytes : List ℕ) (queries : List Query) (value : Data) (path : JsonPath) → IsIn (path_tree path) queries → IsReadIn false bytes queries value → ShowsAs look bytes value path
-shows_by_values look bytes queries value path asked read = λ F most later head text any is.
+shows_by_values look bytes queries value path asked read = λ F most later head text count is.
     (read.1.0, (read.0, read.1.1), (is.0, (read.1.2 (with_rule_of path F) (path_tree path) is.0 asked).1 is.1, is.2, is.3))
 
 -- what a path shows of what was read for it, it shows of the document

@@ -2,14 +2,24 @@
 use Rattle.std.specs.Char.{is_ascii_whitespace}
 use Rattle.std.specs.Io.BufRead.{strip_last}
 use Rattle.std.specs.List.{list_all}
-use Rattle.std.specs.Prelude.{◌≡◌, ◌==◌, ◌<◌, ℕ, Bool, false, List, [], ◌∷◌, ◌++◌, drop, get_or, length, if◌then◌else◌, IfSome, MatchBool, Option, Some}
+use Rattle.std.specs.Prelude.{◌≡◌, ◌==◌, ◌<◌, ℕ, Bool, false, List, [], ◌∷◌, ◌++◌, drop, get_or, length, nat_le, if◌then◌else◌, IfSome, MatchBool, Option, None, Some}
 use Rattle.jsonpath_document.specs.Begins.{begins}
 use Rattle.jpq_program.specs.Answers.{AreEach}
 
--- what is shown of a document: of its input's name, the number of its line in that, and its bytes, the text, and whether a node is
--- shown
+-- what is shown of a document: of its input's name, the number of its line in that, its bytes, and how many nodes were shown before it,
+-- the text, and how many nodes are shown
 abbrev pub Shown : Type 1
-Shown = List ℕ → ℕ → List ℕ → List ℕ → Bool → Type 0
+Shown = List ℕ → ℕ → List ℕ → ℕ → List ℕ → ℕ → Type 0
+
+-- as many nodes were shown as are wanted
+abbrev pub has_enough : Option ℕ → ℕ → Bool
+has_enough None count = false
+has_enough (Some most) count = nat_le most count
+
+-- the same where so many nodes are wanted of all documents: of one before which there are enough nothing is shown
+abbrev pub IsUntil : Option ℕ → Shown → Shown
+IsUntil most Is name number bytes before text count =
+    MatchBool (has_enough most before) ((text ≡ []) × (count ≡ 0)) (Is name number bytes before text count)
 
 -- the bytes after a byte order mark, which a reader may pass over (RFC 8259, section 8.1)
 abbrev pub without_mark : List ℕ → List ℕ
@@ -30,23 +40,25 @@ abbrev pub is_blank : List ℕ → Bool
 is_blank line = list_all is_ascii_whitespace line
 
 -- what is shown of a line: of its document, or nothing where it is blank
-abbrev pub IsLineShown : Shown → List ℕ → ℕ → List ℕ → List ℕ → Bool → Type 0
-IsLineShown Is name number line text any =
-    MatchBool (is_blank line) ((text ≡ []) × (any ≡ false)) (Is name number (without_mark (strip_last 10 line)) text any)
+abbrev pub IsLineShown : Shown → List ℕ → ℕ → List ℕ → ℕ → List ℕ → ℕ → Type 0
+IsLineShown Is name number line before text count =
+    MatchBool (is_blank line) ((text ≡ []) × (count ≡ 0)) (Is name number (without_mark (strip_last 10 line)) before text count)
 
 -- what is shown of an input: of each of its lines, or of the one document that it is
-abbrev pub IsInputShown : Shown → Bool → List ℕ → List ℕ → List ℕ → Bool → Type 0
-IsInputShown Is lines name bytes text any =
-    MatchBool lines (AreEach (λ number later line. IsLineShown Is name number line) 1 false (lines_of bytes) text any)
-    (Is name 1 (without_mark bytes) text any)
+abbrev pub IsInputShown : Shown → Bool → List ℕ → List ℕ → ℕ → List ℕ → ℕ → Type 0
+IsInputShown Is lines name bytes before text count =
+    MatchBool lines (AreEach (λ number so_far line. IsLineShown Is name number line so_far) 1 before (lines_of bytes) text count)
+    (Is name 1 (without_mark bytes) before text count)
 
 -- what is shown of the input of a name, by what is known of the bytes of each
-abbrev pub IsNamedShown : Shown → Bool → (List ℕ → Option (List ℕ)) → List ℕ → List ℕ → Bool → Type 0
-IsNamedShown Is lines bytes_of name text any = (bytes : List ℕ) × (bytes_of name ≡ Some bytes) × IsInputShown Is lines name bytes text any
+abbrev pub IsNamedShown : Shown → Bool → (List ℕ → Option (List ℕ)) → List ℕ → ℕ → List ℕ → ℕ → Type 0
+IsNamedShown Is lines bytes_of name before text count =
+    (bytes : List ℕ) × (bytes_of name ≡ Some bytes) × IsInputShown Is lines name bytes before text count
 
 -- the same of several inputs, in order
-abbrev pub AreInputsShown : Shown → Bool → (List ℕ → Option (List ℕ)) → List (List ℕ) → List ℕ → Bool → Type 0
-AreInputsShown Is lines bytes_of names text any = AreEach (λ number later name. IsNamedShown Is lines bytes_of name) 1 false names text any
+abbrev pub AreInputsShown : Shown → Bool → (List ℕ → Option (List ℕ)) → List (List ℕ) → ℕ → List ℕ → ℕ → Type 0
+AreInputsShown Is lines bytes_of names before text count =
+    AreEach (λ number so_far name. IsNamedShown Is lines bytes_of name so_far) 1 before names text count
 
 -- the bytes of each input are known
 abbrev pub AreKnown : (List ℕ → Option (List ℕ)) → List (List ℕ) → Type 0

@@ -1,5 +1,6 @@
 -- What contracts of private functions cite alone.
 use Rattle.std.specs.Prelude.{◌≡◌, ◌+◌, ◌<◌, ◌≤◌, get_or, ◌⊎◌, Err, Ok, Result, codes, if◌then◌else◌, ℕ, Bool, true, false, not, ◌&&◌, ◌||◌, List, [], ◌∷◌, ◌++◌, map, MatchBool, Option, None, Some, String, IfSome, length, option_map, is_some, nat_lt, string_bytes}
+use Rattle.std.specs.Fmt.{decimal}
 use Rattle.std.specs.Io.KnownBytes.{Appends}
 use Rattle.std.specs.List.{AllZip}
 use Rattle.std.specs.declared.alloc.Global.{Global}
@@ -26,13 +27,13 @@ use Rattle.jsonpath_document.specs.Document.{ReadsAs}
 use Rattle.jpq_program.specs.Answers.{AreAnswersInPart, AreAnswersOn, IsAnswer, IsAnswerInPart, IsAnswerOn, IsShownInPart, IsShownOn, has_nodes, with_most}
 use Rattle.jpq_program.specs.Looks.{ArePieces, IsPiece, Look, is_array, led_by}
 use Rattle.jpq_program.specs.Heads.{head_in}
-use Rattle.jpq_program.specs.Inputs.{AreInputsShown, IsInputShown, IsLineShown, Shown}
+use Rattle.jpq_program.specs.Inputs.{AreInputsShown, IsInputShown, IsLineShown, IsUntil, Shown, has_enough}
 use Rattle.csv.specs.Writing as csv
 use Rattle.jsonpath_lines.specs.declared.forms.LineEnd.{LineEnd}
 use Rattle.jpq_program.specs.declared.rows.Separator.{Separator}
 use Rattle.jpq_program.specs.declared.rows.Separator.TheVariants.{Comma, Tab}
 use Rattle.jpq_program.specs.Rows.{comma_rows, header_cells, IsRowInPart, IsRowOn, first_cells, row_line, row_text}
-use Rattle.jpq_program.specs.Run.{AreAllInPart, AreAllShown, ArePaths, IsAfter, IsPathOf, IsPlainRun, IsQuietRun, form_in, has_line_numbers, has_names, has_numbers, path_texts, rule_in}
+use Rattle.jpq_program.specs.Run.{AreAllInPart, AreAllShown, ArePaths, IsBetween, IsPathOf, IsPlainRun, IsQuietRun, form_in, has_line_numbers, has_names, has_numbers, path_texts, rule_in}
 use Rattle.jpq_options.specs.declared.options.Options.{Options}
 use Rattle.jpq_options.specs.declared.options.Shown.{Shown as OptionShown}
 use Rattle.jpq_options.specs.declared.options.Shown.TheVariants.{Csv, Nodes, Tsv}
@@ -49,7 +50,7 @@ use Rattle.jpq_program.specs.declared.source.Heads.{Heads}
 use Rattle.jpq_program.specs.declared.streams.Outcome.{Outcome}
 use Rattle.jpq_program.specs.declared.streams.Stop.{Stop}
 use Rattle.jpq_program.specs.declared.streams.Next.{Next}
-use Rattle.jpq_program.specs.declared.streams.Next.TheVariants.{More}
+use Rattle.jpq_program.specs.declared.streams.Next.TheVariants.{Enough, Found, More}
 use Rattle.jpq_program.specs.declared.streams.Stop.TheVariants.{Memory, OutputFailed, ReaderGone, Refused, WrongUse}
 use Rattle.jpq_program.specs.declared.streams.Streams.{Streams}
 use Rattle.jpq_program.specs.declared.written.Written.{Written}
@@ -114,16 +115,16 @@ Counts F path output head d old new count = (nodes : List Located) × (shown : L
     × Selects (with_rule_of path F) (path_tree path) d nodes
     × AreLines output head nodes shown × (new ≡ old ++ shown) × IsCount output nodes count
 
--- a text was added; what it is where nothing is refused, and where something may be; and whether it shows a node. Without notes nothing
+-- a text was added; what it is where nothing is refused, and where something may be; and how many nodes it shows. Without notes nothing
 -- is told where nothing is refused.
-pub record Answered {W E : Type 0} (silent : Bool) (contents : W → Option (List ℕ)) (Is IsPart : List ℕ → Bool → Type 0) (before after : Streams W E) : Type 0 where
+pub record Answered {W E : Type 0} (silent : Bool) (contents : W → Option (List ℕ)) (Is IsPart : List ℕ → ℕ → Type 0) (before after : Streams W E) : Type 0 where
   pub text : List ℕ
-  pub any : Bool
-  pub whole : after.outcome.refused ≡ false → (before.outcome.refused ≡ false) × Is text any
-  pub part : IsPart text any
+  pub count : ℕ
+  pub whole : after.outcome.refused ≡ false → (before.outcome.refused ≡ false) × Is text count
+  pub part : IsPart text count
   pub writes : Writes contents before after text
-  pub selected : after.outcome.selected ≡ (before.outcome.selected || any)
-  pub left : after.left ≡ None
+  pub selected : after.outcome.selected ≡ (before.outcome.selected || nat_lt 0 count)
+  pub total : after.total ≡ before.total + count
   pub told : silent ≡ true → after.outcome.refused ≡ false → after.err ≡ before.err
 
 -- what is shown of a path was added
@@ -132,30 +133,37 @@ AnswersPath silent contents path look later head bytes before after =
     Answered silent contents (IsAnswerOn builtin_functions path look later head bytes) (IsAnswerInPart builtin_functions path look later head bytes) before after
 
 -- a text was sent, and nothing is pending after it
-abbrev pub Sends : {W E : Type 0} → Bool → (W → Option (List ℕ)) → (Is IsPart : List ℕ → Bool → Type 0) → Streams W E → Streams W E → Type 0
+abbrev pub Sends : {W E : Type 0} → Bool → (W → Option (List ℕ)) → (Is IsPart : List ℕ → ℕ → Type 0) → Streams W E → Streams W E → Type 0
 Sends silent contents Is IsPart before after = Answered silent contents Is IsPart before after × (string_bytes after.pending ≡ [])
 
--- after a document the run goes on, or it ends, as a node was found and none is shown
-abbrev pub Ends : {W E : Type 0} → Form → Next → Streams W E → Type 0
-Ends form next after = (next ≡ More) ⊎ ((form ≡ Nothing) × (after.outcome.selected ≡ true))
+-- after a document the run goes on, as more nodes are wanted; or it ends, as there are enough, or as one was found and none is shown
+abbrev pub Ends : {W E : Type 0} → Form → Option ℕ → Next → Streams W E → Type 0
+Ends form most More after = has_enough most after.total ≡ false
+Ends form most Enough after = has_enough most after.total ≡ true
+Ends form most Found after = (form ≡ Nothing) × (after.outcome.selected ≡ true)
 
--- what is said of a text where the run goes on
-abbrev pub IfMore : Next → (List ℕ → Bool → Type 0) → List ℕ → Bool → Type 0
-IfMore next Is text any = next ≡ More → Is text any
+-- all that is wanted was shown
+abbrev pub is_whole : Next → Bool
+is_whole Found = false
+is_whole _ = true
 
--- a text was sent; what it is where the run goes on, and where it may end
-abbrev pub SendsUntil : {W E : Type 0} → Bool → (W → Option (List ℕ)) → Form → Next → (Is IsPart : List ℕ → Bool → Type 0) → Streams W E → Streams W E → Type 0
-SendsUntil silent contents form next Is IsPart before after = Ends form next after × Sends silent contents (IfMore next Is) IsPart before after
+-- what is said of a text where all is shown
+abbrev pub IfWhole : Next → (List ℕ → ℕ → Type 0) → List ℕ → ℕ → Type 0
+IfWhole next Is text count = is_whole next ≡ true → Is text count
+
+-- a text was sent; what it is where all is shown, and where not
+abbrev pub SendsUntil : {W E : Type 0} → Bool → (W → Option (List ℕ)) → Form → Option ℕ → Next → (Is IsPart : List ℕ → ℕ → Type 0) → Streams W E → Streams W E → Type 0
+SendsUntil silent contents form most next Is IsPart before after = Ends form most next after × Sends silent contents (IfWhole next Is) IsPart before after
 
 -- a beginning of what was pending and of such a text is out
-abbrev pub Begins : {W E : Type 0} → (W → Option (List ℕ)) → (List ℕ → Bool → Type 0) → Streams W E → Streams W E → Type 0
-Begins contents IsPart before after = (text : List ℕ) × (any : Bool) × IsPart text any
+abbrev pub Begins : {W E : Type 0} → (W → Option (List ℕ)) → (List ℕ → ℕ → Type 0) → Streams W E → Streams W E → Type 0
+Begins contents IsPart before after = (text : List ℕ) × (count : ℕ) × IsPart text count
     × AppendsBeginning (contents before.out) (contents after.out) (string_bytes before.pending ++ text)
 
 -- what a path shows of a value, it shows of the document that the bytes are, however many nodes are wanted
 abbrev pub ShowsAs : Look → List ℕ → Data → JsonPath → Type 0
-ShowsAs look bytes value path = (F : FunctionSet) (most : Option ℕ) (later : Bool) (head text : List ℕ) (any : Bool)
-    → IsAnswer F path (with_most look most) later head value text any → IsAnswerOn F path (with_most look most) later head bytes text any
+ShowsAs look bytes value path = (F : FunctionSet) (most : Option ℕ) (later : Bool) (head text : List ℕ) (count : ℕ)
+    → IsAnswer F path (with_most look most) later head value text count → IsAnswerOn F path (with_most look most) later head bytes text count
 
 -- the same of some paths
 abbrev pub AreShownAs : Look → List ℕ → Data → List AskedPath → Type 0
@@ -163,15 +171,15 @@ AreShownAs look bytes value paths = (i : ℕ) (path : AskedPath) → i < length 
     → ShowsAs look bytes value path.path
 
 -- Something was looked for, and nothing was written: what it comes to where nothing is refused, and where something may be, and
--- whether there is a node.
-pub record Finds {W E : Type 0} (silent : Bool) (Is IsPart : Bool → Type 0) (before after : Streams W E) : Type 0 where
-  pub any : Bool
-  pub whole : after.outcome.refused ≡ false → (before.outcome.refused ≡ false) × Is any
-  pub part : IsPart any
+-- how many nodes it shows.
+pub record Finds {W E : Type 0} (silent : Bool) (Is IsPart : ℕ → Type 0) (before after : Streams W E) : Type 0 where
+  pub count : ℕ
+  pub whole : after.outcome.refused ≡ false → (before.outcome.refused ≡ false) × Is count
+  pub part : IsPart count
   pub out : after.out ≡ before.out
   pub pending : after.pending ≡ before.pending
-  pub selected : after.outcome.selected ≡ (before.outcome.selected || any)
-  pub left : after.left ≡ None
+  pub selected : after.outcome.selected ≡ (before.outcome.selected || nat_lt 0 count)
+  pub total : after.total ≡ before.total + count
   pub told : silent ≡ true → after.outcome.refused ≡ false → after.err ≡ before.err
 
 -- nothing changed but what was told, and that something was refused
@@ -238,12 +246,19 @@ abbrev pub has_colours : Option Dress → Bool
 has_colours None = false
 has_colours (Some dress) = dress.colored
 
--- what is shown of nodes, and how, by how lines are dressed
-abbrev pub look_with : Output → Option Dress → Look
-look_with output dress = record { output = output; unit = unit_by dress; ascii = is_ascii dress; colored = has_colours dress }
+-- what is shown of nodes, and how: how many of all documents, whether counts are summed up, and how lines are dressed
+abbrev pub look_with : Output → Option ℕ → Bool → Option Dress → Look
+look_with output most_of_all summed dress = record {
+  output = output;
+  most_of_all = most_of_all;
+  summed = summed;
+  unit = unit_by dress;
+  ascii = is_ascii dress;
+  colored = has_colours dress;
+}
 
 abbrev pub look_of : Showing → Look
-look_of showing = look_with showing.output showing.dress
+look_of showing = look_with showing.output showing.most_of_all showing.summed showing.dress
 
 -- the environment says which colours lines have
 abbrev pub has_palette : Option Dress → Bool
@@ -271,7 +286,7 @@ separated Comma end cells = csv.row_text (comma_rows end) cells
 -- the nodes are shown so, or counted for each path, or of each path the first in a row
 abbrev pub is_plain_answer : Answering → Bool
 is_plain_answer answering = is_table answering.shown
-    || (shows_nodes answering.showing || (has_counts answering.showing.output.form && not answering.total))
+    || (shows_nodes answering.showing || has_counts answering.showing.output.form)
 
 -- the text of the first node, in a cell
 abbrev pub IsFirstOf : List Located → Option (String Global) → Type 0
@@ -280,7 +295,14 @@ IsFirstOf (n ∷ ns) cell = (text : String Global) × (cell ≡ Some text) × Is
 
 -- a line that is a cell: that of the first node
 abbrev pub cell_look : Look
-cell_look = record { output = record (compact_lines Raw) { most = Some 1 }; unit = None; ascii = false; colored = false }
+cell_look = record {
+  output = record (compact_lines Raw) { most = Some 1 };
+  most_of_all = None;
+  summed = false;
+  unit = None;
+  ascii = false;
+  colored = false;
+}
 
 -- how the nodes are looked at that are asked for
 abbrev pub asked_look : Answering → Look
@@ -302,75 +324,121 @@ paths_in answering = map (λ (path : AskedPath). path.path) answering.paths.now
 
 -- what is shown of a document in such an answer, for each path
 abbrev pub each_by : Answering → Shown
-each_by answering name number bytes text any =
-    AreAnswersOn builtin_functions (paths_in answering) (look_of answering.showing) (head_by answering.showing.output answering.heads name number) bytes text any
+each_by answering name number bytes before text count =
+    AreAnswersOn builtin_functions (paths_in answering) (look_of answering.showing) (head_by answering.showing.output answering.heads name number) bytes before text count
 
 -- the same where it, or the query of a path, may be refused
 abbrev pub each_in_part_by : Answering → Shown
-each_in_part_by answering name number bytes text any =
-    AreAnswersInPart builtin_functions (paths_in answering) (look_of answering.showing) (head_by answering.showing.output answering.heads name number) bytes text any
+each_in_part_by answering name number bytes before text count =
+    AreAnswersInPart builtin_functions (paths_in answering) (look_of answering.showing) (head_by answering.showing.output answering.heads name number) bytes before text count
 
 -- the same in one array, where that is asked for
 abbrev pub all_by : Answering → Shown
-all_by answering name number bytes text any =
-    IsShownOn builtin_functions (paths_in answering) (look_of answering.showing) (head_by answering.showing.output answering.heads name number) bytes text any
+all_by answering name number bytes before text count =
+    IsShownOn builtin_functions (paths_in answering) (look_of answering.showing) (head_by answering.showing.output answering.heads name number) bytes before text count
 
 abbrev pub all_in_part_by : Answering → Shown
-all_in_part_by answering name number bytes text any =
-    IsShownInPart builtin_functions (paths_in answering) (look_of answering.showing) (head_by answering.showing.output answering.heads name number) bytes text any
+all_in_part_by answering name number bytes before text count =
+    IsShownInPart builtin_functions (paths_in answering) (look_of answering.showing) (head_by answering.showing.output answering.heads name number) bytes before text count
 
 -- the same in a row
 abbrev pub row_by : Answering → Shown
-row_by answering name number bytes text any = IsRowOn builtin_functions (paths_in answering) (row_line answering.shown answering.showing.output.end)
-    (first_cells answering.heads.file answering.heads.line name number) bytes text any
+row_by answering name number bytes before text count = IsRowOn builtin_functions (paths_in answering) (row_line answering.shown answering.showing.output.end)
+    (first_cells answering.heads.file answering.heads.line name number) bytes text count
 
 abbrev pub row_in_part_by : Answering → Shown
-row_in_part_by answering name number bytes text any = IsRowInPart builtin_functions (paths_in answering) (row_line answering.shown answering.showing.output.end)
-    (first_cells answering.heads.file answering.heads.line name number) bytes text any
+row_in_part_by answering name number bytes before text count = IsRowInPart builtin_functions (paths_in answering) (row_line answering.shown answering.showing.output.end)
+    (first_cells answering.heads.file answering.heads.line name number) bytes text count
 
 -- the same by what is asked to be shown
 abbrev pub shown_by : Answering → Shown
-shown_by answering name number bytes text any =
-    MatchBool (is_table answering.shown) (row_by answering name number bytes text any) (all_by answering name number bytes text any)
+shown_by answering name number bytes before text count = MatchBool (is_table answering.shown)
+    (row_by answering name number bytes before text count) (all_by answering name number bytes before text count)
 
 abbrev pub shown_in_part_by : Answering → Shown
-shown_in_part_by answering name number bytes text any =
-    MatchBool (is_table answering.shown) (row_in_part_by answering name number bytes text any) (all_in_part_by answering name number bytes text any)
+shown_in_part_by answering name number bytes before text count = MatchBool (is_table answering.shown)
+    (row_in_part_by answering name number bytes before text count) (all_in_part_by answering name number bytes before text count)
+
+-- the same until there are enough
+abbrev pub wanted_by : Answering → Shown
+wanted_by answering = IsUntil answering.showing.most_of_all (shown_by answering)
+
+abbrev pub wanted_in_part_by : Answering → Shown
+wanted_in_part_by answering = IsUntil answering.showing.most_of_all (shown_in_part_by answering)
+
+-- as many nodes were shown as are wanted of all documents
+abbrev pub is_done : {W E : Type 0} → Answering → Streams W E → Bool
+is_done answering streams = has_enough answering.showing.most_of_all streams.total
 
 -- the row before all, where it is asked for
 abbrev pub header_by : Answering → Bool → List ℕ
 header_by answering is_wanted = if is_wanted && is_table answering.shown then row_line answering.shown answering.showing.output.end
     (header_cells answering.heads.file answering.heads.line (texts_asked answering.paths.now)) else []
 
--- it shows no node
-abbrev pub IsHeader : Answering → Bool → List ℕ → Bool → Type 0
-IsHeader answering is_wanted text any = (text ≡ header_by answering is_wanted) × (any ≡ false)
+-- the sum of all counts, where it is asked for
+abbrev pub total_by : Answering → ℕ → List ℕ
+total_by answering total = if answering.showing.summed then decimal total ++ end_text answering.showing.output.end else []
 
--- what is shown of a document was added so, or sent
+-- it is this text, and shows no node
+abbrev pub IsAside : List ℕ → List ℕ → ℕ → Type 0
+IsAside own text count = (text ≡ own) × (count ≡ 0)
+
+-- what is shown of a document after those before was added so
+abbrev pub AnswersAs : {W E : Type 0} → (W → Option (List ℕ)) → Answering → (Is IsPart : Shown) → List ℕ → ℕ → List ℕ → Streams W E → Streams W E → Type 0
+AnswersAs contents answering Is IsPart name number bytes before after =
+    Answered answering.silent contents (Is name number bytes before.total) (IsPart name number bytes before.total) before after
+
 abbrev pub AnswersEach : {W E : Type 0} → (W → Option (List ℕ)) → Answering → List ℕ → ℕ → List ℕ → Streams W E → Streams W E → Type 0
 AnswersEach contents answering name number bytes before after =
-    Answered answering.silent contents (each_by answering name number bytes) (each_in_part_by answering name number bytes) before after
+    AnswersAs contents answering (each_by answering) (each_in_part_by answering) name number bytes before after
 
 abbrev pub AnswersAll : {W E : Type 0} → (W → Option (List ℕ)) → Answering → List ℕ → ℕ → List ℕ → Streams W E → Streams W E → Type 0
 AnswersAll contents answering name number bytes before after =
-    Answered answering.silent contents (all_by answering name number bytes) (all_in_part_by answering name number bytes) before after
+    AnswersAs contents answering (all_by answering) (all_in_part_by answering) name number bytes before after
 
 abbrev pub AnswersRow : {W E : Type 0} → (W → Option (List ℕ)) → Answering → List ℕ → ℕ → List ℕ → Streams W E → Streams W E → Type 0
 AnswersRow contents answering name number bytes before after =
-    Answered answering.silent contents (row_by answering name number bytes) (row_in_part_by answering name number bytes) before after
+    AnswersAs contents answering (row_by answering) (row_in_part_by answering) name number bytes before after
 
 abbrev pub AnswersBy : {W E : Type 0} → (W → Option (List ℕ)) → Answering → List ℕ → ℕ → List ℕ → Streams W E → Streams W E → Type 0
 AnswersBy contents answering name number bytes before after =
-    Answered answering.silent contents (shown_by answering name number bytes) (shown_in_part_by answering name number bytes) before after
+    AnswersAs contents answering (shown_by answering) (shown_in_part_by answering) name number bytes before after
 
+-- it was sent
 abbrev pub SendsBy : {W E : Type 0} → (W → Option (List ℕ)) → Answering → List ℕ → ℕ → List ℕ → Streams W E → Streams W E → Type 0
 SendsBy contents answering name number bytes before after =
-    Sends answering.silent contents (shown_by answering name number bytes) (shown_in_part_by answering name number bytes) before after
+    AnswersBy contents answering name number bytes before after × (string_bytes after.pending ≡ [])
 
--- it was sent, and the run goes on or ends
+-- what is asked of documents was sent, until there are enough
+abbrev pub SendsWanted : {W E : Type 0} → (W → Option (List ℕ)) → Answering → Next → (Is IsPart : List ℕ → ℕ → Type 0) → Streams W E → Streams W E → Type 0
+SendsWanted contents answering next Is IsPart before after =
+    SendsUntil answering.silent contents answering.showing.output.form answering.showing.most_of_all next Is IsPart before after
+
+-- what is shown of a document, a line, an input or some inputs was sent so
 abbrev pub SendsDocument : {W E : Type 0} → (W → Option (List ℕ)) → Answering → Next → List ℕ → ℕ → List ℕ → Streams W E → Streams W E → Type 0
-SendsDocument contents answering next name number bytes before after = SendsUntil answering.silent contents answering.showing.output.form next
-    (shown_by answering name number bytes) (shown_in_part_by answering name number bytes) before after
+SendsDocument contents answering next name number bytes before after = SendsWanted contents answering next
+    (wanted_by answering name number bytes before.total) (wanted_in_part_by answering name number bytes before.total) before after
+
+abbrev pub SendsLine : {W E : Type 0} → (W → Option (List ℕ)) → Answering → Next → List ℕ → ℕ → List ℕ → Streams W E → Streams W E → Type 0
+SendsLine contents answering next name number line before after = SendsWanted contents answering next
+    (IsLineShown (wanted_by answering) name number line before.total) (IsLineShown (wanted_in_part_by answering) name number line before.total) before after
+
+abbrev pub SendsInput : {W E : Type 0} → (W → Option (List ℕ)) → Answering → Next → Bool → List ℕ → List ℕ → Streams W E → Streams W E → Type 0
+SendsInput contents answering next lines name bytes before after = SendsWanted contents answering next
+    (IsInputShown (wanted_by answering) lines name bytes before.total) (IsInputShown (wanted_in_part_by answering) lines name bytes before.total) before after
+
+abbrev pub SendsInputs : {W E : Type 0} → (W → Option (List ℕ)) → Answering → Next → Bool → (List ℕ → Option (List ℕ)) → List (List ℕ) → Streams W E → Streams W E → Type 0
+SendsInputs contents answering next lines bytes_of names before after = SendsWanted contents answering next
+    (AreInputsShown (wanted_by answering) lines bytes_of names before.total) (AreInputsShown (wanted_in_part_by answering) lines bytes_of names before.total) before after
+
+-- the same after the first row, and before the sum
+abbrev pub AreBetween : Answering → Bool → Shown → Bool → (List ℕ → Option (List ℕ)) → List (List ℕ) → List ℕ → ℕ → Type 0
+AreBetween answering is_wanted Is lines bytes_of names =
+    IsBetween (header_by answering is_wanted) (total_by answering) (AreInputsShown Is lines bytes_of names 0)
+
+abbrev pub SendsAll : {W E : Type 0} → (W → Option (List ℕ)) → Answering → Bool → Next → Bool → (List ℕ → Option (List ℕ)) → List (List ℕ) → Streams W E → Streams W E → Type 0
+SendsAll contents answering is_wanted next lines bytes_of names before after = SendsWanted contents answering next
+    (AreBetween answering is_wanted (wanted_by answering) lines bytes_of names) (AreBetween answering is_wanted (wanted_in_part_by answering) lines bytes_of names) before after
 
 -- nodes are shown without their values
 abbrev pub shows_places : Form → Bool
@@ -391,28 +459,9 @@ pub record IsPlain (documents : Documents) : Type 0 where
   pub read : IfSome documents.reader (λ reader. Keeps reader (shows_places documents.answering.showing.output.form)
       (map (λ (path : AskedPath). path_tree path.path) documents.answering.paths.now))
 
--- the same of what is shown of a line, an input or some inputs
-abbrev pub SendsLine : {W E : Type 0} → (W → Option (List ℕ)) → Answering → Next → List ℕ → ℕ → List ℕ → Streams W E → Streams W E → Type 0
-SendsLine contents answering next name number line before after = SendsUntil answering.silent contents answering.showing.output.form next
-    (IsLineShown (shown_by answering) name number line) (IsLineShown (shown_in_part_by answering) name number line) before after
-
-abbrev pub SendsInput : {W E : Type 0} → (W → Option (List ℕ)) → Answering → Next → Bool → List ℕ → List ℕ → Streams W E → Streams W E → Type 0
-SendsInput contents answering next lines name bytes before after = SendsUntil answering.silent contents answering.showing.output.form next
-    (IsInputShown (shown_by answering) lines name bytes) (IsInputShown (shown_in_part_by answering) lines name bytes) before after
-
-abbrev pub SendsInputs : {W E : Type 0} → (W → Option (List ℕ)) → Answering → Next → Bool → (List ℕ → Option (List ℕ)) → List (List ℕ) → Streams W E → Streams W E → Type 0
-SendsInputs contents answering next lines bytes_of names before after = SendsUntil answering.silent contents answering.showing.output.form next
-    (AreInputsShown (shown_by answering) lines bytes_of names) (AreInputsShown (shown_in_part_by answering) lines bytes_of names) before after
-
--- the same after that row
-abbrev pub SendsAll : {W E : Type 0} → (W → Option (List ℕ)) → Answering → Bool → Next → Bool → (List ℕ → Option (List ℕ)) → List (List ℕ) → Streams W E → Streams W E → Type 0
-SendsAll contents answering is_wanted next lines bytes_of names before after = SendsUntil answering.silent contents answering.showing.output.form next
-    (IsAfter (header_by answering is_wanted) (AreInputsShown (shown_by answering) lines bytes_of names))
-    (IsAfter (header_by answering is_wanted) (AreInputsShown (shown_in_part_by answering) lines bytes_of names)) before after
-
--- the same of what options ask for
+-- what options ask for was sent
 abbrev pub SendsFor : {W E : Type 0} → (W → Option (List ℕ)) → Options → Bool → Next → List JsonPath → (List ℕ → Option (List ℕ)) → Streams W E → Streams W E → Type 0
-SendsFor contents options taken next paths bytes_of before after = SendsUntil options.silent contents (form_in options.shown) next
+SendsFor contents options taken next paths bytes_of before after = SendsUntil options.silent contents (form_in options.shown) options.most_of_all next
     (AreAllShown options taken paths bytes_of) (AreAllInPart options taken paths bytes_of) before after
 
 -- nothing is shown of nodes
@@ -424,18 +473,18 @@ is_quiet _ = false
 abbrev pub IsKnownRun : Options → Colours → Type 0
 IsKnownRun options colours = IsPlainRun options colours ⊎ IsQuietRun options
 
--- Such a run was answered, and more was wanted or not: what went out since it began, whether a node is shown by that, and that nothing
--- was told where that is so.
+-- Such a run was answered, up to its end or not: what went out since it began, how many nodes are shown by that, and that nothing was
+-- told where that is so.
 pub record AnswersRun {W E : Type 0} (contents : W → Option (List ℕ)) (bytes_of : List ℕ → Option (List ℕ)) (options : Options) (taken : Bool) (next : Next) (before after : Streams W E) : Type 0 where
   pub paths : List JsonPath
   pub are : ArePaths (rule_in options) (path_texts bytes_of options) paths
   pub text : List ℕ
-  pub any : Bool
-  pub ends : Ends (form_in options.shown) next after
-  pub whole : after.outcome.refused ≡ false → next ≡ More → AreAllShown options taken paths bytes_of text any
-  pub part : AreAllInPart options taken paths bytes_of text any
+  pub count : ℕ
+  pub ends : Ends (form_in options.shown) options.most_of_all next after
+  pub whole : after.outcome.refused ≡ false → is_whole next ≡ true → AreAllShown options taken paths bytes_of text count
+  pub part : AreAllInPart options taken paths bytes_of text count
   pub out : Appends (contents before.out) (contents after.out) text
-  pub selected : after.outcome.selected ≡ any
+  pub selected : after.outcome.selected ≡ nat_lt 0 count
   pub told : options.silent ≡ true → after.outcome.refused ≡ false → after.err ≡ before.err
 
 -- ---- nodes as they are written
@@ -470,7 +519,7 @@ pub record KeepsRest {W E : Type 0} (before after : Written W E) : Type 0 where
   pub limit : after.limit ≡ before.limit
   pub outcome : after.streams.now.outcome ≡ before.streams.now.outcome
   pub err : after.streams.now.err ≡ before.streams.now.err
-  pub left : after.streams.now.left ≡ before.streams.now.left
+  pub total : after.streams.now.total ≡ before.streams.now.total
 
 -- a node was taken, and more are wanted or not; it was written, unless writing failed
 pub record WritesNode {W E : Type 0} (contents : W → Option (List ℕ)) (n : Located) (more : Bool) (before after : Written W E) : Type 0 where

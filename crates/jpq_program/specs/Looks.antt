@@ -18,10 +18,12 @@ use Rattle.jsonpath_lines.specs.declared.forms.Layout.{Layout}
 use Rattle.jsonpath_lines.specs.declared.forms.Layout.TheVariants.{Compact, Pretty}
 use Rattle.jsonpath_lines.specs.declared.forms.Output.{Output}
 
--- what is shown of nodes, and how: by what a level is indented where that is not two spaces, whether characters above U+007F are
--- escaped, and whether lines have colours
+-- what is shown of nodes, and how: how many of all documents, whether counts are summed up, by what a level is indented where that is
+-- not two spaces, whether characters above U+007F are escaped, and whether lines have colours
 pub record Look : Type 0 where
   pub output : Output
+  pub most_of_all : Option ℕ
+  pub summed : Bool
   pub unit : Option (List ℕ)
   pub ascii : Bool
   pub colored : Bool

@@ -2,7 +2,7 @@
 use Rattle.std.specs.Char.{encode_utf8}
 use Rattle.std.specs.Fmt.{decimal}
 use Rattle.std.specs.List.{flat_map, join_by}
-use Rattle.std.specs.Prelude.{◌≡◌, ◌==◌, ◌⊎◌, ◌||◌, ℕ, Bool, true, false, List, [], ◌∷◌, ◌++◌, codes, if◌then◌else◌}
+use Rattle.std.specs.Prelude.{◌≡◌, ◌==◌, ◌⊎◌, ◌+◌, ℕ, Bool, List, [], ◌∷◌, ◌++◌, codes, if◌then◌else◌}
 use Rattle.std.specs.Str.{chars}
 use Rattle.serde_json.specs.Data.{Data}
 use Rattle.serde_json_path_nodes.specs.Location.{Located}
@@ -65,42 +65,42 @@ header_cells has_name has_line texts =
 
 -- ---- cells
 
--- the cell of some nodes: the text of the first, of a string its own and of any other value its JSON, or nothing; and whether there
--- is one
-abbrev pub IsCellOf : List Located → List ℕ → Bool → Type 0
-IsCellOf [] cell any = (cell ≡ []) × (any ≡ false)
-IsCellOf (n ∷ ns) cell any = IsText Raw Compact n cell × (any ≡ true)
+-- the cell of some nodes: the text of the first, of a string its own and of any other value its JSON, or nothing; and how many nodes it
+-- shows
+abbrev pub IsCellOf : List Located → List ℕ → ℕ → Type 0
+IsCellOf [] cell count = (cell ≡ []) × (count ≡ 0)
+IsCellOf (n ∷ ns) cell count = IsText Raw Compact n cell × (count ≡ 1)
 
 -- the cell of a path's result on a document
-abbrev pub IsCell : FunctionSet → JsonPath → Data → List ℕ → Bool → Type 0
-IsCell F path d cell any = (nodes : List Located) × Selects (with_rule_of path F) (path_tree path) d nodes × IsCellOf nodes cell any
+abbrev pub IsCell : FunctionSet → JsonPath → Data → List ℕ → ℕ → Type 0
+IsCell F path d cell count = (nodes : List Located) × Selects (with_rule_of path F) (path_tree path) d nodes × IsCellOf nodes cell count
 
 -- the same of the document that the bytes are
-abbrev pub IsCellOn : FunctionSet → List ℕ → JsonPath → List ℕ → Bool → Type 0
-IsCellOn F bytes path cell any = (d : Data) × ReadsAs bytes d × IsCell F path d cell any
+abbrev pub IsCellOn : FunctionSet → List ℕ → JsonPath → List ℕ → ℕ → Type 0
+IsCellOn F bytes path cell count = (d : Data) × ReadsAs bytes d × IsCell F path d cell count
 
 -- the same where the query may be refused: then it is empty
-abbrev pub IsCellInPart : FunctionSet → List ℕ → JsonPath → List ℕ → Bool → Type 0
-IsCellInPart F bytes path cell any = ((cell ≡ []) × (any ≡ false)) ⊎ IsCellOn F bytes path cell any
+abbrev pub IsCellInPart : FunctionSet → List ℕ → JsonPath → List ℕ → ℕ → Type 0
+IsCellInPart F bytes path cell count = ((cell ≡ []) × (count ≡ 0)) ⊎ IsCellOn F bytes path cell count
 
--- the cells of paths, in order, and whether there is a node in one
-abbrev pub AreCells : (JsonPath → List ℕ → Bool → Type 0) → List JsonPath → List (List ℕ) → Bool → Type 0
-AreCells Is [] cells any = (cells ≡ []) × (any ≡ false)
-AreCells Is (path ∷ paths) cells any = (cell : List ℕ) × (rest : List (List ℕ)) × (one others : Bool)
-    × Is path cell one × AreCells Is paths rest others × (cells ≡ cell ∷ rest) × (any ≡ (one || others))
+-- the cells of paths, in order, and how many nodes they show
+abbrev pub AreCells : (JsonPath → List ℕ → ℕ → Type 0) → List JsonPath → List (List ℕ) → ℕ → Type 0
+AreCells Is [] cells count = (cells ≡ []) × (count ≡ 0)
+AreCells Is (path ∷ paths) cells count = (cell : List ℕ) × (rest : List (List ℕ)) × (one others : ℕ)
+    × Is path cell one × AreCells Is paths rest others × (cells ≡ cell ∷ rest) × (count ≡ one + others)
 
 -- ---- rows
 
 -- a document's row, after first cells, in this line
-abbrev pub IsRow : (JsonPath → List ℕ → Bool → Type 0) → List JsonPath → (List (List ℕ) → List ℕ) → List (List ℕ) → List ℕ → Bool → Type 0
-IsRow Is paths line firsts text any =
-    (cells : List (List ℕ)) × AreCells Is paths cells any × (text ≡ line (firsts ++ cells))
+abbrev pub IsRow : (JsonPath → List ℕ → ℕ → Type 0) → List JsonPath → (List (List ℕ) → List ℕ) → List (List ℕ) → List ℕ → ℕ → Type 0
+IsRow Is paths line firsts text count =
+    (cells : List (List ℕ)) × AreCells Is paths cells count × (text ≡ line (firsts ++ cells))
 
 -- the same of the document that the bytes are
-abbrev pub IsRowOn : FunctionSet → List JsonPath → (List (List ℕ) → List ℕ) → List (List ℕ) → List ℕ → List ℕ → Bool → Type 0
-IsRowOn F paths line firsts bytes text any = IsRow (IsCellOn F bytes) paths line firsts text any
+abbrev pub IsRowOn : FunctionSet → List JsonPath → (List (List ℕ) → List ℕ) → List (List ℕ) → List ℕ → List ℕ → ℕ → Type 0
+IsRowOn F paths line firsts bytes text count = IsRow (IsCellOn F bytes) paths line firsts text count
 
 -- the same where the document may be refused, which has no row then, or the query of a path
-abbrev pub IsRowInPart : FunctionSet → List JsonPath → (List (List ℕ) → List ℕ) → List (List ℕ) → List ℕ → List ℕ → Bool → Type 0
-IsRowInPart F paths line firsts bytes text any =
-    ((text ≡ []) × (any ≡ false)) ⊎ IsRow (IsCellInPart F bytes) paths line firsts text any
+abbrev pub IsRowInPart : FunctionSet → List JsonPath → (List (List ℕ) → List ℕ) → List (List ℕ) → List ℕ → List ℕ → ℕ → Type 0
+IsRowInPart F paths line firsts bytes text count =
+    ((text ≡ []) × (count ≡ 0)) ⊎ IsRow (IsCellInPart F bytes) paths line firsts text count

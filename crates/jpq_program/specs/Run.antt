@@ -1,6 +1,7 @@
 -- What comes of a run: the exit status, what went out, and what was told.
 use Rattle.std.specs.List.{AllZip, filter, flat_map}
 use Rattle.std.specs.Prelude.{◌≡◌, ◌≢◌, ◌≤◌, take, ◌⊎◌, ◌&&◌, ◌||◌, not, ℕ, Bool, true, false, List, [], ◌∷◌, ◌++◌, length, map, MatchBool, nat_eq, nat_lt, replicate, Option, None, Ok, Some, codes, if◌then◌else◌, option_map, string_bytes, unwrap_or}
+use Rattle.std.specs.Fmt.{decimal}
 use Rattle.std.specs.Io.KnownBytes.{Appends}
 use Rattle.serde_json_path_functions.specs.Functions.{Numbers, all_numbers, whole_numbers}
 use Rattle.serde_json_path_functions.specs.Patterns.{builtin_functions}
@@ -8,6 +9,7 @@ use Rattle.serde_json_path_syntax.specs.Text.{query_text}
 use Rattle.serde_json_path_parser.specs.Parse.{IsParseOf}
 use Rattle.serde_json_path.specs.Paths.{path_tree, path_view}
 use Rattle.serde_json_path.specs.declared.path.JsonPath.{JsonPath}
+use Rattle.jsonpath_lines.specs.Output.{end_text}
 use Rattle.jsonpath_lines.specs.Sent.{AppendsBeginning}
 use Rattle.jsonpath_lines.specs.declared.forms.Form.{Form}
 use Rattle.jsonpath_lines.specs.declared.forms.Form.TheVariants.{Nothing, Raw}
@@ -23,7 +25,7 @@ use Rattle.jpq_options.specs.declared.options.Shown.{Shown}
 use Rattle.jpq_options.specs.declared.options.Shown.TheVariants.{Nodes}
 use Rattle.jpq_program.specs.Answers.{IsShownInPart, IsShownOn}
 use Rattle.jpq_program.specs.Heads.{head_in}
-use Rattle.jpq_program.specs.Inputs.{AreInputsShown, AreKnown, Opens, OpensFirst, without_mark}
+use Rattle.jpq_program.specs.Inputs.{AreInputsShown, AreKnown, IsUntil, Opens, OpensFirst, Shown as DocumentShown, without_mark}
 use Rattle.jpq_program.specs.Looks.{Look, is_array}
 use Rattle.jpq_program.specs.Rows.{IsRowInPart, IsRowOn, first_cells, header_cells, row_line}
 use Rattle.jpq_program.specs.declared.colours.Colours.{Colours}
@@ -70,6 +72,8 @@ is_colored Auto taken = taken
 abbrev pub look_in : Options → Bool → Look
 look_in options taken = record {
   output = output_in options;
+  most_of_all = options.most_of_all;
+  summed = options.total;
   unit = unit_in options;
   ascii = options.ascii;
   colored = is_colored options.color taken;
@@ -96,26 +100,30 @@ head_for options count = head_in (is_array (form_in options.shown)) options.layo
 abbrev pub cells_for : Options → List ℕ → ℕ → List (List ℕ)
 cells_for options = first_cells (has_names options) (has_line_numbers options)
 
--- what is shown of a document for the paths: a name, the number of its line, its bytes, the text, and whether a node is shown
-abbrev pub IsShownFor : Options → Bool → List JsonPath → List ℕ → ℕ → List ℕ → List ℕ → Bool → Type 0
-IsShownFor options taken paths name number bytes text any = MatchBool (is_table options.shown)
-    (IsRowOn builtin_functions paths (row_line options.shown options.end) (cells_for options name number) bytes text any)
-    (IsShownOn builtin_functions paths (look_in options taken) (head_for options (length paths) name number) bytes text any)
+-- what is shown of a document for the paths
+abbrev pub IsShownFor : Options → Bool → List JsonPath → DocumentShown
+IsShownFor options taken paths name number bytes before text count = MatchBool (is_table options.shown)
+    (IsRowOn builtin_functions paths (row_line options.shown options.end) (cells_for options name number) bytes text count)
+    (IsShownOn builtin_functions paths (look_in options taken) (head_for options (length paths) name number) bytes before text count)
 
 -- the same where it, or the query of a path, may be refused
-abbrev pub IsShownInPartFor : Options → Bool → List JsonPath → List ℕ → ℕ → List ℕ → List ℕ → Bool → Type 0
-IsShownInPartFor options taken paths name number bytes text any = MatchBool (is_table options.shown)
-    (IsRowInPart builtin_functions paths (row_line options.shown options.end) (cells_for options name number) bytes text any)
-    (IsShownInPart builtin_functions paths (look_in options taken) (head_for options (length paths) name number) bytes text any)
+abbrev pub IsShownInPartFor : Options → Bool → List JsonPath → DocumentShown
+IsShownInPartFor options taken paths name number bytes before text count = MatchBool (is_table options.shown)
+    (IsRowInPart builtin_functions paths (row_line options.shown options.end) (cells_for options name number) bytes text count)
+    (IsShownInPart builtin_functions paths (look_in options taken) (head_for options (length paths) name number) bytes before text count)
 
 -- the row of a table that stands before all, where it is asked for, by the texts of the paths
 abbrev pub header_for : Options → List (List ℕ) → List ℕ
 header_for options texts = if options.header && is_table options.shown
     then row_line options.shown options.end (header_cells (has_names options) (has_line_numbers options) texts) else []
 
--- a first text, and what is shown after it
-abbrev pub IsAfter : List ℕ → (List ℕ → Bool → Type 0) → List ℕ → Bool → Type 0
-IsAfter first Is text any = (rest : List ℕ) × Is rest any × (text ≡ first ++ rest)
+-- the sum of all counts, where it is asked for, and the end of its line
+abbrev pub total_for : Options → ℕ → List ℕ
+total_for options count = if options.total then decimal count ++ end_text options.end else []
+
+-- a first text, what is shown after it, and a last text, by how many nodes are shown
+abbrev pub IsBetween : List ℕ → (ℕ → List ℕ) → (List ℕ → ℕ → Type 0) → List ℕ → ℕ → Type 0
+IsBetween first last Is text count = (own : List ℕ) × Is own count × (text ≡ first ++ (own ++ last count))
 
 -- the inputs' names, in order; `-` is standard input
 abbrev pub names_in : Options → List (List ℕ)
@@ -142,15 +150,19 @@ abbrev pub path_texts : (List ℕ → Option (List ℕ)) → Options → List (L
 path_texts bytes_of options = map (λ text. text.now) options.paths.items
     ++ flat_map (λ name. texts_in_file (known_bytes bytes_of name)) (path_files_in options)
 
--- all that is shown for the paths: the first row, where it is asked for, and what is shown of the inputs
-abbrev pub AreAllShown : Options → Bool → List JsonPath → (List ℕ → Option (List ℕ)) → List ℕ → Bool → Type 0
-AreAllShown options taken paths bytes_of text any = IsAfter (header_for options (path_texts bytes_of options))
-    (AreInputsShown (IsShownFor options taken paths) options.lines bytes_of (names_in options)) text any
+-- what is shown of the inputs: of each document so, until as many nodes are shown as are wanted of all
+abbrev pub AreInputsFor : Options → DocumentShown → (List ℕ → Option (List ℕ)) → List ℕ → ℕ → Type 0
+AreInputsFor options Is bytes_of = AreInputsShown (IsUntil options.most_of_all Is) options.lines bytes_of (names_in options) 0
+
+-- all that is shown for the paths: the first row of a table, what is shown of the inputs, and the sum of counts
+abbrev pub AreAllShown : Options → Bool → List JsonPath → (List ℕ → Option (List ℕ)) → List ℕ → ℕ → Type 0
+AreAllShown options taken paths bytes_of = IsBetween (header_for options (path_texts bytes_of options)) (total_for options)
+    (AreInputsFor options (IsShownFor options taken paths) bytes_of)
 
 -- the same where documents, or the queries of paths, may be refused
-abbrev pub AreAllInPart : Options → Bool → List JsonPath → (List ℕ → Option (List ℕ)) → List ℕ → Bool → Type 0
-AreAllInPart options taken paths bytes_of text any = IsAfter (header_for options (path_texts bytes_of options))
-    (AreInputsShown (IsShownInPartFor options taken paths) options.lines bytes_of (names_in options)) text any
+abbrev pub AreAllInPart : Options → Bool → List JsonPath → (List ℕ → Option (List ℕ)) → List ℕ → ℕ → Type 0
+AreAllInPart options taken paths bytes_of = IsBetween (header_for options (path_texts bytes_of options)) (total_for options)
+    (AreInputsFor options (IsShownInPartFor options taken paths) bytes_of)
 
 -- what a run opens: the files of paths, and then the inputs, unless paths are only checked
 abbrev pub opened_in : Options → List (List ℕ)
@@ -170,10 +182,8 @@ abbrev pub is_each : Shown → Bool
 is_each (Nodes Nothing) = false
 is_each _ = true
 
--- Nodes are neither summed up nor bounded over all documents. In the paths no values are bound to names, and they are not only checked.
+-- In the paths no values are bound to names, and they are not only checked.
 pub record IsUsualRun (options : Options) : Type 0 where
-  pub total : options.total ≡ false
-  pub most_of_all : options.most_of_all ≡ None
   pub bindings : options.bindings.items ≡ []
   pub check : options.check ≡ false
 
@@ -184,38 +194,40 @@ pub record IsPlainRun (options : Options) (colours : Colours) : Type 0 where
   pub palette : is_colored options.color colours.taken ≡ true → colours.palette ≡ None
 
 -- What comes of such a run in which nothing is refused and no writing fails, where the bytes of the inputs are known: what is shown of
--- them for the paths went out, and nothing else, and the status says whether a node is shown.
+-- them for the paths went out, and nothing else, and the status says whether nodes are shown.
 pub record IsAnswered {W : Type 0} (contents : W → Option (List ℕ)) (bytes_of : List ℕ → Option (List ℕ)) (options : Options) (taken : Bool) (before after : W) (status : ℕ) : Type 0 where
   pub paths : List JsonPath
   pub are : ArePaths (rule_in options) (path_texts bytes_of options) paths
   pub text : List ℕ
-  pub any : Bool
-  pub shown : AreAllShown options taken paths bytes_of text any
+  pub count : ℕ
+  pub shown : AreAllShown options taken paths bytes_of text count
   pub out : Appends (contents before) (contents after) text
-  pub ends : status ≡ (if any then 0 else 1)
+  pub ends : status ≡ (if nat_lt 0 count then 0 else 1)
 
 -- What is out after such a run, however it ended: nothing, where no path is asked, as where one is refused; else a beginning of what is
 -- shown of the inputs for the paths, without what was refused.
 abbrev pub IsAnsweredInPart : {W : Type 0} → (W → Option (List ℕ)) → (List ℕ → Option (List ℕ)) → Options → Bool → W → W → Type 0
 IsAnsweredInPart contents bytes_of options taken before after = (after ≡ before)
     ⊎ ((paths : List JsonPath) × ArePaths (rule_in options) (path_texts bytes_of options) paths
-    × (text : List ℕ) × (any : Bool) × AreAllInPart options taken paths bytes_of text any
+    × (text : List ℕ) × (count : ℕ) × AreAllInPart options taken paths bytes_of text count
     × AppendsBeginning (contents before) (contents after) text)
 
 -- ---- whether there is a node
 
--- nothing is shown of nodes, as it is only asked whether there is one
-abbrev pub IsQuietRun : Options → Type 0
-IsQuietRun options = IsUsualRun options × (options.shown ≡ Nodes Nothing)
+-- Nothing is shown of nodes, as it is only asked whether there is one.
+pub record IsQuietRun (options : Options) : Type 0 where
+  pub usual : IsUsualRun options
+  pub shown : options.shown ≡ Nodes Nothing
+  pub total : options.total ≡ false
 
 -- What comes of such a run that answers 0 or 1, where the bytes of the inputs are known: with 0 a path selects a node of some document,
 -- and of others nothing is said; with 1 each document is read, no path selects a node of any, and nothing is refused. With `-n 0` no
--- node counts.
+-- node counts, and with `-m 0` no document.
 pub record IsFound (bytes_of : List ℕ → Option (List ℕ)) (options : Options) (taken : Bool) (status : ℕ) : Type 0 where
   pub paths : List JsonPath
   pub are : ArePaths (rule_in options) (path_texts bytes_of options) paths
-  pub found : status ≡ 0 → AreInputsShown (IsShownInPartFor options taken paths) options.lines bytes_of (names_in options) [] true
-  pub none : status ≡ 1 → AreInputsShown (IsShownFor options taken paths) options.lines bytes_of (names_in options) [] false
+  pub found : status ≡ 0 → (count : ℕ) × (nat_lt 0 count ≡ true) × AreInputsFor options (IsShownInPartFor options taken paths) bytes_of [] count
+  pub none : status ≡ 1 → AreInputsFor options (IsShownFor options taken paths) bytes_of [] 0
 
 -- ---- paths that are only checked
 
@@ -269,12 +281,12 @@ ComesOf out err bytes_of opened colours (WrongUse kind text) inputs later before
 ComesOf out err bytes_of opened colours (Print text) inputs later before after status = (later ≡ inputs) × IsPrinted out err (string_bytes text) before after status
 ComesOf out err bytes_of opened colours (Run options) inputs later before after status = IsStatusOf options status
     × (IsPlainRun options colours → AreKnown bytes_of (path_files_in options) → AreKnown bytes_of (names_in options)
-    → (status ≤ 1 → IsAnswered out bytes_of options colours.taken before.out after.out status × Opens (opened inputs) (opened later) (opened_in options)
-    × TellsNothing options before after)
+    → (status ≤ 1 → IsAnswered out bytes_of options colours.taken before.out after.out status
+    × (options.most_of_all ≡ None → Opens (opened inputs) (opened later) (opened_in options)) × TellsNothing options before after)
     × IsAnsweredInPart out bytes_of options colours.taken before.out after.out)
     × (IsQuietRun options → AreKnown bytes_of (path_files_in options) → AreKnown bytes_of (names_in options)
     → Appends (out before.out) (out after.out) [] × (status ≤ 1 → IsFound bytes_of options colours.taken status)
-    × (status ≡ 1 → Opens (opened inputs) (opened later) (opened_in options) × TellsNothing options before after))
+    × (status ≡ 1 → (options.most_of_all ≡ None → Opens (opened inputs) (opened later) (opened_in options)) × TellsNothing options before after))
     × (IsCheckRun options → AreKnown bytes_of (path_files_in options)
     → (status ≤ 1 → IsChecked out bytes_of options inputs later before.out after.out status × TellsNothing options before after)
     × IsCheckedInPart out bytes_of options before.out after.out)

@@ -1,13 +1,13 @@
 //! What is written of a document.
 
-ghost use Rattle.std.specs.Prelude.{◌≡◌, ◌||◌, Bool, List, None, IfErr, IfOk, OnOk, false, map, nat_lt, string_bytes, true};
+ghost use Rattle.std.specs.Prelude.{◌≡◌, ◌+◌, ◌||◌, [], Bool, List, None, IfErr, IfOk, OnOk, false, nat_lt, string_bytes, true};
 ghost use Rattle.serde_json_path_functions.specs.Patterns.{builtin_functions};
 ghost use Rattle.serde_json.specs.Data.{Data};
 ghost use Rattle.serde_json_path_core.specs.Inside.Words.{view, Located, OnlyMemoryOrPattern, Selects};
 ghost use Rattle.serde_json_path.specs.Paths.{path_tree, with_rule_of};
 ghost use Rattle.jsonpath_lines.specs.Inside.{once};
-ghost use Rattle.jpq_program.specs.Answers.{IsAnswerInPart};
-ghost use Rattle.jpq_program.specs.Inside.{AnswersAll, AnswersBy, AnswersEach, AnswersPath, AreSelected, AreShownAs, Begins, BeginsFirst, Counts, FilledNodes, IsAsked, OnlyNotes, OnlyRefuses, SendsBy, SendsDocument, ShowsAs, TookFirst, all_in_part_by, asked_look, each_in_part_by, has_counts, head_by, is_plain_answer, look_of, shown_in_part_by, shows_nodes};
+ghost use Rattle.jpq_program.specs.Answers.{IsAnswerInPart, look_after, lower, with_most};
+ghost use Rattle.jpq_program.specs.Inside.{AnswersAll, AnswersBy, AnswersEach, AnswersPath, AreSelected, AreShownAs, Begins, BeginsFirst, Counts, FilledNodes, IsAsked, OnlyNotes, OnlyRefuses, Sends, SendsBy, SendsDocument, ShowsAs, IsAside, TookFirst, all_in_part_by, asked_look, each_in_part_by, has_counts, head_by, is_done, is_plain_answer, look_of, shown_in_part_by, shows_nodes, total_by, wanted_in_part_by};
 ghost use Rattle.jpq_program.specs.Looks.{is_array};
 
 use crate::answers::push_answer;
@@ -46,15 +46,13 @@ pub(crate) struct Answering<'a> {
     pub(crate) shown: Shown,
     pub(crate) showing: Showing<'a>,
     pub(crate) heads: Heads,
-    /// Whether the sum of all counts is shown alone.
-    pub(crate) total: bool,
     /// Whether notes are left out.
     pub(crate) silent: bool,
 }
 
-/// The least of two limits.
-fn least(one: Option<u64>, other: Option<u64>) -> Option<u64>
-    ensures { other ≡ None → result ≡ one }
+/// The lower of two limits.
+fn lower(one: Option<u64>, other: Option<u64>) -> Option<u64>
+    ensures { result ≡ lower one other }
 {
     match (one, other) {
         (Some(one), Some(other)) => Some(one.min(other)),
@@ -134,20 +132,47 @@ impl Answering<'_> {
         }
     }
 
+    /// Whether as many nodes were shown as are wanted of all documents.
+    pub(crate) fn is_done<W: Write, E: Write>(&self, streams: &Streams<W, E>) -> bool
+        ensures { result ≡ is_done self.now streams.now }
+    {
+        match self.showing.most_of_all {
+            Some(most) => most <= streams.total,
+            None => false,
+        }
+    }
+
+    /// How many nodes a path may show: as many as are wanted of a document, and are left of all.
+    fn limit<W: Write, E: Write>(&self, streams: &Streams<W, E>) -> Option<u64>
+        ensures { with_most (look_of self.now.showing) result
+            ≡ look_after (look_of self.now.showing) streams.now.total }
+    {
+        let left = match self.showing.most_of_all {
+            Some(most) => Some(most.saturating_sub(streams.total)),
+            None => None,
+        };
+        lower(self.showing.output.most, left)
+    }
+
     /// Keeps that so many nodes were shown or counted.
-    pub(crate) fn keep_count<W: Write, E: Write>(&self, count: u64, streams: &mut Streams<W, E>)
-        ensures kept { streams.new ≡ record streams.old {
+    pub(crate) fn keep_count<W: Write, E: Write>(
+        &self,
+        count: u64,
+        streams: &mut Streams<W, E>,
+    ) -> Result<(), Stop>
+        ensures kept { OnOk result (streams.new ≡ record streams.old {
           outcome = record streams.old.outcome {
             selected = streams.old.outcome.selected || nat_lt 0 count;
           };
-          left = streams.new.left;
-          total = streams.new.total;
-        } }
-        ensures left { streams.old.left ≡ None → streams.new.left ≡ None }
+          total = streams.old.total + count;
+        }) }
+        ensures unchanged { IfErr result (λ _. streams.new ≡ streams.old) }
     {
+        // A run that shows one node in each nanosecond would take 584 years to come to the error.
+        let total = streams.total.checked_add(count).ok_or(Stop::Memory)?;
         streams.outcome.selected = streams.outcome.selected || count > 0;
-        streams.left = streams.left.map(|left| left.saturating_sub(count));
-        streams.total = streams.total.saturating_add(count);
+        streams.total = total;
+        Ok(())
     }
 
     /// Tells that a query is refused.
@@ -172,8 +197,8 @@ impl Answering<'_> {
         Ok(())
     }
 
-    /// Writes what a path selects from a document, which may be later than nodes of earlier paths in the same array. Says whether
-    /// there is a node. Where memory is refused for the query the run ends.
+    /// Writes what a path selects from a document, which may be later than nodes of earlier paths in the same array. Where memory is
+    /// refused for the query the run ends.
     fn answer_path<W: Write, E: Write>(
         &self,
         document: Document<'_>,
@@ -181,21 +206,21 @@ impl Answering<'_> {
         head: &str,
         is_later: bool,
         streams: &mut Streams<W, E>,
-    ) -> Result<bool, Stop>
-        ensures answered { IfOk result (λ any. ShowsAs (look_of self.now.showing)
+    ) -> Result<(), Stop>
+        ensures answered { IfOk result (λ _. ShowsAs (look_of self.now.showing)
             document.entry.bytes.now (view document.entry.value.now) path.now.path
-            → shows_nodes self.now.showing ≡ true → streams.old.left ≡ None
-            → (answered : AnswersPath self.now.silent W.contents path.now.path
-            (look_of self.now.showing) is_later head.now document.entry.bytes.now
-            streams.old streams.new) × (any ≡ answered.any)) }
+            → shows_nodes self.now.showing ≡ true
+            → AnswersPath self.now.silent W.contents path.now.path
+            (look_after (look_of self.now.showing) streams.old.total) is_later head.now
+            document.entry.bytes.now streams.old streams.new) }
         ensures begun { ShowsAs (look_of self.now.showing)
             document.entry.bytes.now (view document.entry.value.now) path.now.path
-            → shows_nodes self.now.showing ≡ true → streams.old.left ≡ None
+            → shows_nodes self.now.showing ≡ true
             → Begins W.contents (IsAnswerInPart builtin_functions path.now.path
-            (look_of self.now.showing) is_later head.now document.entry.bytes.now)
-            streams.old streams.new }
+            (look_after (look_of self.now.showing) streams.old.total) is_later head.now
+            document.entry.bytes.now) streams.old streams.new }
     {
-        let limit = least(self.showing.output.most, streams.left);
+        let limit = self.limit(streams);
         let mut written = Written {
             showing: &self.showing,
             streams: &mut *streams,
@@ -207,8 +232,7 @@ impl Answering<'_> {
         };
         let answered = self.write_path(path, document, &mut written);
         let (count, stop) = (written.count, written.stop);
-        let any = count > 0;
-        self.keep_count(count, streams);
+        self.keep_count(count, streams)?;
         if let Some(stop) = stop {
             return Err(stop);
         }
@@ -219,33 +243,34 @@ impl Answering<'_> {
                 return Err(Stop::Refused);
             }
         }
-        Ok(any)
+        Ok(())
     }
 
-    /// Writes what each path selects from a document. Says whether there is a node.
+    /// Writes what each path selects from a document.
     fn answer_each<W: Write, E: Write>(
         &self,
         document: Document<'_>,
         streams: &mut Streams<W, E>,
-    ) -> Result<bool, Stop>
-        ensures answered { IfOk result (λ any. AreShownAs (look_of self.now.showing)
+    ) -> Result<(), Stop>
+        ensures answered { IfOk result (λ _. AreShownAs (look_of self.now.showing)
             document.entry.bytes.now (view document.entry.value.now) self.now.paths.now
-            → shows_nodes self.now.showing ≡ true → streams.old.left ≡ None
-            → (answered : AnswersEach W.contents self.now document.entry.source.name.now
-            document.entry.source.line document.entry.bytes.now streams.old streams.new)
-            × (any ≡ answered.any)) }
+            → shows_nodes self.now.showing ≡ true
+            → AnswersEach W.contents self.now document.entry.source.name.now
+            document.entry.source.line document.entry.bytes.now streams.old streams.new) }
         ensures begun { AreShownAs (look_of self.now.showing)
             document.entry.bytes.now (view document.entry.value.now) self.now.paths.now
-            → shows_nodes self.now.showing ≡ true → streams.old.left ≡ None
+            → shows_nodes self.now.showing ≡ true
             → Begins W.contents (each_in_part_by self.now document.entry.source.name.now
-            document.entry.source.line document.entry.bytes.now) streams.old streams.new }
+            document.entry.source.line document.entry.bytes.now streams.old.total)
+            streams.old streams.new }
     {
-        let mut is_later = false;
+        let before = streams.total;
         for (index, path) in self.paths.iter().enumerate() {
             let head = self.head(document.source, index.saturating_add(1))?;
-            is_later |= self.answer_path(document, path, head.as_str(), is_later, streams)?;
+            let is_later = before < streams.total;
+            self.answer_path(document, path, head.as_str(), is_later, streams)?;
         }
-        Ok(is_later)
+        Ok(())
     }
 
     /// Writes an array of what each path selects from a document.
@@ -257,18 +282,21 @@ impl Answering<'_> {
         ensures answered { IfOk result (λ _. AreShownAs (look_of self.now.showing)
             document.entry.bytes.now (view document.entry.value.now) self.now.paths.now
             → shows_nodes self.now.showing ≡ true
-            → is_array self.now.showing.output.form ≡ true → streams.old.left ≡ None
+            → is_array self.now.showing.output.form ≡ true
             → AnswersAll W.contents self.now document.entry.source.name.now
             document.entry.source.line document.entry.bytes.now streams.old streams.new) }
         ensures begun { AreShownAs (look_of self.now.showing)
             document.entry.bytes.now (view document.entry.value.now) self.now.paths.now
             → shows_nodes self.now.showing ≡ true
-            → is_array self.now.showing.output.form ≡ true → streams.old.left ≡ None
+            → is_array self.now.showing.output.form ≡ true
             → Begins W.contents (all_in_part_by self.now document.entry.source.name.now
-            document.entry.source.line document.entry.bytes.now) streams.old streams.new }
+            document.entry.source.line document.entry.bytes.now streams.old.total)
+            streams.old streams.new }
     {
+        let before = streams.total;
         streams.pending.push_str("[")?;
-        let holds = self.answer_each(document, streams)?;
+        self.answer_each(document, streams)?;
+        let holds = before < streams.total;
         self.showing.push_array_end(&mut streams.pending, holds)?;
         Ok(())
     }
@@ -344,18 +372,18 @@ impl Answering<'_> {
     ) -> Result<(), Stop>
         ensures answered { IfOk result (λ _. ShowsAs (look_of self.now.showing)
             document.entry.bytes.now (view document.entry.value.now) path.now.path
-            → has_counts self.now.showing.output.form ≡ true → self.now.total ≡ false
-            → streams.old.left ≡ None → (later : Bool)
-            → AnswersPath self.now.silent W.contents path.now.path (look_of self.now.showing)
-            later head.now document.entry.bytes.now streams.old streams.new) }
+            → has_counts self.now.showing.output.form ≡ true → (later : Bool)
+            → AnswersPath self.now.silent W.contents path.now.path
+            (look_after (look_of self.now.showing) streams.old.total) later head.now
+            document.entry.bytes.now streams.old streams.new) }
         ensures unwritten { streams.new.out ≡ streams.old.out }
     {
-        let limit = least(self.showing.output.most, streams.left);
+        let limit = self.limit(streams);
         let mut text = String::new(self.alloc);
         match self.count_path(path, head, limit, document, &mut text) {
             Ok(count) => {
-                self.keep_count(count, streams);
-                if !self.total {
+                self.keep_count(count, streams)?;
+                if !self.showing.summed {
                     streams.pending.push_str(text.as_str())?;
                 }
                 Ok(())
@@ -372,8 +400,7 @@ impl Answering<'_> {
     ) -> Result<(), Stop>
         ensures answered { IfOk result (λ _. AreShownAs (look_of self.now.showing)
             document.entry.bytes.now (view document.entry.value.now) self.now.paths.now
-            → has_counts self.now.showing.output.form ≡ true → self.now.total ≡ false
-            → streams.old.left ≡ None
+            → has_counts self.now.showing.output.form ≡ true
             → AnswersEach W.contents self.now document.entry.source.name.now
             document.entry.source.line document.entry.bytes.now streams.old streams.new) }
         ensures unwritten { streams.new.out ≡ streams.old.out }
@@ -423,21 +450,22 @@ impl Answering<'_> {
     ) -> Result<Next, Stop>
         ensures answered { IfOk result (λ next. AreShownAs (asked_look self.now)
             document.entry.bytes.now (view document.entry.value.now) self.now.paths.now
-            → is_plain_answer self.now ≡ true → streams.old.left ≡ None
+            → is_plain_answer self.now ≡ true → is_done self.now streams.old ≡ false
             → SendsDocument W.contents self.now next document.entry.source.name.now
             document.entry.source.line document.entry.bytes.now streams.old streams.new) }
         ensures begun { AreShownAs (asked_look self.now)
             document.entry.bytes.now (view document.entry.value.now) self.now.paths.now
-            → is_plain_answer self.now ≡ true → streams.old.left ≡ None
-            → Begins W.contents (shown_in_part_by self.now document.entry.source.name.now
-            document.entry.source.line document.entry.bytes.now) streams.old streams.new }
+            → is_plain_answer self.now ≡ true → is_done self.now streams.old ≡ false
+            → Begins W.contents (wanted_in_part_by self.now document.entry.source.name.now
+            document.entry.source.line document.entry.bytes.now streams.old.total)
+            streams.old streams.new }
     {
         self.write_answer(document, streams)?;
         self.tell_notes(document, streams)?;
         if self.showing.output.form == Form::Nothing && streams.outcome.selected {
             return Ok(Next::Found);
         }
-        if streams.left == Some(0) {
+        if self.is_done(streams) {
             return Ok(Next::Enough);
         }
         Ok(Next::More)
@@ -451,14 +479,15 @@ impl Answering<'_> {
     ) -> Result<(), Stop>
         ensures answered { IfOk result (λ _. AreShownAs (asked_look self.now)
             document.entry.bytes.now (view document.entry.value.now) self.now.paths.now
-            → is_plain_answer self.now ≡ true → streams.old.left ≡ None
+            → is_plain_answer self.now ≡ true
             → SendsBy W.contents self.now document.entry.source.name.now
             document.entry.source.line document.entry.bytes.now streams.old streams.new) }
         ensures begun { AreShownAs (asked_look self.now)
             document.entry.bytes.now (view document.entry.value.now) self.now.paths.now
-            → is_plain_answer self.now ≡ true → streams.old.left ≡ None
+            → is_plain_answer self.now ≡ true
             → Begins W.contents (shown_in_part_by self.now document.entry.source.name.now
-            document.entry.source.line document.entry.bytes.now) streams.old streams.new }
+            document.entry.source.line document.entry.bytes.now streams.old.total)
+            streams.old streams.new }
     {
         self.make_answer(document, streams)?;
         if streams.pending.is_empty() {
@@ -475,23 +504,21 @@ impl Answering<'_> {
     ) -> Result<(), Stop>
         ensures answered { IfOk result (λ _. AreShownAs (asked_look self.now)
             document.entry.bytes.now (view document.entry.value.now) self.now.paths.now
-            → is_plain_answer self.now ≡ true → streams.old.left ≡ None
+            → is_plain_answer self.now ≡ true
             → AnswersBy W.contents self.now document.entry.source.name.now
             document.entry.source.line document.entry.bytes.now streams.old streams.new) }
         ensures begun { AreShownAs (asked_look self.now)
             document.entry.bytes.now (view document.entry.value.now) self.now.paths.now
-            → is_plain_answer self.now ≡ true → streams.old.left ≡ None
+            → is_plain_answer self.now ≡ true
             → Begins W.contents (shown_in_part_by self.now document.entry.source.name.now
-            document.entry.source.line document.entry.bytes.now) streams.old streams.new }
+            document.entry.source.line document.entry.bytes.now streams.old.total)
+            streams.old streams.new }
     {
         match (separator_of(self.shown), self.showing.output.form) {
             (Some(separator), _) => self.answer_row(separator, document, streams),
             (None, Form::Count | Form::Nothing) => self.answer_counts(document, streams),
             (None, Form::Json) => self.answer_array(document, streams),
-            (None, _) => {
-                self.answer_each(document, streams)?;
-                Ok(())
-            }
+            (None, _) => self.answer_each(document, streams),
         }
     }
 
@@ -517,11 +544,21 @@ impl Answering<'_> {
         Ok(())
     }
 
-    /// Writes the sum of all counts.
+    /// Writes the sum of all counts, where it is asked for.
     pub(crate) fn write_total<W: Write, E: Write>(
         &self,
         streams: &mut Streams<W, E>,
-    ) -> Result<(), Stop> {
+    ) -> Result<(), Stop>
+        ensures sent { string_bytes streams.old.pending ≡ []
+            → OnOk result (Sends self.now.silent W.contents
+            (IsAside (total_by self.now streams.old.total))
+            (IsAside (total_by self.now streams.old.total)) streams.old streams.new) }
+        ensures begun { Begins W.contents (IsAside (total_by self.now streams.old.total))
+            streams.old streams.new }
+    {
+        if !self.showing.summed {
+            return Ok(());
+        }
         let (total, end) = (streams.total, end_of(self.showing.output.end));
         write!(streams.pending, "{total}{end}")?;
         streams.write()

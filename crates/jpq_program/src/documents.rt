@@ -2,12 +2,12 @@
 
 ghost use Rattle.std.specs.Char.{is_ascii_whitespace};
 ghost use Rattle.std.specs.Io.BufRead.{strip_last};
-ghost use Rattle.std.specs.Prelude.{◌≡◌, ◌∷◌, ℕ, [], Bool, List, None, IfOk, IfSome, false, map, string_bytes, true};
+ghost use Rattle.std.specs.Prelude.{◌≡◌, ◌∷◌, ℕ, [], Bool, List, IfOk, IfSome, false, map, string_bytes, true};
 ghost use Rattle.serde_json.specs.View.{view};
 ghost use Rattle.serde_json_path_syntax.specs.Tree.{Query};
 ghost use Rattle.serde_json_path_reach.specs.Readers.{Keeps};
 ghost use Rattle.jpq_program.specs.Inputs.{AreInputsShown, AreKnown, IsInputShown, IsLineShown, Opens, OpensFirst, is_blank, without_mark};
-ghost use Rattle.jpq_program.specs.Inside.{Begins, IsPlain, IsReadIn, OnlyNotes, OnlyRefuses, SendsDocument, SendsInput, SendsInputs, SendsLine, shown_in_part_by};
+ghost use Rattle.jpq_program.specs.Inside.{Begins, IsPlain, IsReadIn, OnlyNotes, OnlyRefuses, SendsDocument, SendsInput, SendsInputs, SendsLine, is_done, wanted_in_part_by};
 
 use crate::answering::{Answering, Document};
 use crate::encodings::{encoding_of, without_mark};
@@ -113,13 +113,15 @@ impl Documents<'_> {
         bytes: &[u8],
         streams: &mut Streams<W, E>,
     ) -> Result<Next, Stop>
-        ensures answered { IfOk result (λ next. IsPlain self.now → streams.old.left ≡ None
+        ensures answered { IfOk result (λ next. IsPlain self.now
+            → is_done self.now.answering streams.old ≡ false
             → string_bytes streams.old.pending ≡ []
             → SendsDocument W.contents self.now.answering next source.entry.name.now
             source.entry.line bytes.now streams.old streams.new) }
-        ensures begun { IsPlain self.now → streams.old.left ≡ None
-            → Begins W.contents (shown_in_part_by self.now.answering source.entry.name.now
-            source.entry.line bytes.now) streams.old streams.new }
+        ensures begun { IsPlain self.now
+            → is_done self.now.answering streams.old ≡ false
+            → Begins W.contents (wanted_in_part_by self.now.answering source.entry.name.now
+            source.entry.line bytes.now streams.old.total) streams.old streams.new }
     {
         let e = match self.document(bytes) {
             Ok(document) => {
@@ -240,13 +242,16 @@ impl Documents<'_> {
         mut input: I,
         streams: &mut Streams<W, E>,
     ) -> Result<Next, Stop>
-        ensures answered { IfOk result (λ next. IsPlain self.now → streams.old.left ≡ None
+        ensures answered { IfOk result (λ next. IsPlain self.now
+            → is_done self.now.answering streams.old ≡ false
             → string_bytes streams.old.pending ≡ [] → IfSome (I.remaining input) (λ bytes.
             SendsInput W.contents self.now.answering next false name.now bytes
             streams.old streams.new)) }
-        ensures begun { IsPlain self.now → streams.old.left ≡ None
+        ensures begun { IsPlain self.now
+            → is_done self.now.answering streams.old ≡ false
             → IfSome (I.remaining input) (λ bytes. Begins W.contents (IsInputShown
-            (shown_in_part_by self.now.answering) false name.now bytes) streams.old streams.new) }
+            (wanted_in_part_by self.now.answering) false name.now bytes streams.old.total)
+            streams.old streams.new) }
     {
         let mut bytes = Vec::new(self.alloc);
         match input.read_to_end(&mut bytes) {
@@ -262,13 +267,16 @@ impl Documents<'_> {
         line: &[u8],
         streams: &mut Streams<W, E>,
     ) -> Result<Next, Stop>
-        ensures answered { IfOk result (λ next. IsPlain self.now → streams.old.left ≡ None
+        ensures answered { IfOk result (λ next. IsPlain self.now
+            → is_done self.now.answering streams.old ≡ false
             → string_bytes streams.old.pending ≡ []
             → SendsLine W.contents self.now.answering next source.entry.name.now
             source.entry.line line.now streams.old streams.new) }
-        ensures begun { IsPlain self.now → streams.old.left ≡ None
-            → Begins W.contents (IsLineShown (shown_in_part_by self.now.answering)
-            source.entry.name.now source.entry.line line.now) streams.old streams.new }
+        ensures begun { IsPlain self.now
+            → is_done self.now.answering streams.old ≡ false
+            → Begins W.contents (IsLineShown (wanted_in_part_by self.now.answering)
+            source.entry.name.now source.entry.line line.now streams.old.total)
+            streams.old streams.new }
     {
         if is_blank(line) {
             return Ok(Next::More);
@@ -283,14 +291,16 @@ impl Documents<'_> {
         input: I,
         streams: &mut Streams<W, E>,
     ) -> Result<Next, Stop>
-        ensures answered { IfOk result (λ next. IsPlain self.now → streams.old.left ≡ None
+        ensures answered { IfOk result (λ next. IsPlain self.now
+            → is_done self.now.answering streams.old ≡ false
             → string_bytes streams.old.pending ≡ [] → IfSome (I.remaining input) (λ bytes.
             SendsInput W.contents self.now.answering next true name.now bytes
             streams.old streams.new)) }
-        ensures begun { IsPlain self.now → streams.old.left ≡ None
+        ensures begun { IsPlain self.now
+            → is_done self.now.answering streams.old ≡ false
             → string_bytes streams.old.pending ≡ [] → IfSome (I.remaining input) (λ bytes.
-            Begins W.contents (IsInputShown (shown_in_part_by self.now.answering) true name.now
-            bytes) streams.old streams.new) }
+            Begins W.contents (IsInputShown (wanted_in_part_by self.now.answering) true name.now
+            bytes streams.old.total) streams.old streams.new) }
     {
         let Ok(mut reader) = BufReader::new(self.alloc, input) else {
             return Err(Stop::Memory);
@@ -329,16 +339,18 @@ impl Documents<'_> {
     ) -> Result<Next, Stop>
         ensures same { (name : List ℕ) → I.bytes_of inputs.new name ≡ I.bytes_of inputs.old name }
         ensures opens { Opens (I.opened inputs.old) (I.opened inputs.new) (name.now ∷ []) }
-        ensures answered { IfOk result (λ next. IsPlain self.now → streams.old.left ≡ None
+        ensures answered { IfOk result (λ next. IsPlain self.now
+            → is_done self.now.answering streams.old ≡ false
             → string_bytes streams.old.pending ≡ []
             → IfSome (I.bytes_of inputs.old name.now) (λ bytes.
             SendsInput W.contents self.now.answering next self.now.lines name.now bytes
             streams.old streams.new)) }
-        ensures begun { IsPlain self.now → streams.old.left ≡ None
+        ensures begun { IsPlain self.now
+            → is_done self.now.answering streams.old ≡ false
             → string_bytes streams.old.pending ≡ []
             → IfSome (I.bytes_of inputs.old name.now) (λ bytes. Begins W.contents (IsInputShown
-            (shown_in_part_by self.now.answering) self.now.lines name.now bytes)
-            streams.old streams.new) }
+            (wanted_in_part_by self.now.answering) self.now.lines name.now bytes
+            streams.old.total) streams.old streams.new) }
     {
         streams.refused_documents = 0;
         let input = match inputs.open(name) {
@@ -364,18 +376,21 @@ impl Documents<'_> {
         ensures all { IfOk result (λ next. next ≡ Next.More
             → Opens (I.opened inputs.old) (I.opened inputs.new)
             (map (λ name. name.now) names.now)) }
-        ensures answered { IfOk result (λ next. IsPlain self.now → streams.old.left ≡ None
+        ensures answered { IfOk result (λ next. IsPlain self.now
             → string_bytes streams.old.pending ≡ []
             → AreKnown (I.bytes_of inputs.old) (map (λ name. name.now) names.now)
             → SendsInputs W.contents self.now.answering next self.now.lines
             (I.bytes_of inputs.old) (map (λ name. name.now) names.now) streams.old streams.new) }
-        ensures begun { IsPlain self.now → streams.old.left ≡ None
+        ensures begun { IsPlain self.now
             → string_bytes streams.old.pending ≡ []
             → AreKnown (I.bytes_of inputs.old) (map (λ name. name.now) names.now)
-            → Begins W.contents (AreInputsShown (shown_in_part_by self.now.answering)
-            self.now.lines (I.bytes_of inputs.old) (map (λ name. name.now) names.now))
-            streams.old streams.new }
+            → Begins W.contents (AreInputsShown (wanted_in_part_by self.now.answering)
+            self.now.lines (I.bytes_of inputs.old) (map (λ name. name.now) names.now)
+            streams.old.total) streams.old streams.new }
     {
+        if self.answering.is_done(streams) {
+            return Ok(Next::Enough);
+        }
         for name in names {
             match self.answer_input(*name, inputs, streams)? {
                 Next::More => {}

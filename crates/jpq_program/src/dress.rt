@@ -220,8 +220,9 @@ impl Dress<'_> {
     fn line(&self, output: &Output, node: &LocatedNode<'_>) -> Result<String, AllocError>
         ensures { IfOk result (λ text. (line : List ℕ)
             × IsLine output.now [] (located node.now) line
-            × (string_bytes text ≡ dressed (look_with output.now (Some self.now))
-            (located node.now).value line)) }
+            × (string_bytes text
+            ≡ dressed (look_with output.now None false (Some self.now)) (located node.now).value
+            line)) }
     {
         let mut line = String::new(self.alloc);
         push_own_line(self.alloc, output, &mut line, node)?;
@@ -240,8 +241,8 @@ impl Dress<'_> {
         node: &LocatedNode<'_>,
     ) -> Result<(), AllocError>
         ensures { self.now.palette ≡ None → OnOk result
-            (Appends (IsLook (look_with output.now (Some self.now)) head.now (located node.now))
-            (string_bytes to.old) (string_bytes to.new)) }
+            (Appends (IsLook (look_with output.now None false (Some self.now)) head.now
+            (located node.now)) (string_bytes to.old) (string_bytes to.new)) }
     {
         let line = self.line(output, node)?;
         to.push_str(head)?;

@@ -9,8 +9,8 @@ ghost use Rattle.jsonpath_lines.specs.Sent.{AppendsBeginning};
 ghost use Rattle.jpq_options.specs.Options.{AsksFor};
 ghost use Rattle.jpq_options.specs.declared.options.Request as input;
 ghost use Rattle.jpq_program.specs.Inputs.{AreInputsShown, AreKnown, Opens, OpensFirst};
-ghost use Rattle.jpq_program.specs.Inside.{AnswersRun, Begins, IsKnownRun, IsPlain, OnlyTells, SendsAll, SendsFor, SendsInputs, header_by, texts_asked, has_palette, heads_in, is_quiet, look_with, shown_in_part_by, shows_places, status_after, status_of, told_after};
-ghost use Rattle.jpq_program.specs.Run.{AreAllInPart, ComesOf, IsAfter, IsAnsweredInPart, IsChecked, IsCheckedInPart, IsCheckRun, IsPrinted, LacksMemory, canonical_lines, is_colored, look_in, looked_at_in, names_in, opened_in, output_in, path_files_in, path_texts, unit_in};
+ghost use Rattle.jpq_program.specs.Inside.{AnswersRun, AreBetween, Begins, IsKnownRun, IsPlain, OnlyTells, SendsAll, SendsFor, SendsInputs, texts_asked, has_palette, heads_in, is_quiet, look_with, shows_places, status_after, status_of, told_after, wanted_in_part_by};
+ghost use Rattle.jpq_program.specs.Run.{AreAllInPart, ComesOf, IsAnsweredInPart, IsChecked, IsCheckedInPart, IsCheckRun, IsPrinted, LacksMemory, canonical_lines, is_colored, look_in, looked_at_in, names_in, opened_in, output_in, path_files_in, path_texts, unit_in};
 
 use crate::answering::Answering;
 use crate::asked_path::AskedPath;
@@ -205,7 +205,8 @@ fn dress_of<'a, W: Write, E: Write>(
 ) -> Result<Option<Dress<'a>>, AllocError>
     ensures told { OnlyTells streams.old streams.new }
     ensures quiet { options.now.silent ≡ true → streams.new ≡ streams.old }
-    ensures look { IfOk result (λ dress. look_with (output_in options.now) dress
+    ensures look { IfOk result (λ dress. look_with (output_in options.now)
+        options.now.most_of_all options.now.total dress
         ≡ look_in options.now colours.entry.taken) }
     ensures usual { (is_colored options.now.color colours.entry.taken ≡ true
         → colours.entry.palette ≡ None) → IfOk result (λ dress. has_palette dress ≡ false) }
@@ -258,16 +259,16 @@ fn answer_inputs<I: Inputs, W: Write, E: Write>(
     ensures opens { OpensFirst (I.opened inputs.old) (I.opened inputs.new) (names_in options.now) }
     ensures all { IfOk result (λ next. next ≡ Next.More
         → Opens (I.opened inputs.old) (I.opened inputs.new) (names_in options.now)) }
-    ensures answered { IfOk result (λ next. IsPlain documents.now → streams.old.left ≡ None
+    ensures answered { IfOk result (λ next. IsPlain documents.now
         → string_bytes streams.old.pending ≡ []
         → AreKnown (I.bytes_of inputs.old) (names_in options.now)
         → SendsInputs W.contents documents.now.answering next documents.now.lines
         (I.bytes_of inputs.old) (names_in options.now) streams.old streams.new) }
-    ensures begun { IsPlain documents.now → streams.old.left ≡ None
+    ensures begun { IsPlain documents.now
         → string_bytes streams.old.pending ≡ []
         → AreKnown (I.bytes_of inputs.old) (names_in options.now)
-        → Begins W.contents (AreInputsShown (shown_in_part_by documents.now.answering)
-        documents.now.lines (I.bytes_of inputs.old) (names_in options.now))
+        → Begins W.contents (AreInputsShown (wanted_in_part_by documents.now.answering)
+        documents.now.lines (I.bytes_of inputs.old) (names_in options.now) streams.old.total)
         streams.old streams.new }
 {
     if options.files.is_empty() {
@@ -288,24 +289,20 @@ fn answer_documents<I: Inputs, W: Write, E: Write>(
     ensures all { IfOk result (λ next. next ≡ Next.More
         → Opens (I.opened inputs.old) (I.opened inputs.new) (names_in options.now)) }
     ensures answered { IfOk result (λ next. IsPlain documents.now
-        → options.now.total ≡ false → streams.old.left ≡ None
-        → string_bytes streams.old.pending ≡ []
+        → streams.old.total ≡ 0 → string_bytes streams.old.pending ≡ []
         → AreKnown (I.bytes_of inputs.old) (names_in options.now)
         → SendsAll W.contents documents.now.answering options.now.header next documents.now.lines
         (I.bytes_of inputs.old) (names_in options.now) streams.old streams.new) }
     ensures begun { IsPlain documents.now
-        → options.now.total ≡ false → streams.old.left ≡ None
-        → string_bytes streams.old.pending ≡ []
+        → streams.old.total ≡ 0 → string_bytes streams.old.pending ≡ []
         → AreKnown (I.bytes_of inputs.old) (names_in options.now)
-        → Begins W.contents (IsAfter (header_by documents.now.answering options.now.header)
-        (AreInputsShown (shown_in_part_by documents.now.answering) documents.now.lines
-        (I.bytes_of inputs.old) (names_in options.now))) streams.old streams.new }
+        → Begins W.contents (AreBetween documents.now.answering options.now.header
+        (wanted_in_part_by documents.now.answering) documents.now.lines
+        (I.bytes_of inputs.old) (names_in options.now)) streams.old streams.new }
 {
     documents.answering.write_header(options.header, streams)?;
     let next = answer_inputs(documents, options, inputs, streams)?;
-    if options.total {
-        documents.answering.write_total(streams)?;
-    }
+    documents.answering.write_total(streams)?;
     Ok(next)
 }
 
@@ -340,13 +337,13 @@ fn answer_paths<I: Inputs, W: Write, E: Write>(
         → Opens (I.opened inputs.old) (I.opened inputs.new) (names_in options.now)) }
     ensures answered { IfOk result (λ next. IsKnownRun options.now colours.entry
         → texts_asked paths.now ≡ path_texts (I.bytes_of inputs.old) options.now
-        → string_bytes streams.old.pending ≡ []
+        → streams.old.total ≡ 0 → string_bytes streams.old.pending ≡ []
         → AreKnown (I.bytes_of inputs.old) (names_in options.now)
         → SendsFor W.contents options.now colours.entry.taken next
         (map (λ path. path.path) paths.now) (I.bytes_of inputs.old) streams.old streams.new) }
     ensures begun { IsKnownRun options.now colours.entry
         → texts_asked paths.now ≡ path_texts (I.bytes_of inputs.old) options.now
-        → string_bytes streams.old.pending ≡ []
+        → streams.old.total ≡ 0 → string_bytes streams.old.pending ≡ []
         → AreKnown (I.bytes_of inputs.old) (names_in options.now)
         → Begins W.contents (AreAllInPart options.now colours.entry.taken
         (map (λ path. path.path) paths.now) (I.bytes_of inputs.old)) streams.old streams.new }
@@ -365,10 +362,11 @@ fn answer_paths<I: Inputs, W: Write, E: Write>(
             showing: Showing {
                 alloc,
                 output,
+                most_of_all: options.most_of_all,
+                summed: options.total,
                 dress,
             },
             heads: heads_of(options, paths.len()),
-            total: options.total,
             silent: options.silent,
         },
         reader: reader_for(alloc, trees.as_slice(), output.form),
@@ -376,7 +374,6 @@ fn answer_paths<I: Inputs, W: Write, E: Write>(
         is_only: is_only(options),
         strict: options.strict,
     };
-    streams.left = options.most_of_all;
     answer_documents(&documents, options, inputs, streams)
 }
 
@@ -390,13 +387,13 @@ fn run_with<I: Inputs, W: Write, E: Write>(
 ) -> Result<Next, Stop>
     ensures answered { IfOk result (λ next. IsKnownRun options.now colours.entry
         → streams.old.outcome ≡ record { selected = false; refused = false }
-        → string_bytes streams.old.pending ≡ []
+        → streams.old.total ≡ 0 → string_bytes streams.old.pending ≡ []
         → AreKnown (I.bytes_of inputs.old) (path_files_in options.now)
         → AreKnown (I.bytes_of inputs.old) (names_in options.now)
         → AnswersRun W.contents (I.bytes_of inputs.old) options.now
         colours.entry.taken next streams.old streams.new) }
     ensures in_part { IsKnownRun options.now colours.entry
-        → string_bytes streams.old.pending ≡ []
+        → streams.old.total ≡ 0 → string_bytes streams.old.pending ≡ []
         → AreKnown (I.bytes_of inputs.old) (path_files_in options.now)
         → AreKnown (I.bytes_of inputs.old) (names_in options.now)
         → IsAnsweredInPart W.contents (I.bytes_of inputs.old) options.now

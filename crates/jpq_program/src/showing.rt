@@ -24,6 +24,10 @@ use std::alloc::{AllocError, Global};
 pub(crate) struct Showing<'a> {
     pub(crate) alloc: Global,
     pub(crate) output: Output,
+    /// How many nodes of all documents are shown at most; any number where it is `None`.
+    pub(crate) most_of_all: Option<u64>,
+    /// Whether of counts the sum is shown alone.
+    pub(crate) summed: bool,
     /// How lines are dressed, where they are not shown as they are made.
     pub(crate) dress: Option<Dress<'a>>,
 }

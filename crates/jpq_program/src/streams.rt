@@ -1,6 +1,6 @@
 //! What is written, what is reported on standard error, and what comes of a run.
 
-ghost use Rattle.std.specs.Prelude.{◌≡◌, [], IfErr, None, OnOk, false, string_bytes, true};
+ghost use Rattle.std.specs.Prelude.{◌≡◌, [], IfErr, OnOk, false, string_bytes, true};
 ghost use Rattle.jsonpath_lines.specs.Sent.{AppendsBeginning};
 ghost use Rattle.jpq_program.specs.Inside.{IsFailure, OnlyWrites, Writes, status_of};
 
@@ -126,9 +126,7 @@ pub struct Streams<W, E> {
     pub(crate) outcome: Outcome,
     /// How many documents of the input at hand were refused.
     pub(crate) refused_documents: usize,
-    /// How many nodes of all documents may still be shown; any number where it is `None`.
-    pub(crate) left: Option<u64>,
-    /// How many nodes were counted.
+    /// How many nodes were shown or counted.
     pub(crate) total: u64,
     /// Whether a value was shown that may have a number with more digits than are kept.
     pub(crate) may_be_inexact: bool,
@@ -157,7 +155,6 @@ impl<W: Write, E: Write> Streams<W, E> {
                 refused: false,
             },
             refused_documents: 0,
-            left: None,
             total: 0,
             may_be_inexact: false,
             told_inexact: false,
@@ -174,7 +171,7 @@ impl<W: Write, E: Write> Streams<W, E> {
         ensures pending { string_bytes self.new.pending ≡ [] }
         ensures outcome { self.new.outcome
             ≡ record { selected = false; refused = false } }
-        ensures left { self.new.left ≡ None }
+        ensures total { self.new.total ≡ 0 }
     {
         self.pending.clear();
         self.outcome = Outcome {
@@ -182,7 +179,6 @@ impl<W: Write, E: Write> Streams<W, E> {
             refused: false,
         };
         self.refused_documents = 0;
-        self.left = None;
         self.total = 0;
         self.may_be_inexact = false;
         self.told_inexact = false;

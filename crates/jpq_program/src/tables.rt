@@ -1,11 +1,11 @@
 //! Rows of tables: of each document one, with the first node of each path.
 
-ghost use Rattle.std.specs.Prelude.{◌≡◌, ◌++◌, ◌∷◌, [], List, None, Some, IfOk, OnOk, codes, if◌then◌else◌, map, string_bytes, true};
+ghost use Rattle.std.specs.Prelude.{◌≡◌, ◌++◌, ◌∷◌, [], List, Some, IfOk, OnOk, codes, if◌then◌else◌, map, string_bytes, true};
 ghost use Rattle.serde_json_path_core.specs.Inside.Words.{view, Located, OnlyMemoryOrPattern, Selects};
 ghost use Rattle.serde_json_path_functions.specs.Patterns.{builtin_functions};
 ghost use Rattle.serde_json_path.specs.Paths.{path_tree, with_rule_of};
 ghost use Rattle.serde_json.specs.Data.{Data};
-ghost use Rattle.jpq_program.specs.Inside.{AnswersRow, AreShownAs, Finds, IsAsked, Begins, IsFirstOf, IsHeader, Sends, ShowsAs, cell_look, separated, separator_in, texts_asked};
+ghost use Rattle.jpq_program.specs.Inside.{AnswersRow, AreShownAs, Finds, IsAsked, Begins, IsAside, IsFirstOf, Sends, ShowsAs, cell_look, header_by, separated, separator_in, texts_asked};
 ghost use Rattle.jpq_program.specs.Rows.{IsCellInPart, IsCellOn, first_cells, header_cells};
 
 use crate::answering::{Answering, Document};
@@ -101,7 +101,7 @@ impl Answering<'_> {
         streams: &mut Streams<W, E>,
     ) -> Result<String, Stop>
         ensures found { IfOk result (λ cell. ShowsAs cell_look document.entry.bytes.now
-            (view document.entry.value.now) path.now.path → streams.old.left ≡ None
+            (view document.entry.value.now) path.now.path
             → Finds self.now.silent
             (IsCellOn builtin_functions document.entry.bytes.now path.now.path (string_bytes cell))
             (IsCellInPart builtin_functions document.entry.bytes.now path.now.path
@@ -120,7 +120,7 @@ impl Answering<'_> {
         streams.may_be_inexact |= first.may_be_inexact;
         match first.cell.take() {
             Some(cell) => {
-                self.keep_count(1, streams);
+                self.keep_count(1, streams)?;
                 Ok(cell)
             }
             None => Ok(String::new(self.alloc)),
@@ -152,7 +152,7 @@ impl Answering<'_> {
     ) -> Result<(), Stop>
         ensures answered { IfOk result (λ _. separator_in self.now.shown ≡ Some separator
             → AreShownAs cell_look document.entry.bytes.now (view document.entry.value.now)
-            self.now.paths.now → streams.old.left ≡ None
+            self.now.paths.now
             → AnswersRow W.contents self.now document.entry.source.name.now
             document.entry.source.line document.entry.bytes.now streams.old streams.new) }
         ensures unwritten { streams.new.out ≡ streams.old.out }
@@ -216,10 +216,12 @@ impl Answering<'_> {
         is_wanted: bool,
         streams: &mut Streams<W, E>,
     ) -> Result<(), Stop>
-        ensures sent { streams.old.left ≡ None → string_bytes streams.old.pending ≡ []
-            → OnOk result (Sends self.now.silent W.contents (IsHeader self.now is_wanted)
-            (IsHeader self.now is_wanted) streams.old streams.new) }
-        ensures begun { Begins W.contents (IsHeader self.now is_wanted) streams.old streams.new }
+        ensures sent { string_bytes streams.old.pending ≡ []
+            → OnOk result (Sends self.now.silent W.contents
+            (IsAside (header_by self.now is_wanted)) (IsAside (header_by self.now is_wanted))
+            streams.old streams.new) }
+        ensures begun { Begins W.contents (IsAside (header_by self.now is_wanted))
+            streams.old streams.new }
     {
         if !is_wanted {
             return Ok(());

@@ -4,7 +4,7 @@ use Rattle.jpq_program.proofs.Opened.{opens_all_inputs, opens_inputs}
 use Rattle.jpq_program.proofs.run.run_with.Goals as goal
 
 pub returns-clause-answered : goal.returns-clause-answered
-returns-clause-answered g c = λ run fresh empty files known.
+returns-clause-answered g c = λ run outcome fresh empty files known.
     let asked = c.in_ok-paths.ensures.right in
     let hinted = c.hint_at_patterns.ensures.told in
     let ended = c.hint_at_nothing.ensures.told in
@@ -13,12 +13,12 @@ returns-clause-answered g c = λ run fresh empty files known.
     let are = c.in_ok-paths.ensures.read (usual_of c.args.options.now c.args.colours run).bindings files in
     run_answered g.W.Write.contents (g.I.Inputs.bytes_of c.args.inputs.now) c.args.options.now c.args.colours.taken c.in_ok-next.next c.deref-2.result.now c.args.streams.now c.hint_at_patterns.new.streams c.answer_paths.new.streams c.hint_at_nothing.new.streams
     (subst (λ (paths : List AskedPath). ArePaths (rule_in c.args.options.now) (path_texts (g.I.Inputs.bytes_of c.args.inputs.now) c.args.options.now) (map (λ (path : AskedPath). path.path) paths)) (sym c.deref-2.ensures.value) are)
-    fresh (ap (λ (s : Streams g.row.W.Denot g.row.E.Denot). s.out) hinted ∙ ap (λ (s : Streams g.row.W.Denot g.row.E.Denot). s.out) asked)
+    outcome (ap (λ (s : Streams g.row.W.Denot g.row.E.Denot). s.out) hinted ∙ ap (λ (s : Streams g.row.W.Denot g.row.E.Denot). s.out) asked)
     (ap (λ (s : Streams g.row.W.Denot g.row.E.Denot). s.outcome) hinted ∙ ap (λ (s : Streams g.row.W.Denot g.row.E.Denot). s.outcome) asked) nothing
-    (ap (λ (s : Streams g.row.W.Denot g.row.E.Denot). s.out) ended) (ap (λ (s : Streams g.row.W.Denot g.row.E.Denot). s.outcome) ended)
+    (ap (λ (s : Streams g.row.W.Denot g.row.E.Denot). s.out) ended) (ap (λ (s : Streams g.row.W.Denot g.row.E.Denot). s.outcome) ended) (ap (λ (s : Streams g.row.W.Denot g.row.E.Denot). s.total) ended)
     (λ silent. (ap (λ (s : Streams g.row.W.Denot g.row.E.Denot). s.err) (c.hint_at_patterns.ensures.quiet silent ∙ asked), ap (λ (s : Streams g.row.W.Denot g.row.E.Denot). s.err) (c.hint_at_nothing.ensures.quiet silent)))
     (subst (λ (bytes_of : List ℕ → Option (List ℕ)). SendsFor g.W.Write.contents c.args.options.now c.args.colours.taken c.in_ok-next.next (map (λ (path : AskedPath). path.path) c.deref-2.result.now) bytes_of c.hint_at_patterns.new.streams c.answer_paths.new.streams) same
-    (c.in_ok-next.ensures.answered run (ap texts_asked c.deref-2.ensures.value ∙ c.in_ok-paths.ensures.texts (usual_of c.args.options.now c.args.colours run).bindings files ∙ ap (λ (known : List ℕ → Option (List ℕ)). path_texts known c.args.options.now) (sym same)) nothing (subst (λ (bytes_of : List ℕ → Option (List ℕ)). AreKnown bytes_of (names_in c.args.options.now)) (sym same) known)))
+    (c.in_ok-next.ensures.answered run (ap texts_asked c.deref-2.ensures.value ∙ c.in_ok-paths.ensures.texts (usual_of c.args.options.now c.args.colours run).bindings files ∙ ap (λ (known : List ℕ → Option (List ℕ)). path_texts known c.args.options.now) (sym same)) (ap (λ (s : Streams g.row.W.Denot g.row.E.Denot). s.total) hinted ∙ ap (λ (s : Streams g.row.W.Denot g.row.E.Denot). s.total) asked ∙ fresh) nothing (subst (λ (bytes_of : List ℕ → Option (List ℕ)). AreKnown bytes_of (names_in c.args.options.now)) (sym same) known)))
 
 pub returns-clause-all : goal.returns-clause-all
 returns-clause-all g c = λ check more.
@@ -27,7 +27,7 @@ returns-clause-all g c = λ check more.
 -- ---- of what a beginning is out, however it ends
 
 pub returns-clause-in_part : goal.returns-clause-in_part
-returns-clause-in_part g c = λ run empty files known.
+returns-clause-in_part g c = λ run fresh empty files known.
     let asked = c.asked_paths.ensures.tells in
     let hinted = c.hint_at_patterns.ensures.told in
     let same : g.I.Inputs.bytes_of c.asked_paths.new.inputs ≡ g.I.Inputs.bytes_of c.args.inputs.now = λ i name. c.in_ok-paths.ensures.same name i in
@@ -36,10 +36,10 @@ returns-clause-in_part g c = λ run empty files known.
     (subst (λ (paths : List AskedPath). ArePaths (rule_in c.args.options.now) (path_texts (g.I.Inputs.bytes_of c.args.inputs.now) c.args.options.now) (map (λ (path : AskedPath). path.path) paths)) (sym c.deref-2.ensures.value) (c.in_ok-paths.ensures.read (usual_of c.args.options.now c.args.colours run).bindings files))
     (ap (λ (s : Streams g.row.W.Denot g.row.E.Denot). s.out) hinted ∙ ap (λ (s : Streams g.row.W.Denot g.row.E.Denot). s.out) asked) nothing (ap (λ (s : Streams g.row.W.Denot g.row.E.Denot). s.out) c.hint_at_nothing.ensures.told)
     (subst (λ (bytes_of : List ℕ → Option (List ℕ)). Begins g.W.Write.contents (AreAllInPart c.args.options.now c.args.colours.taken (map (λ (path : AskedPath). path.path) c.deref-2.result.now) bytes_of) c.hint_at_patterns.new.streams c.answer_paths.new.streams) same
-    (c.answer_paths.ensures.begun run (ap texts_asked c.deref-2.ensures.value ∙ c.in_ok-paths.ensures.texts (usual_of c.args.options.now c.args.colours run).bindings files ∙ ap (λ (known : List ℕ → Option (List ℕ)). path_texts known c.args.options.now) (sym same)) nothing (subst (λ (bytes_of : List ℕ → Option (List ℕ)). AreKnown bytes_of (names_in c.args.options.now)) (sym same) known)))
+    (c.answer_paths.ensures.begun run (ap texts_asked c.deref-2.ensures.value ∙ c.in_ok-paths.ensures.texts (usual_of c.args.options.now c.args.colours run).bindings files ∙ ap (λ (known : List ℕ → Option (List ℕ)). path_texts known c.args.options.now) (sym same)) (ap (λ (s : Streams g.row.W.Denot g.row.E.Denot). s.total) hinted ∙ ap (λ (s : Streams g.row.W.Denot g.row.E.Denot). s.total) asked ∙ fresh) nothing (subst (λ (bytes_of : List ℕ → Option (List ℕ)). AreKnown bytes_of (names_in c.args.options.now)) (sym same) known)))
 
 pub returns-in_err-hint_at_nothing-clause-in_part : goal.returns-in_err-hint_at_nothing-clause-in_part
-returns-in_err-hint_at_nothing-clause-in_part g c = λ run empty files known.
+returns-in_err-hint_at_nothing-clause-in_part g c = λ run fresh empty files known.
     let asked = c.asked_paths.ensures.tells in
     let hinted = c.hint_at_patterns.ensures.told in
     let same : g.I.Inputs.bytes_of c.asked_paths.new.inputs ≡ g.I.Inputs.bytes_of c.args.inputs.now = λ i name. c.in_ok-paths.ensures.same name i in
@@ -48,10 +48,10 @@ returns-in_err-hint_at_nothing-clause-in_part g c = λ run empty files known.
     (subst (λ (paths : List AskedPath). ArePaths (rule_in c.args.options.now) (path_texts (g.I.Inputs.bytes_of c.args.inputs.now) c.args.options.now) (map (λ (path : AskedPath). path.path) paths)) (sym c.deref-2.ensures.value) (c.in_ok-paths.ensures.read (usual_of c.args.options.now c.args.colours run).bindings files))
     (ap (λ (s : Streams g.row.W.Denot g.row.E.Denot). s.out) hinted ∙ ap (λ (s : Streams g.row.W.Denot g.row.E.Denot). s.out) asked) nothing (ap (λ (s : Streams g.row.W.Denot g.row.E.Denot). s.out) c.hint_at_nothing.ensures.told)
     (subst (λ (bytes_of : List ℕ → Option (List ℕ)). Begins g.W.Write.contents (AreAllInPart c.args.options.now c.args.colours.taken (map (λ (path : AskedPath). path.path) c.deref-2.result.now) bytes_of) c.hint_at_patterns.new.streams c.answer_paths.new.streams) same
-    (c.answer_paths.ensures.begun run (ap texts_asked c.deref-2.ensures.value ∙ c.in_ok-paths.ensures.texts (usual_of c.args.options.now c.args.colours run).bindings files ∙ ap (λ (known : List ℕ → Option (List ℕ)). path_texts known c.args.options.now) (sym same)) nothing (subst (λ (bytes_of : List ℕ → Option (List ℕ)). AreKnown bytes_of (names_in c.args.options.now)) (sym same) known)))
+    (c.answer_paths.ensures.begun run (ap texts_asked c.deref-2.ensures.value ∙ c.in_ok-paths.ensures.texts (usual_of c.args.options.now c.args.colours run).bindings files ∙ ap (λ (known : List ℕ → Option (List ℕ)). path_texts known c.args.options.now) (sym same)) (ap (λ (s : Streams g.row.W.Denot g.row.E.Denot). s.total) hinted ∙ ap (λ (s : Streams g.row.W.Denot g.row.E.Denot). s.total) asked ∙ fresh) nothing (subst (λ (bytes_of : List ℕ → Option (List ℕ)). AreKnown bytes_of (names_in c.args.options.now)) (sym same) known)))
 
 pub returns-in_err-next-clause-in_part : goal.returns-in_err-next-clause-in_part
-returns-in_err-next-clause-in_part g c = λ run empty files known.
+returns-in_err-next-clause-in_part g c = λ run fresh empty files known.
     let asked = c.asked_paths.ensures.tells in
     let hinted = c.hint_at_patterns.ensures.told in
     let same : g.I.Inputs.bytes_of c.asked_paths.new.inputs ≡ g.I.Inputs.bytes_of c.args.inputs.now = λ i name. c.in_ok-paths.ensures.same name i in
@@ -60,13 +60,13 @@ returns-in_err-next-clause-in_part g c = λ run empty files known.
     (subst (λ (paths : List AskedPath). ArePaths (rule_in c.args.options.now) (path_texts (g.I.Inputs.bytes_of c.args.inputs.now) c.args.options.now) (map (λ (path : AskedPath). path.path) paths)) (sym c.deref-2.ensures.value) (c.in_ok-paths.ensures.read (usual_of c.args.options.now c.args.colours run).bindings files))
     (ap (λ (s : Streams g.row.W.Denot g.row.E.Denot). s.out) hinted ∙ ap (λ (s : Streams g.row.W.Denot g.row.E.Denot). s.out) asked) nothing refl
     (subst (λ (bytes_of : List ℕ → Option (List ℕ)). Begins g.W.Write.contents (AreAllInPart c.args.options.now c.args.colours.taken (map (λ (path : AskedPath). path.path) c.deref-2.result.now) bytes_of) c.hint_at_patterns.new.streams c.answer_paths.new.streams) same
-    (c.answer_paths.ensures.begun run (ap texts_asked c.deref-2.ensures.value ∙ c.in_ok-paths.ensures.texts (usual_of c.args.options.now c.args.colours run).bindings files ∙ ap (λ (known : List ℕ → Option (List ℕ)). path_texts known c.args.options.now) (sym same)) nothing (subst (λ (bytes_of : List ℕ → Option (List ℕ)). AreKnown bytes_of (names_in c.args.options.now)) (sym same) known)))
+    (c.answer_paths.ensures.begun run (ap texts_asked c.deref-2.ensures.value ∙ c.in_ok-paths.ensures.texts (usual_of c.args.options.now c.args.colours run).bindings files ∙ ap (λ (known : List ℕ → Option (List ℕ)). path_texts known c.args.options.now) (sym same)) (ap (λ (s : Streams g.row.W.Denot g.row.E.Denot). s.total) hinted ∙ ap (λ (s : Streams g.row.W.Denot g.row.E.Denot). s.total) asked ∙ fresh) nothing (subst (λ (bytes_of : List ℕ → Option (List ℕ)). AreKnown bytes_of (names_in c.args.options.now)) (sym same) known)))
 
 pub returns-in_err-paths-clause-in_part : goal.returns-in_err-paths-clause-in_part
-returns-in_err-paths-clause-in_part g c = λ run empty files known. inl (ap (λ (s : Streams g.row.W.Denot g.row.E.Denot). s.out) c.asked_paths.ensures.tells)
+returns-in_err-paths-clause-in_part g c = λ run fresh empty files known. inl (ap (λ (s : Streams g.row.W.Denot g.row.E.Denot). s.out) c.asked_paths.ensures.tells)
 
 pub returns-in_err-hint_at_patterns-clause-in_part : goal.returns-in_err-hint_at_patterns-clause-in_part
-returns-in_err-hint_at_patterns-clause-in_part g c = λ run empty files known.
+returns-in_err-hint_at_patterns-clause-in_part g c = λ run fresh empty files known.
     inl (ap (λ (s : Streams g.row.W.Denot g.row.E.Denot). s.out) c.hint_at_patterns.ensures.told ∙ ap (λ (s : Streams g.row.W.Denot g.row.E.Denot). s.out) c.asked_paths.ensures.tells)
 
 pub returns-in_err-paths-clause-checked_in_part : goal.returns-in_err-paths-clause-checked_in_part

@@ -6,17 +6,17 @@ use Rattle.jpq_program.specs.Inside.{separated}
 use Rattle.jpq_program.proofs.answering.Answering.answer_row.Goals as goal
 
 pub loop-path-init : goal.loop-path-init
-loop-path-init g c = (refl, λ are left. ([], c.in_ok-cells.ensures ∙ sym (append-nil _), no_cells c.args.document.bytes.now c.args.streams.now left))
+loop-path-init g c = (refl, λ are. ([], c.in_ok-cells.ensures ∙ sym (append-nil _), no_cells c.args.document.bytes.now c.args.streams.now))
 
 pub loop-path-preserved : goal.loop-path-preserved
 loop-path-preserved g c = (
   c.cell.ensures.unwritten.0 ∙ c.loop-path.invariant.0,
-  λ are left.
-      let held = c.loop-path.invariant.1 are left in
+  λ are.
+      let held = c.loop-path.invariant.1 are in
       let path = c.path-item.result in
       let cell = string_bytes c.in_ok-cell.field-0 in
       let firsts = first_cells c.args.self.now.heads.file c.args.self.now.heads.line c.args.document.source.name.now c.args.document.source.line in
-      let one = c.in_ok-cell.ensures.found (are c.loop-path.path-index path c.loop-path-test.true c.path-item.is) held.2.left in (
+      let one = c.in_ok-cell.ensures.found (are c.loop-path.path-index path c.loop-path-test.true c.path-item.is) in (
         held.0 ++ cell ∷ [],
         ap (map string_bytes) c.in_ok-push.ensures.items ∙ map_push string_bytes c.loop-path.cells.items c.in_ok-cell.field-0 ∙ ap (λ (cs : List (List ℕ)). cs ++ cell ∷ []) held.1 ∙ append_assoc firsts held.0 (cell ∷ []),
         subst (λ (paths : List JsonPath). FindsCells c.args.self.now.silent c.args.document.bytes.now paths (held.0 ++ cell ∷ []) c.args.streams.now c.cell.new.streams) (sym (further_mapped (λ (p : AskedPath). p.path) c.args.self.now.paths.now c.loop-path.path-index path c.loop-path-test.true c.path-item.is))
@@ -25,8 +25,8 @@ loop-path-preserved g c = (
 )
 
 pub returns-clause-answered : goal.returns-clause-answered
-returns-clause-answered g c = on_ok_then c.push_row.result _ _ c.push_row.ensures.row (λ pushed _ is are left.
-    let held = c.loop-path.invariant.1 are left in
+returns-clause-answered g c = on_ok_then c.push_row.result _ _ c.push_row.ensures.row (λ pushed _ is are.
+    let held = c.loop-path.invariant.1 are in
     let firsts = first_cells c.args.self.now.heads.file c.args.self.now.heads.line c.args.document.source.name.now c.args.document.source.line in
     row_answered g.W.Write.contents (map (λ (p : AskedPath). p.path) c.args.self.now.paths.now) (row_line c.args.self.now.shown c.args.self.now.showing.output.end) firsts held.0 c.args.document.bytes.now c.args.streams.now c.loop-path.streams c.push_row.new.streams
     (subst (λ (paths : List AskedPath). FindsCells c.args.self.now.silent c.args.document.bytes.now (map (λ (p : AskedPath). p.path) paths) held.0 c.args.streams.now c.loop-path.streams) (take_all c.loop-path.path-index c.args.self.now.paths.now c.loop-path-test.false) held.2)

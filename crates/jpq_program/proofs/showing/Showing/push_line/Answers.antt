@@ -9,5 +9,5 @@ returns-in-None c = λ plain. on_ok_as c.push_line.result _ _ (bare_look c.args.
 
 pub returns-in-Some : goal.returns-in-Some
 returns-in-Some c = λ plain. on_ok_as c.push_line-in-Some.result _ _
-    (subst (λ (dress : Option Dress). lines.Appends (IsLook (look_with c.args.self.now.output dress) c.args.head.now (located c.args.node.now)) (string_bytes c.args.to.now) (string_bytes c.push_line-in-Some.new.to)) (sym c.in-Some.is))
+    (subst (λ (dress : Option Dress). lines.Appends (IsLook (look_with c.args.self.now.output c.args.self.now.most_of_all c.args.self.now.summed dress) c.args.head.now (located c.args.node.now)) (string_bytes c.args.to.now) (string_bytes c.push_line-in-Some.new.to)) (sym c.in-Some.is))
     (c.push_line-in-Some.ensures (usual_palette c.args.self.now.dress c.in-Some.dress c.in-Some.is plain))

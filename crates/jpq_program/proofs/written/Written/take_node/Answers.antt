@@ -15,7 +15,7 @@ returns-clause-taken g c =
         limit = ap (λ (w : Written g.row.W.Denot g.row.E.Denot). w.limit) pushed.kept;
         outcome = ap (λ (s : Streams g.row.W.Denot g.row.E.Denot). s.outcome) kept ∙ ap (λ (s : Streams g.row.W.Denot g.row.E.Denot). s.outcome) pushed.streams;
         err = ap (λ (s : Streams g.row.W.Denot g.row.E.Denot). s.err) kept ∙ ap (λ (s : Streams g.row.W.Denot g.row.E.Denot). s.err) pushed.streams;
-        left = ap (λ (s : Streams g.row.W.Denot g.row.E.Denot). s.left) kept ∙ ap (λ (s : Streams g.row.W.Denot g.row.E.Denot). s.left) pushed.streams;
+        total = ap (λ (s : Streams g.row.W.Denot g.row.E.Denot). s.total) kept ∙ ap (λ (s : Streams g.row.W.Denot g.row.E.Denot). s.total) pushed.streams;
       };
       count = search rules;
       further = λ more. (ap (λ (w : Written g.row.W.Denot g.row.E.Denot). w.stop) pushed.kept, grind (arith, common_steps, more, c.is_reached.ensures));
@@ -46,7 +46,7 @@ returns-in-Err-clause-begun g c =
         limit = ap (λ (w : Written g.row.W.Denot g.row.E.Denot). w.limit) pushed.kept;
         outcome = ap (λ (s : Streams g.row.W.Denot g.row.E.Denot). s.outcome) kept ∙ ap (λ (s : Streams g.row.W.Denot g.row.E.Denot). s.outcome) pushed.streams;
         err = ap (λ (s : Streams g.row.W.Denot g.row.E.Denot). s.err) kept ∙ ap (λ (s : Streams g.row.W.Denot g.row.E.Denot). s.err) pushed.streams;
-        left = ap (λ (s : Streams g.row.W.Denot g.row.E.Denot). s.left) kept ∙ ap (λ (s : Streams g.row.W.Denot g.row.E.Denot). s.left) pushed.streams;
+        total = ap (λ (s : Streams g.row.W.Denot g.row.E.Denot). s.total) kept ∙ ap (λ (s : Streams g.row.W.Denot g.row.E.Denot). s.total) pushed.streams;
       };
       written = λ plain. node_begun (look_of c.args.self.now.showing.now) (is_after c.args.self.now) c.args.self.now.head.now (located c.args.node.now) (g.W.Write.contents c.args.self.now.streams.now.out) _ _ _ (c.in_ok-push_pending.ensures.node plain)
           (subst (λ (out : Option (List ℕ)). AppendsBeginning out (g.W.Write.contents c.write_if_full.new.self.out) (string_bytes c.push_pending.new.self.streams.now.pending))
