@@ -1,58 +1,15 @@
 -- What options ask for, as documents are answered.
-use Rattle.jpq_program.proofs.Words.{AreAllInPart, AreAllShown, IsBetween, IsUntil, total_for, has_enough, nat_lt, decimal, end_text, true≢false, header_cells, header_for, if◌then◌else◌, texts_asked, ◌≡◌, ◌∙◌, ◌&&◌, ◌||◌, ℕ, Bool, true, false, List, [], Option, None, length, length-map, map, not, refl, sym, ap, subst, string_bytes, Appends, AreInputsShown, AreKnown, ArePaths, IsAnswered, IsShownInPart, IsShownOn, cells_for, head_for, Outcome, names_in, rule_in, status_of, Answered, AppendsBeginning, AskedPath, Answering, Begins, IsAnsweredInPart, IsShownInPartFor, SendsFor, Shown, ◌++◌, Documents, Heads, IsPlain, JsonPath, Keeps, IfSome, Nodes, OptionShown, Options, Output, Colours, Csv, Tsv, Form, IsRowInPart, IsRowOn, Look, MatchBool, first_cells, row_line, look_in, has_palette, Streams, builtin_functions, form_in, has_counts, has_nodes, head_by, heads_in, is_each, is_plain_answer, is_table, output_in, path_tree, shows_places, LocationAndValue, Value, Raw, Location, Pointer, Json, Count, Nothing, path_texts, ◌⊎◌, AnswersRun, Ends, IfWhole, is_whole, Enough, Found, IsKnownRun, IsUsualRun, More, Next, inr, SendsUntil, arith, common_steps, nat_tests, inl, is_quiet}
+use Rattle.jpq_program.proofs.Words.{AreAllInPart, AreAllShown, IsBetween, IsUntil, total_for, has_enough, nat_lt, decimal, end_text, true≢false, header_cells, header_for, if◌then◌else◌, texts_asked, ◌≡◌, ◌∙◌, ◌&&◌, ◌||◌, ℕ, true, false, List, [], Option, None, length, length-map, map, refl, sym, ap, subst, string_bytes, Appends, AreInputsShown, AreKnown, ArePaths, IsAnswered, IsShownInPart, IsShownOn, cells_for, head_for, Outcome, names_in, rule_in, status_of, Answered, AppendsBeginning, AskedPath, Begins, IsAnsweredInPart, IsShownInPartFor, SendsFor, Shown, ◌++◌, Documents, Heads, ReadsForPaths, JsonPath, Keeps, IfSome, Nodes, OptionShown, Options, Output, Colours, Form, IsRowInPart, IsRowOn, Look, MatchBool, first_cells, row_line, look_in, Streams, builtin_functions, form_in, head_by, heads_in, is_each, is_table, output_in, path_tree, shows_places, Nothing, path_texts, AnswersRun, Ends, IfWhole, is_whole, Enough, Found, More, Next, inr, SendsUntil, is_quiet}
 use Rattle.jpq_program.proofs.Ended.{sent_out, status_is}
 use Rattle.jpq_program.proofs.Sending.{ends_still, no_named, no_shown, none_wanted}
 use Rattle.jpq_program.proofs.Shown.{answered_since, begun_since, none_begun_of}
-use Rattle.jpq_program.specs.Run.{is_colored}
 
--- ---- plain answers
+-- ---- documents are read for what is asked
 
--- an answer is plain, by what it shows, its form, and whether the environment says which colours lines have
-abbrev plain_by : OptionShown → Form → Bool → Bool
-plain_by shown form palette = is_table shown || ((not palette && has_nodes form) || has_counts form)
-
-each_plain : (shown : OptionShown) → is_each shown ≡ true → plain_by shown (form_in shown) false ≡ true
-each_plain (Nodes LocationAndValue) is = refl
-each_plain (Nodes Value) is = refl
-each_plain (Nodes Raw) is = refl
-each_plain (Nodes Location) is = refl
-each_plain (Nodes Pointer) is = refl
-each_plain (Nodes Count) is = refl
-each_plain (Nodes Json) is = refl
-each_plain (Nodes Nothing) is = absurd cc
-each_plain Tsv is = refl
-each_plain Csv is = refl
-
-plain_answer : (answering : Answering) (options : Options) → is_each options.shown ≡ true → answering.shown ≡ options.shown → answering.showing.output ≡ output_in options → has_palette answering.showing.dress ≡ false
-    → is_plain_answer answering ≡ true
-plain_answer answering options each shown output usual =
-    ap (λ (s : OptionShown). plain_by s answering.showing.output.form (has_palette answering.showing.dress)) shown
-    ∙ ap (λ (o : Output). plain_by options.shown o.form (has_palette answering.showing.dress)) output
-    ∙ ap (λ p. plain_by options.shown (form_in options.shown) p) usual
-    ∙ each_plain options.shown each
-
--- it is, too, where nothing is shown
-quiet_answer : (answering : Answering) (options : Options) → options.shown ≡ Nodes Nothing → answering.shown ≡ options.shown → answering.showing.output ≡ output_in options → is_plain_answer answering ≡ true
-quiet_answer answering options quiet shown output =
-    let palette = has_palette answering.showing.dress in
-    ap (λ (s : OptionShown). plain_by s answering.showing.output.form palette) (shown ∙ quiet)
-    ∙ ap (λ (o : Output). plain_by (Nodes Nothing) o.form palette) output
-    ∙ ap (λ (s : OptionShown). plain_by (Nodes Nothing) (form_in s) palette) quiet
-    ∙ or_true (not palette && false)
-  where
-    or_true : (b : Bool) → (b || true) ≡ true
-    or_true b = grind (arith, nat_tests, common_steps)
-
-pub usual_of : (options : Options) (colours : Colours) → IsKnownRun options colours → IsUsualRun options
-usual_of options colours (inl plain) = plain.usual
-usual_of options colours (inr quiet) = quiet.usual
-
-pub plain_documents : (documents : Documents) (options : Options) (colours : Colours) → IsKnownRun options colours
-    → documents.answering.shown ≡ options.shown → documents.answering.showing.output ≡ output_in options → ((is_colored options.color colours.taken ≡ true → colours.palette ≡ None) → has_palette documents.answering.showing.dress ≡ false)
+pub reads_documents : (documents : Documents) (options : Options) → documents.answering.shown ≡ options.shown → documents.answering.showing.output ≡ output_in options
     → IfSome documents.reader (λ reader. Keeps reader (shows_places documents.answering.showing.output.form) (map (λ (path : AskedPath). path_tree path.path) documents.answering.paths.now))
-    → IsPlain documents
-plain_documents documents options colours run shown output usual read = record {
-  answer = answer run;
+    → ReadsForPaths documents
+reads_documents documents options shown output read = record {
   places = λ table. ap (λ (o : Output). shows_places o.form) output ∙ values options.shown (sym (ap is_table shown) ∙ table);
   read = read;
 }
@@ -60,10 +17,6 @@ plain_documents documents options colours run shown output usual read = record {
     values : (shown : OptionShown) → is_table shown ≡ true → shows_places (form_in shown) ≡ false
     values (Nodes form) table = absurd cc
     values _ table = refl
-
-    answer : IsKnownRun options colours → is_plain_answer documents.answering ≡ true
-    answer (inl plain) = plain_answer documents.answering options plain.each shown output (usual plain.palette)
-    answer (inr quiet) = quiet_answer documents.answering options quiet.shown shown output
 
 -- ---- what is shown of the inputs is what the options ask for
 
@@ -94,16 +47,16 @@ AllWhole options paths look heads texts bytes_of = AllOf options look heads text
 abbrev AllInPart : Options → List JsonPath → Look → Heads → List (List ℕ) → (List ℕ → Option (List ℕ)) → List ℕ → ℕ → Type 0
 AllInPart options paths look heads texts bytes_of = AllOf options look heads texts (InPart options.shown paths look heads) bytes_of
 
-pub sent_for : {W E : Type 0} (contents : W → Option (List ℕ)) (options : Options) (taken : Bool) (next : Next) (asked : List AskedPath) (look : Look) (heads : Heads) (bytes_of : List ℕ → Option (List ℕ)) (before start now : Streams W E)
-    → look ≡ look_in options taken → heads ≡ heads_in options (length asked) → texts_asked asked ≡ path_texts bytes_of options → start.out ≡ before.out → start.pending ≡ before.pending → start.outcome ≡ before.outcome → start.total ≡ before.total → (options.silent ≡ true → start.err ≡ before.err)
+pub sent_for : {W E : Type 0} (contents : W → Option (List ℕ)) (options : Options) (colours : Colours) (next : Next) (asked : List AskedPath) (look : Look) (heads : Heads) (bytes_of : List ℕ → Option (List ℕ)) (before start now : Streams W E)
+    → look ≡ look_in options colours → heads ≡ heads_in options (length asked) → texts_asked asked ≡ path_texts bytes_of options → start.out ≡ before.out → start.pending ≡ before.pending → start.outcome ≡ before.outcome → start.total ≡ before.total → (options.silent ≡ true → start.err ≡ before.err)
     → SendsUntil options.silent contents look.output.form look.most_of_all next (AllWhole options (map (λ (path : AskedPath). path.path) asked) look heads (texts_asked asked) bytes_of) (AllInPart options (map (λ (path : AskedPath). path.path) asked) look heads (texts_asked asked) bytes_of) start now
-    → SendsFor contents options taken next (map (λ (path : AskedPath). path.path) asked) bytes_of before now
-sent_for contents options taken next asked look heads bytes_of before start now look_is heads_is texts_are out pending outcome total err sent = (
+    → SendsFor contents options colours next (map (λ (path : AskedPath). path.path) asked) bytes_of before now
+sent_for contents options colours next asked look heads bytes_of before start now look_is heads_is texts_are out pending outcome total err sent = (
   subst (λ (l : Look). Ends l.output.form l.most_of_all next now) look_is sent.0,
   (
-    answered_since contents (IfWhole next (AreAllShown options taken paths bytes_of)) (AreAllInPart options taken paths bytes_of) before start now out pending outcome total err
-        (subst (λ (t : List (List ℕ)). Answered options.silent contents (IfWhole next (AllWhole options paths (look_in options taken) (heads_in options (length paths)) t bytes_of)) (AllInPart options paths (look_in options taken) (heads_in options (length paths)) t bytes_of) start now) texts_are
-        (subst (λ (h : Heads). Answered options.silent contents (IfWhole next (AllWhole options paths (look_in options taken) h (texts_asked asked) bytes_of)) (AllInPart options paths (look_in options taken) h (texts_asked asked) bytes_of) start now) (heads_as_asked options asked heads heads_is)
+    answered_since contents (IfWhole next (AreAllShown options colours paths bytes_of)) (AreAllInPart options colours paths bytes_of) before start now out pending outcome total err
+        (subst (λ (t : List (List ℕ)). Answered options.silent contents (IfWhole next (AllWhole options paths (look_in options colours) (heads_in options (length paths)) t bytes_of)) (AllInPart options paths (look_in options colours) (heads_in options (length paths)) t bytes_of) start now) texts_are
+        (subst (λ (h : Heads). Answered options.silent contents (IfWhole next (AllWhole options paths (look_in options colours) h (texts_asked asked) bytes_of)) (AllInPart options paths (look_in options colours) h (texts_asked asked) bytes_of) start now) (heads_as_asked options asked heads heads_is)
         (subst (λ (l : Look). Answered options.silent contents (IfWhole next (AllWhole options paths l heads (texts_asked asked) bytes_of)) (AllInPart options paths l heads (texts_asked asked) bytes_of) start now) look_is sent.1.0))),
     sent.1.1,
   ),
@@ -112,35 +65,35 @@ sent_for contents options taken next asked look heads bytes_of before start now 
     paths : List JsonPath
     paths = map (λ (path : AskedPath). path.path) asked
 
-pub begun_for : {W E : Type 0} (contents : W → Option (List ℕ)) (options : Options) (taken : Bool) (asked : List AskedPath) (look : Look) (heads : Heads) (bytes_of : List ℕ → Option (List ℕ)) (before start now : Streams W E)
-    → look ≡ look_in options taken → heads ≡ heads_in options (length asked) → texts_asked asked ≡ path_texts bytes_of options → start.out ≡ before.out → start.pending ≡ before.pending
+pub begun_for : {W E : Type 0} (contents : W → Option (List ℕ)) (options : Options) (colours : Colours) (asked : List AskedPath) (look : Look) (heads : Heads) (bytes_of : List ℕ → Option (List ℕ)) (before start now : Streams W E)
+    → look ≡ look_in options colours → heads ≡ heads_in options (length asked) → texts_asked asked ≡ path_texts bytes_of options → start.out ≡ before.out → start.pending ≡ before.pending
     → Begins contents (AllInPart options (map (λ (path : AskedPath). path.path) asked) look heads (texts_asked asked) bytes_of) start now
-    → Begins contents (AreAllInPart options taken (map (λ (path : AskedPath). path.path) asked) bytes_of) before now
-begun_for contents options taken asked look heads bytes_of before start now look_is heads_is texts_are out pending begun =
-    begun_since contents (AreAllInPart options taken paths bytes_of) before start now out pending
-    (subst (λ (t : List (List ℕ)). Begins contents (AllInPart options paths (look_in options taken) (heads_in options (length paths)) t bytes_of) start now) texts_are
-    (subst (λ (h : Heads). Begins contents (AllInPart options paths (look_in options taken) h (texts_asked asked) bytes_of) start now) (heads_as_asked options asked heads heads_is)
+    → Begins contents (AreAllInPart options colours (map (λ (path : AskedPath). path.path) asked) bytes_of) before now
+begun_for contents options colours asked look heads bytes_of before start now look_is heads_is texts_are out pending begun =
+    begun_since contents (AreAllInPart options colours paths bytes_of) before start now out pending
+    (subst (λ (t : List (List ℕ)). Begins contents (AllInPart options paths (look_in options colours) (heads_in options (length paths)) t bytes_of) start now) texts_are
+    (subst (λ (h : Heads). Begins contents (AllInPart options paths (look_in options colours) h (texts_asked asked) bytes_of) start now) (heads_as_asked options asked heads heads_is)
     (subst (λ (l : Look). Begins contents (AllInPart options paths l heads (texts_asked asked) bytes_of) start now) look_is begun)))
   where
     paths : List JsonPath
     paths = map (λ (path : AskedPath). path.path) asked
 
 -- of inputs that are known nothing may be shown, and of the first row nothing is out
-pub nothing_for : {W E : Type 0} (contents : W → Option (List ℕ)) (options : Options) (taken : Bool) (paths : List JsonPath) (bytes_of : List ℕ → Option (List ℕ)) (before now : Streams W E) → AreKnown bytes_of (names_in options) → now.out ≡ before.out
-    → Begins contents (AreAllInPart options taken paths bytes_of) before now
-nothing_for contents options taken paths bytes_of before now known same =
-    let Is = IsShownInPartFor options taken paths in
-    let none = λ (name : List ℕ) (number : ℕ) (bytes : List ℕ). none_wanted options.most_of_all Is name number bytes 0 (no_shown (is_table options.shown) paths (look_in options taken) (row_line options.shown options.end) (cells_for options name number) (head_for options (length paths) name number) bytes 0) in
-    none_begun_of contents (AreAllInPart options taken paths bytes_of) (header_for options (path_texts bytes_of options) ++ ([] ++ total_for options 0)) 0 before now
+pub nothing_for : {W E : Type 0} (contents : W → Option (List ℕ)) (options : Options) (colours : Colours) (paths : List JsonPath) (bytes_of : List ℕ → Option (List ℕ)) (before now : Streams W E) → AreKnown bytes_of (names_in options) → now.out ≡ before.out
+    → Begins contents (AreAllInPart options colours paths bytes_of) before now
+nothing_for contents options colours paths bytes_of before now known same =
+    let Is = IsShownInPartFor options colours paths in
+    let none = λ (name : List ℕ) (number : ℕ) (bytes : List ℕ). none_wanted options.most_of_all Is name number bytes 0 (no_shown (is_table options.shown) paths (look_in options colours) (row_line options.shown options.end) (cells_for options name number) (head_for options (length paths) name number) bytes 0) in
+    none_begun_of contents (AreAllInPart options colours paths bytes_of) (header_for options (path_texts bytes_of options) ++ ([] ++ total_for options 0)) 0 before now
     ([], no_named (IsUntil options.most_of_all Is) options.lines bytes_of (names_in options) 0 none known 1, refl) same
 
 -- a run was answered
-pub run_answered : {W E : Type 0} (contents : W → Option (List ℕ)) (bytes_of : List ℕ → Option (List ℕ)) (options : Options) (taken : Bool) (next : Next) (asked : List AskedPath) (old start answer final : Streams W E)
+pub run_answered : {W E : Type 0} (contents : W → Option (List ℕ)) (bytes_of : List ℕ → Option (List ℕ)) (options : Options) (colours : Colours) (next : Next) (asked : List AskedPath) (old start answer final : Streams W E)
     → ArePaths (rule_in options) (path_texts bytes_of options) (map (λ (path : AskedPath). path.path) asked)
     → old.outcome ≡ record { selected = false; refused = false } → start.out ≡ old.out → start.outcome ≡ old.outcome → string_bytes start.pending ≡ []
-    → final.out ≡ answer.out → final.outcome ≡ answer.outcome → final.total ≡ answer.total → (options.silent ≡ true → (start.err ≡ old.err) × (final.err ≡ answer.err)) → SendsFor contents options taken next (map (λ (path : AskedPath). path.path) asked) bytes_of start answer
-    → AnswersRun contents bytes_of options taken next old final
-run_answered {W} {E} contents bytes_of options taken next asked old start answer final are fresh out outcome empty final_out final_outcome final_total quiet sent =
+    → final.out ≡ answer.out → final.outcome ≡ answer.outcome → final.total ≡ answer.total → (options.silent ≡ true → (start.err ≡ old.err) × (final.err ≡ answer.err)) → SendsFor contents options colours next (map (λ (path : AskedPath). path.path) asked) bytes_of start answer
+    → AnswersRun contents bytes_of options colours next old final
+run_answered {W} {E} contents bytes_of options colours next asked old start answer final are fresh out outcome empty final_out final_outcome final_total quiet sent =
     let answered = sent.1.0 in
     let appends = sent_out (contents start.out) (contents answer.out) (string_bytes start.pending) (string_bytes answer.pending) answered.text empty sent.1.1 answered.writes in
     record {
@@ -179,9 +132,9 @@ all_wanted form most Enough after whole all ends = absurd (true≢false (sym end
 all_wanted form most Found after whole all ends = absurd (true≢false (sym whole))
 
 -- so what it shows went out
-pub plain_answered : {W E : Type 0} (contents : W → Option (List ℕ)) (bytes_of : List ℕ → Option (List ℕ)) (options : Options) (taken : Bool) (next : Next) (before after : Streams W E) → is_each options.shown ≡ true → after.outcome.refused ≡ false
-    → AnswersRun contents bytes_of options taken next before after → IsAnswered contents bytes_of options taken before.out after.out (status_of after.outcome)
-plain_answered contents bytes_of options taken next before after each right run = record {
+pub plain_answered : {W E : Type 0} (contents : W → Option (List ℕ)) (bytes_of : List ℕ → Option (List ℕ)) (options : Options) (colours : Colours) (next : Next) (before after : Streams W E) → is_each options.shown ≡ true → after.outcome.refused ≡ false
+    → AnswersRun contents bytes_of options colours next before after → IsAnswered contents bytes_of options colours before.out after.out (status_of after.outcome)
+plain_answered contents bytes_of options colours next before after each right run = record {
   paths = run.paths;
   are = run.are;
   text = run.text;
@@ -192,12 +145,12 @@ plain_answered contents bytes_of options taken next before after each right run 
 }
 
 -- of what is shown of the inputs a beginning is out
-pub run_begun : {W E : Type 0} (contents : W → Option (List ℕ)) (bytes_of : List ℕ → Option (List ℕ)) (options : Options) (taken : Bool) (asked : List AskedPath) (old start answer final : Streams W E)
+pub run_begun : {W E : Type 0} (contents : W → Option (List ℕ)) (bytes_of : List ℕ → Option (List ℕ)) (options : Options) (colours : Colours) (asked : List AskedPath) (old start answer final : Streams W E)
     → ArePaths (rule_in options) (path_texts bytes_of options) (map (λ (path : AskedPath). path.path) asked)
     → start.out ≡ old.out → string_bytes start.pending ≡ [] → final.out ≡ answer.out
-    → Begins contents (AreAllInPart options taken (map (λ (path : AskedPath). path.path) asked) bytes_of) start answer
-    → IsAnsweredInPart contents bytes_of options taken old.out final.out
-run_begun {W} {E} contents bytes_of options taken asked old start answer final are out empty final_out begun = inr (
+    → Begins contents (AreAllInPart options colours (map (λ (path : AskedPath). path.path) asked) bytes_of) start answer
+    → IsAnsweredInPart contents bytes_of options colours old.out final.out
+run_begun {W} {E} contents bytes_of options colours asked old start answer final are out empty final_out begun = inr (
   map (λ (path : AskedPath). path.path) asked,
   are,
   begun.0,
@@ -208,12 +161,12 @@ run_begun {W} {E} contents bytes_of options taken asked old start answer final a
 )
 
 -- the same of a run that ended so
-pub run_ended : {W : Type 0} (contents : W → Option (List ℕ)) (bytes_of : List ℕ → Option (List ℕ)) (options : Options) (taken : Bool) (old start final last : W) (outcome : Outcome) (status : ℕ) → start ≡ old → last ≡ final → status ≡ status_of outcome
-    → IsAnswered contents bytes_of options taken start final (status_of outcome) → IsAnswered contents bytes_of options taken old last status
-run_ended {W} contents bytes_of options taken old start final last outcome status begins ends is answered =
-    subst (λ (o : W). IsAnswered contents bytes_of options taken o last status) begins
-    (subst (λ (o : W). IsAnswered contents bytes_of options taken start o status) (sym ends)
-    (subst (λ (n : ℕ). IsAnswered contents bytes_of options taken start final n) (sym is) answered))
+pub run_ended : {W : Type 0} (contents : W → Option (List ℕ)) (bytes_of : List ℕ → Option (List ℕ)) (options : Options) (colours : Colours) (old start final last : W) (outcome : Outcome) (status : ℕ) → start ≡ old → last ≡ final → status ≡ status_of outcome
+    → IsAnswered contents bytes_of options colours start final (status_of outcome) → IsAnswered contents bytes_of options colours old last status
+run_ended {W} contents bytes_of options colours old start final last outcome status begins ends is answered =
+    subst (λ (o : W). IsAnswered contents bytes_of options colours o last status) begins
+    (subst (λ (o : W). IsAnswered contents bytes_of options colours start o status) (sym ends)
+    (subst (λ (n : ℕ). IsAnswered contents bytes_of options colours start final n) (sym is) answered))
 
 -- what is so of what is out, as it was before and stayed
 pub out_since : {W : Type 0} (Is : W → W → Type 0) (old start final last : W) → start ≡ old → last ≡ final → Is start final → Is old last

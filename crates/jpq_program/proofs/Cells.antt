@@ -267,9 +267,3 @@ header_is answering separator wanted is rows =
 
     row : List ℕ
     row = row_line answering.shown answering.showing.output.end cells
-
--- what is shown in no rows is shown as nodes or counts
-pub no_table : (shown : OptionShown) (rest : Bool) → (is_table shown || rest) ≡ true → is_table shown ≡ false → rest ≡ true
-no_table (Nodes form) rest plain table = plain
-no_table Tsv rest plain table = absurd cc
-no_table Csv rest plain table = absurd cc

@@ -1,5 +1,5 @@
 -- Lines that are dressed, character by character.
-use Rattle.jpq_program.proofs.Words.{◌≡◌, ◌∙◌, ◌==◌, ◌&&◌, ◌++◌, ◌∷◌, ℕ, Bool, true, false, List, [], ap, refl, sym, append-nil, if◌then◌else◌, encode_utf8, led_by, Data, Dress, IsLine, IsLook, Located, Look, None, Option, Showing, Some, dressed, end_text, escaped, has_escapes, has_palette, indented, is_some, look_of, look_with, not, subst, true≢false, IsUtf8, IsUtf8-past_char, append_assoc, chars, chars-nil, chars_past_char, flat_map, length, nil_from_length}
+use Rattle.jpq_program.proofs.Words.{◌≡◌, ◌∙◌, ◌==◌, ◌&&◌, ◌++◌, ◌∷◌, ℕ, Bool, true, false, List, [], ap, refl, sym, append-nil, if◌then◌else◌, encode_utf8, led_by, Data, Dress, IsLine, IsLook, Located, Look, None, Option, Showing, dressed, end_text, escaped, has_escapes, indented, look_of, look_with, subst, IsUtf8, IsUtf8-past_char, append_assoc, chars, chars-nil, chars_past_char, flat_map, length, nil_from_length}
 use Rattle.jsonpath_lines.specs.Inside as lines
 
 -- a character that is not at the start of a line
@@ -52,11 +52,3 @@ bare_look showing head n old new none is = subst (λ (dress : Option Dress). lin
 
     line : List ℕ
     line = own.0 ++ end_text showing.output.end
-
--- where the environment says no colours, a dress has no palette
-pub usual_palette : (dress : Option Dress) (own : Dress) → dress ≡ Some own → not (has_palette dress) ≡ true → own.palette ≡ None
-usual_palette dress own is plain = none own.palette (ap (λ (d : Option Dress). not (has_palette d)) (sym is) ∙ plain)
-  where
-    none : {A : Type 0} (palette : Option A) → not (is_some palette) ≡ true → palette ≡ None
-    none None plain = refl
-    none (Some x) plain = absurd (true≢false (sym plain))

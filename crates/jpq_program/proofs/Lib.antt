@@ -2,6 +2,7 @@
 -- Nodes: nodes that are written, one after the other.
 -- Shown: what was written of a document is what its paths show.
 -- Dressed: lines that are indented and escaped.
+-- Named: the colours that a text of the environment names.
 -- Cells: rows of tables, cell by cell.
 -- Commas: rows with commas are UTF-8.
 -- Arrays: what is shown of a document in one array, or for each path.
@@ -17,6 +18,7 @@
 mod Nodes
 mod Shown
 mod Dressed
+mod Named
 mod Cells
 mod Commas
 mod Arrays

@@ -1,6 +1,6 @@
 -- Nodes that are written, one after the other.
 use Rattle.jsonpath_lines.specs.Inside as lines
-use Rattle.jpq_program.proofs.Words.{◌≡◌, ◌||◌, ℕ, ◌+◌, Bool, nat_lt, is_after, true, false, List, [], ◌∷◌, ◌++◌, Option, None, length, length-append, refl, sym, ap, subst, ◌∙◌, append_assoc, append-nil, arith, common_steps, nat_tests, string_bytes, Appends, Appends-trans, Bor, Some, Located, ArePieces, IsPiece, Look, look_of, up_to, is_reached, IsWithin, reached, within_further, all_below, AreEnough, take-append-le, Adds, AppendsBeginning, BeginsFirst, BeginsNodes, IfSome, TookFirst, ◌≤◌, WritesNodes, WritesNode, KeepsRest, TookNodes, FilledNodes, Showing, Written, shows_nodes, suc, ◌<◌, get_or, map, take, drop, map-append, map_push, take_more, take-append-drop, drop-cons}
+use Rattle.jpq_program.proofs.Words.{◌≡◌, ◌||◌, ℕ, ◌+◌, Bool, nat_lt, is_after, true, false, List, [], ◌∷◌, ◌++◌, Option, None, length, length-append, refl, sym, ap, subst, ◌∙◌, append_assoc, append-nil, arith, common_steps, nat_tests, string_bytes, Appends, Appends-trans, Bor, Some, Located, ArePieces, IsPiece, Look, look_of, up_to, is_reached, IsWithin, reached, within_further, all_below, AreEnough, take-append-le, Adds, AppendsBeginning, BeginsFirst, BeginsNodes, IfSome, TookFirst, ◌≤◌, WritesNodes, WritesNode, KeepsRest, TookNodes, FilledNodes, Showing, Written, has_nodes, suc, ◌<◌, get_or, map, take, drop, map-append, map_push, take_more, take-append-drop, drop-cons}
 
 -- ---- what goes out
 
@@ -92,8 +92,8 @@ keeps_both before old now first second = record {
   total = second.total ∙ first.total;
 }
 
-still_shown : {W E : Type 0} (before old : Written W E) → KeepsRest before old → shows_nodes before.showing.now ≡ true → shows_nodes old.showing.now ≡ true
-still_shown before old rest plain = subst (λ (s : Bor Showing). shows_nodes s.now ≡ true) (sym rest.showing) plain
+still_shown : {W E : Type 0} (before old : Written W E) → KeepsRest before old → has_nodes before.showing.now.output.form ≡ true → has_nodes old.showing.now.output.form ≡ true
+still_shown before old rest has = subst (λ (s : Bor Showing). has_nodes s.now.output.form ≡ true) (sym rest.showing) has
 
 -- after so many nodes there is one before, or there was
 after_nodes : {W E : Type 0} (before old : Written W E) (count : ℕ) → KeepsRest before old → old.count ≡ before.count + count → is_after old ≡ (is_after before || nat_lt 0 count)
@@ -111,9 +111,9 @@ nodes_since before old count nodes text rest many are = subst (λ (later : Bool)
 
 pub writes_both : {W E : Type 0} (contents : W → Option (List ℕ)) (ns ms : List Located) (before old now : Written W E) → KeepsRest before old → old.count ≡ before.count + length ns
     → WritesNodes contents ns before old → WritesNodes contents ms old now → WritesNodes contents (ns ++ ms) before now
-writes_both contents ns ms before old now rest many first second plain =
-    let one = first plain in
-    let two = second (still_shown before old rest plain) in (
+writes_both contents ns ms before old now rest many first second has =
+    let one = first has in
+    let two = second (still_shown before old rest has) in (
       one.0 ++ two.0,
       pieces_both (look_of before.showing.now) (is_after before) before.head.now ns ms one.0 two.0 one.1 (nodes_since before old (length ns) ms two.0 rest many two.1),
       adds_both (contents before.streams.now.out) (contents old.streams.now.out) (contents now.streams.now.out) (string_bytes before.streams.now.pending) (string_bytes old.streams.now.pending) (string_bytes now.streams.now.pending) one.0 two.0 one.2 two.2,
@@ -126,7 +126,7 @@ took_none contents w stop more = record {
   stop = stop;
   count = plus_zero w.count;
   more = more;
-  written = λ plain. ([], refl, adds_nothing (contents w.streams.now.out) (string_bytes w.streams.now.pending));
+  written = λ has. ([], refl, adds_nothing (contents w.streams.now.out) (string_bytes w.streams.now.pending));
 }
 
 -- another is written
@@ -238,8 +238,8 @@ begins_nothing contents w = record {
 pub took_begun : {W E : Type 0} (contents : W → Option (List ℕ)) (before now : Written W E) (nodes : List Located) → TookNodes contents before nodes now → BeginsNodes contents nodes before now
 took_begun contents before now nodes took = record {
   rest = took.rest;
-  written = λ plain.
-      let written = took.written plain in
+  written = λ has.
+      let written = took.written has in
       (written.0, written.1, adds_begun (contents before.streams.now.out) (contents now.streams.now.out) (string_bytes before.streams.now.pending) (string_bytes now.streams.now.pending) written.0 written.2);
 }
 
@@ -247,9 +247,9 @@ took_begun contents before now nodes took = record {
 begins_further : {W E : Type 0} (contents : W → Option (List ℕ)) (before old now : Written W E) (nodes more : List Located) → TookNodes contents before nodes old → BeginsNodes contents more old now → BeginsNodes contents (nodes ++ more) before now
 begins_further contents before old now nodes more took begins = record {
   rest = keeps_both before old now took.rest begins.rest;
-  written = λ plain.
-      let one = took.written plain in
-      let two = begins.written (still_shown before old took.rest plain) in (
+  written = λ has.
+      let one = took.written has in
+      let two = begins.written (still_shown before old took.rest has) in (
         one.0 ++ two.0,
         pieces_both (look_of before.showing.now) (is_after before) before.head.now nodes more one.0 two.0 one.1 (nodes_since before old (length nodes) more two.0 took.rest took.count two.1),
         begun_after (contents before.streams.now.out) (contents old.streams.now.out) (contents now.streams.now.out) (string_bytes before.streams.now.pending) (string_bytes old.streams.now.pending) one.0 two.0 one.2 two.2,

@@ -1,5 +1,5 @@
 -- Runs that show nothing, and answer whether there is a node.
-use Rattle.jpq_program.proofs.Words.{◌&&◌, AreAllInPart, AreInputsFor, header_cells, header_for, path_texts, total_for, if◌then◌else◌, ◌≡◌, ◌∙◌, ◌≤◌, ◌⊎◌, ◌+◌, ◌++◌, ◌∷◌, ℕ, Bool, true, false, List, [], Option, Result, Ok, Err, inl, inr, refl, sym, ap, subst, append-nil, arith, common_steps, nat_lt, nat_tests, true≢false, Appends, AppendsBeginning, AnswersRun, AreAnswersInPart, AreEach, AreLines, AreLinesIn, ArePieces, Enough, Ends, Form, Found, FunctionSet, IsAnsweredInPart, IsAnswerInPart, IsArrayOf, IsFound, IsInputShown, IsLineShown, IsNamedShown, IsQuietRun, IsRowInPart, IsShownFor, IsShownInPart, IsShownInPartFor, IsUntil, JsonPath, Located, Look, MatchBool, More, Next, Nothing, OptionShown, Options, Outcome, Output, Shown, Stop, Streams, builtin_functions, cells_for, chosen, decimal, end_text, form_in, has_enough, has_nodes, head_for, is_array, is_blank, is_table, is_whole, length, lines_of, look_after, look_in, names_in, output_in, row_line, status_after, strip_last, without_mark}
+use Rattle.jpq_program.proofs.Words.{Colours, ◌&&◌, AreAllInPart, AreInputsFor, header_cells, header_for, path_texts, total_for, if◌then◌else◌, ◌≡◌, ◌∙◌, ◌≤◌, ◌⊎◌, ◌+◌, ◌++◌, ◌∷◌, ℕ, Bool, true, false, List, [], Option, Result, Ok, Err, inl, inr, refl, sym, ap, subst, append-nil, arith, common_steps, nat_lt, nat_tests, true≢false, Appends, AppendsBeginning, AnswersRun, AreAnswersInPart, AreEach, AreLines, AreLinesIn, ArePieces, Enough, Ends, Form, Found, FunctionSet, IsAnsweredInPart, IsAnswerInPart, IsArrayOf, IsFound, IsInputShown, IsLineShown, IsNamedShown, IsQuietRun, IsRowInPart, IsShownFor, IsShownInPart, IsShownInPartFor, IsUntil, JsonPath, Located, Look, MatchBool, More, Next, Nothing, OptionShown, Options, Outcome, Output, Shown, Stop, Streams, builtin_functions, cells_for, chosen, decimal, end_text, form_in, has_enough, has_nodes, head_for, is_array, is_blank, is_table, is_whole, length, lines_of, look_after, look_in, names_in, output_in, row_line, status_after, strip_last, without_mark}
 use Rattle.jpq_program.proofs.Nodes.{appends_nothing}
 use Rattle.jpq_program.specs.Run.{has_line_numbers, has_names}
 
@@ -48,16 +48,16 @@ input_empty Is empty true name bytes before text count are = each_empty (λ numb
 input_empty Is empty false name bytes before text count is = empty name 1 (without_mark bytes) before text count is
 
 -- nothing is shown of the inputs of such a run
-inputs_text : (options : Options) (taken : Bool) (paths : List JsonPath) (bytes_of : List ℕ → Option (List ℕ)) (text : List ℕ) (count : ℕ) → IsQuietRun options → AreInputsFor options (IsShownInPartFor options taken paths) bytes_of text count → text ≡ []
-inputs_text options taken paths bytes_of text count quiet are =
-    let Is = IsUntil options.most_of_all (IsShownInPartFor options taken paths) in
+inputs_text : (options : Options) (colours : Colours) (paths : List JsonPath) (bytes_of : List ℕ → Option (List ℕ)) (text : List ℕ) (count : ℕ) → IsQuietRun options → AreInputsFor options (IsShownInPartFor options colours paths) bytes_of text count → text ≡ []
+inputs_text options colours paths bytes_of text count quiet are =
+    let Is = IsUntil options.most_of_all (IsShownInPartFor options colours paths) in
     each_empty (λ number so_far name. IsNamedShown Is options.lines bytes_of name so_far)
-    (λ number so_far name text count shown. input_empty Is (until_empty options.most_of_all (IsShownInPartFor options taken paths) document_empty) options.lines name shown.0 so_far text count shown.2) 1 0 (names_in options) text count are
+    (λ number so_far name text count shown. input_empty Is (until_empty options.most_of_all (IsShownInPartFor options colours paths) document_empty) options.lines name shown.0 so_far text count shown.2) 1 0 (names_in options) text count are
   where
-    document_empty : HasNoText (IsShownInPartFor options taken paths)
+    document_empty : HasNoText (IsShownInPartFor options colours paths)
     document_empty name line bytes before text count shown =
         let head = head_for options (length paths) name line in
-        let look = look_in options taken in
+        let look = look_in options colours in
         let each = AreAnswersInPart builtin_functions paths look head bytes before in
         let all = subst (λ (table : Bool). MatchBool table (IsRowInPart builtin_functions paths (row_line options.shown options.end) (cells_for options name line) bytes text count) (IsShownInPart builtin_functions paths look head bytes before text count)) (ap is_table quiet.shown) shown in
         let are = subst (λ (array : Bool). MatchBool array (((text ≡ []) × (count ≡ 0)) ⊎ IsArrayOf (output_in options) each text count) (each text count)) (ap (λ (s : OptionShown). is_array (form_in s)) quiet.shown) all in
@@ -80,17 +80,17 @@ quiet_total options count quiet = ap (λ (b : Bool). if b then decimal count ++ 
 quiet_all : (options : Options) (texts : List (List ℕ)) (own : List ℕ) (count : ℕ) → IsQuietRun options → header_for options texts ++ (own ++ total_for options count) ≡ own
 quiet_all options texts own count quiet = ap (λ (first : List ℕ). first ++ (own ++ total_for options count)) (quiet_header options texts quiet) ∙ ap (λ (last : List ℕ). own ++ last) (quiet_total options count quiet) ∙ append-nil own
 
-quiet_text : (options : Options) (taken : Bool) (paths : List JsonPath) (bytes_of : List ℕ → Option (List ℕ)) (text : List ℕ) (count : ℕ) → IsQuietRun options → AreAllInPart options taken paths bytes_of text count → text ≡ []
-quiet_text options taken paths bytes_of text count quiet are =
-    are.2 ∙ quiet_all options (path_texts bytes_of options) are.0 count quiet ∙ inputs_text options taken paths bytes_of are.0 count quiet are.1
+quiet_text : (options : Options) (colours : Colours) (paths : List JsonPath) (bytes_of : List ℕ → Option (List ℕ)) (text : List ℕ) (count : ℕ) → IsQuietRun options → AreAllInPart options colours paths bytes_of text count → text ≡ []
+quiet_text options colours paths bytes_of text count quiet are =
+    are.2 ∙ quiet_all options (path_texts bytes_of options) are.0 count quiet ∙ inputs_text options colours paths bytes_of are.0 count quiet are.1
 
 -- ---- what comes of such a run
 
 -- nothing goes out
-pub quiet_out : {W : Type 0} (contents : W → Option (List ℕ)) (bytes_of : List ℕ → Option (List ℕ)) (options : Options) (taken : Bool) (before after : W) → IsQuietRun options → IsAnsweredInPart contents bytes_of options taken before after → Appends (contents before) (contents after) []
-quiet_out {W} contents bytes_of options taken before after quiet (inl same) = subst (λ (o : W). Appends (contents before) (contents o) []) (sym same) (appends_nothing (contents before))
-quiet_out contents bytes_of options taken before after quiet (inr shown) =
-    let begins = subst (AppendsBeginning (contents before) (contents after)) (quiet_text options taken shown.0 bytes_of shown.2 shown.3 quiet shown.4) shown.5 in
+pub quiet_out : {W : Type 0} (contents : W → Option (List ℕ)) (bytes_of : List ℕ → Option (List ℕ)) (options : Options) (colours : Colours) (before after : W) → IsQuietRun options → IsAnsweredInPart contents bytes_of options colours before after → Appends (contents before) (contents after) []
+quiet_out {W} contents bytes_of options colours before after quiet (inl same) = subst (λ (o : W). Appends (contents before) (contents o) []) (sym same) (appends_nothing (contents before))
+quiet_out contents bytes_of options colours before after quiet (inr shown) =
+    let begins = subst (AppendsBeginning (contents before) (contents after)) (quiet_text options colours shown.0 bytes_of shown.2 shown.3 quiet shown.4) shown.5 in
     subst (Appends (contents before) (contents after)) (first_of begins.0 begins.1 begins.2) begins.3
   where
     first_of : (xs ys : List ℕ) → [] ≡ xs ++ ys → xs ≡ []
@@ -119,23 +119,23 @@ quiet_whole form most Enough after none ends = refl
 quiet_whole form most Found after none ends = absurd (true≢false (sym ends.1 ∙ none))
 
 -- the status says whether there is a node
-pub quiet_found : {W E : Type 0} (contents : W → Option (List ℕ)) (bytes_of : List ℕ → Option (List ℕ)) (options : Options) (taken : Bool) (next : Next) (before after : Streams W E) (status : ℕ) → IsQuietRun options
+pub quiet_found : {W E : Type 0} (contents : W → Option (List ℕ)) (bytes_of : List ℕ → Option (List ℕ)) (options : Options) (colours : Colours) (next : Next) (before after : Streams W E) (status : ℕ) → IsQuietRun options
     → (status ≡ 0 → after.outcome.selected ≡ true) → (status ≡ 1 → (after.outcome.selected ≡ false) × (after.outcome.refused ≡ false))
-    → AnswersRun contents bytes_of options taken next before after → IsFound bytes_of options taken status
-quiet_found contents bytes_of options taken next before after status quiet found none run = record {
+    → AnswersRun contents bytes_of options colours next before after → IsFound bytes_of options colours status
+quiet_found contents bytes_of options colours next before after status quiet found none run = record {
   paths = run.paths;
   are = run.are;
   found = λ zero. (
     run.count,
     sym run.selected ∙ found zero,
-    subst (λ (text : List ℕ). AreInputsFor options (IsShownInPartFor options taken run.paths) bytes_of text run.count) (inputs_text options taken run.paths bytes_of run.part.0 run.count quiet run.part.1) run.part.1,
+    subst (λ (text : List ℕ). AreInputsFor options (IsShownInPartFor options colours run.paths) bytes_of text run.count) (inputs_text options colours run.paths bytes_of run.part.0 run.count quiet run.part.1) run.part.1,
   );
   none = λ one.
       let nothing = none one in
       let whole = run.whole nothing.1 (quiet_whole _ _ next after nothing.0 run.ends) in
-      let own : whole.0 ≡ [] = sym (whole.2 ∙ quiet_all options (path_texts bytes_of options) whole.0 run.count quiet) ∙ quiet_text options taken run.paths bytes_of run.text run.count quiet run.part in
-      subst (λ (text : List ℕ). AreInputsFor options (IsShownFor options taken run.paths) bytes_of text 0) own
-      (subst (λ c. AreInputsFor options (IsShownFor options taken run.paths) bytes_of whole.0 c) (no_count run.count (sym run.selected ∙ nothing.0)) whole.1);
+      let own : whole.0 ≡ [] = sym (whole.2 ∙ quiet_all options (path_texts bytes_of options) whole.0 run.count quiet) ∙ quiet_text options colours run.paths bytes_of run.text run.count quiet run.part in
+      subst (λ (text : List ℕ). AreInputsFor options (IsShownFor options colours run.paths) bytes_of text 0) own
+      (subst (λ c. AreInputsFor options (IsShownFor options colours run.paths) bytes_of whole.0 c) (no_count run.count (sym run.selected ∙ nothing.0)) whole.1);
 }
   where
     no_count : (count : ℕ) → nat_lt 0 count ≡ false → count ≡ 0

@@ -1,5 +1,5 @@
 -- What is shown of what was read of a document is what is shown of the document.
-use Rattle.jpq_program.proofs.Words.{◌≡◌, ◌∙◌, ◌<◌, ℕ, Bool, true, false, List, [], ◌∷◌, ◌++◌, Option, None, Some, length, map, refl, sym, ap, subst, inl, inr, suc, get_or, AreShownAs, AskedPath, Documents, IsPlain, Data, Form, Count, Nothing, Location, Pointer, IsIn, IsLine, IsLook, ArePieces, IsObject, IsPiece, IsSeenIn, Json, is_array, Look, AreLines, AreShown, IsCountIn, MatchBool, escaped, has_escapes, indented, look_of, with_most, asked_look, cell_look, is_table, IsReadIn, JsonPath, Located, Output, AreLinesIn, Query, ShowsAs, Step, chosen, first_places, first_places_after, is_among, map-append, path_tree, shows_places, take-map, up_to, with_rule_of, length-map, arith, Layout, IsText, normal, pointer, has_nodes, decimal, end_text, take, zero, if◌then◌else◌}
+use Rattle.jpq_program.proofs.Words.{◌≡◌, ◌∙◌, ◌<◌, ℕ, Bool, true, false, List, [], ◌∷◌, ◌++◌, Option, None, Some, length, map, refl, sym, ap, subst, inl, inr, suc, get_or, AreShownAs, AskedPath, Documents, ReadsForPaths, Data, Form, Count, Nothing, Location, Pointer, IsIn, IsLine, IsLook, ArePieces, IsObject, IsPiece, IsSeenIn, Json, is_array, Look, AreLines, AreShown, IsCountIn, MatchBool, escaped, has_escapes, indented, look_of, with_most, asked_look, cell_look, is_table, IsReadIn, JsonPath, Located, Output, AreLinesIn, Query, ShowsAs, Step, chosen, first_places, first_places_after, is_among, map-append, path_tree, shows_places, take-map, up_to, with_rule_of, length-map, arith, Layout, IsText, normal, pointer, has_nodes, decimal, end_text, take, zero, if◌then◌else◌}
 
 abbrev places_of : List Located → List (List Step)
 places_of nodes = map (λ node. node.location) nodes
@@ -80,7 +80,7 @@ same_piece look later head n m text has shows same is =
       own.0,
       own.1,
       same_line look.output [] n m own.0 has shows same own.2,
-      subst (λ (escapes : Bool). IsSeenIn look.colored (if escapes then escaped look.ascii (indented look.unit own.0) else own.0) own.1) (same_escapes look.output.form n.value m.value has shows) own.3,
+      subst (λ (escapes : Bool). IsSeenIn look.colours (if escapes then escaped look.ascii (indented look.unit own.0) else own.0) own.1) (same_escapes look.output.form n.value m.value has shows) own.3,
       own.4,
     )
 
@@ -160,10 +160,10 @@ item_in f (y ∷ ys) zero x within is = inl (ap f is)
 item_in f (y ∷ ys) (suc i) x within is = inr (item_in f ys i x (omega (arith, within)) is)
 
 -- what was read of a document can be asked for the paths
-pub are_shown_as : (documents : Documents) (bytes : List ℕ) (value : Data) → IsPlain documents
+pub are_shown_as : (documents : Documents) (bytes : List ℕ) (value : Data) → ReadsForPaths documents
     → IsReadIn (shows_places documents.answering.showing.output.form) bytes (map (λ (path : AskedPath). path_tree path.path) documents.answering.paths.now) value
     → AreShownAs (asked_look documents.answering) bytes value documents.answering.paths.now
-are_shown_as documents bytes value plain read = λ i path within is.
+are_shown_as documents bytes value reads read = λ i path within is.
     let asked = item_in (λ (path : AskedPath). path_tree path.path) documents.answering.paths.now i path within is in
     by_case path.path asked (is_table documents.answering.shown) refl
   where
@@ -171,5 +171,5 @@ are_shown_as documents bytes value plain read = λ i path within is.
     queries = map (λ (path : AskedPath). path_tree path.path) documents.answering.paths.now
 
     by_case : (path : JsonPath) → IsIn (path_tree path) queries → (table : Bool) → is_table documents.answering.shown ≡ table → ShowsAs (if table then cell_look else look_of documents.answering.showing) bytes value path
-    by_case path asked true is = shows_as_read cell_look bytes queries value path asked (subst (λ (places : Bool). IsReadIn places bytes queries value) (plain.places is) read)
+    by_case path asked true is = shows_as_read cell_look bytes queries value path asked (subst (λ (places : Bool). IsReadIn places bytes queries value) (reads.places is) read)
     by_case path asked false is = shows_as_read (look_of documents.answering.showing) bytes queries value path asked read

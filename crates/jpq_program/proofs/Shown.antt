@@ -1,5 +1,5 @@
 -- What was written of a document is what its paths show.
-use Rattle.jpq_program.proofs.Words.{◌≡◌, ◌∙◌, ◌||◌, ℕ, Bool, true, false, List, Option, None, length, nat_lt, refl, sym, ap, subst, inl, inr, arith, common_steps, nat_tests, string_bytes, Located, Data, JsonPath, Selects, builtin_functions, path_tree, with_rule_of, AreLines, AreShown, ArePieces, Look, Form, Count, Nothing, chosen, once, up_to, Adds, Answered, FilledNodes, KeepsRest, IsAnswer, IsAnswerInPart, IsAnswerOn, IsAsked, AnswersPath, AppendsBeginning, AreSelected, Begins, BeginsFirst, IfSome, OnlyRefuses, Some, TookFirst, drop, map-append, take-append-drop, take-append-le, true≢false, IsCountIn, AreEach, Counts, OnlyNotes, OnlyWrites, Output, Writes, IfErr, IfOk, Ok, Err, OnOk, Result, Outcome, ShowsAs, Showing, Streams, String, Global, Written, has_counts, has_nodes, is_after, is_plain, shows_nodes, look_of, with_most, MatchBool, [], ◌∷◌, ◌++◌, ◌&&◌, ◌+◌, suc, append-nil, append_assoc, get_or, length-map, length-take-le, map, take, take_all, ◌<◌, ◌≤◌, IfWhole, IsAside, Next, Sends, is_whole}
+use Rattle.jpq_program.proofs.Words.{◌≡◌, ◌∙◌, ◌||◌, ℕ, Bool, true, false, List, Option, None, length, nat_lt, refl, sym, ap, subst, inl, inr, arith, common_steps, nat_tests, string_bytes, Located, Data, JsonPath, Selects, builtin_functions, path_tree, with_rule_of, AreLines, AreShown, ArePieces, Look, Form, Count, Nothing, chosen, once, Adds, Answered, FilledNodes, KeepsRest, IsAnswer, IsAnswerInPart, IsAnswerOn, IsAsked, AnswersPath, AppendsBeginning, AreSelected, Begins, BeginsFirst, IfSome, OnlyRefuses, Some, TookFirst, drop, map-append, take-append-drop, take-append-le, true≢false, IsCountIn, AreEach, Counts, OnlyNotes, OnlyWrites, Output, Writes, IfErr, IfOk, Ok, Err, OnOk, Result, Outcome, ShowsAs, Streams, String, Global, Written, has_counts, has_nodes, is_after, has_nodes, look_of, with_most, MatchBool, [], ◌∷◌, ◌++◌, ◌+◌, suc, append-nil, append_assoc, get_or, length-map, length-take-le, map, take, take_all, ◌<◌, ◌≤◌, IfWhole, IsAside, Next, Sends, is_whole}
 use Rattle.jpq_program.proofs.Nodes.{adds_begun, adds_both, adds_nothing, appends_nothing, begun_after, further_mapped, none_begun, plus_zero, split_mapped, took_few, zero_plus}
 
 -- nodes are shown each, and others by what their form shows, unless that is summed up
@@ -13,9 +13,6 @@ by_form look later head nodes text counts are = subst (λ (has : Bool). MatchBoo
     no_nodes Count counts = refl
     no_nodes Nothing counts = refl
     no_nodes _ counts = absurd cc
-
-second : (a b : Bool) → (a && b) ≡ true → b ≡ true
-second a b h = grind (arith, nat_tests, common_steps)
 
 pub or_false : (b : Bool) → b ≡ (b || false)
 or_false b = grind (arith, nat_tests, common_steps)
@@ -63,18 +60,17 @@ pieces_of_most look most later head (n ∷ ns) text are = (are.0, are.1, are.2, 
 pub path_answered : {W E : Type 0} {silent : Bool} (contents : W → Option (List ℕ)) (path : JsonPath) (bytes : List ℕ) (value asked : Data) (before after : Written W E) (kept : Streams W E) (nodes : List Located)
     → before.count ≡ 0 → after.stop ≡ None → ShowsAs (look_of before.showing.now) bytes value path → IsAsked bytes value asked
     → Selects (with_rule_of path builtin_functions) (path_tree path) asked nodes → FilledNodes contents before (once before.showing.now.output.unique nodes) after
-    → shows_nodes before.showing.now ≡ true
+    → has_nodes before.showing.now.output.form ≡ true
     → kept ≡ record after.streams.now {
       outcome = record after.streams.now.outcome { selected = after.streams.now.outcome.selected || nat_lt 0 after.count };
       total = after.streams.now.total + after.count;
     }
     → AnswersPath silent contents path (with_most (look_of before.showing.now) before.limit) before.is_later before.head.now bytes before.streams.now kept
-path_answered {W} {E} contents path bytes value asked before after kept nodes none stopped shows of selects filled plain is =
+path_answered {W} {E} contents path bytes value asked before after kept nodes none stopped shows of selects filled has is =
     let look = look_of before.showing.now in
     let up = with_most look before.limit in
     let shown = chosen up.output nodes in
-    let has = second (is_plain before.showing.now) (has_nodes look.output.form) plain in
-    let lines = filled.written none stopped plain in
+    let lines = filled.written none stopped has in
     let each : ArePieces up before.is_later before.head.now shown lines.0 = pieces_of_most look before.limit before.is_later before.head.now shown lines.0 (from_none before look before.head.now shown lines.0 none lines.1) in
     let answer : IsAnswerOn builtin_functions path up before.is_later before.head.now bytes lines.0 after.count = shown_of_asked look bytes value asked path before.limit before.is_later before.head.now lines.0 after.count shows of
     (nodes, selects, each_in_look up before.is_later before.head.now nodes lines.0 has each, node_count up.output.form shown after.count has (filled.count none stopped)) in record {
@@ -124,18 +120,18 @@ first_many contents before after shown took none = many after.count before.count
 -- a query was refused: its first nodes were written
 pub path_refused : {W E : Type 0} {silent : Bool} (contents : W → Option (List ℕ)) (path : JsonPath) (bytes : List ℕ) (value asked : Data) (before after : Written W E) (final : Streams W E) (shown : List Located)
     → before.count ≡ 0 → ShowsAs (look_of before.showing.now) bytes value path → IsAsked bytes value asked
-    → AreSelected builtin_functions path before.showing.now.output.unique asked shown → TookFirst contents before shown after → shows_nodes before.showing.now ≡ true
+    → AreSelected builtin_functions path before.showing.now.output.unique asked shown → TookFirst contents before shown after → has_nodes before.showing.now.output.form ≡ true
     → final.out ≡ after.streams.now.out → string_bytes final.pending ≡ string_bytes after.streams.now.pending → final.outcome.selected ≡ (after.streams.now.outcome.selected || nat_lt 0 after.count) → final.outcome.refused ≡ true
     → final.total ≡ after.streams.now.total + after.count
     → AnswersPath silent contents path (with_most (look_of before.showing.now) before.limit) before.is_later before.head.now bytes before.streams.now final
-path_refused {W} {E} contents path bytes value asked before after final shown none shows of selected took plain out pending counted refused total =
+path_refused {W} {E} contents path bytes value asked before after final shown none shows of selected took has out pending counted refused total =
     let look = look_of before.showing.now in
-    let lines = took.took.written plain in
+    let lines = took.took.written has in
     let few = took_few contents before after took.first took.took none in record {
       text = lines.0;
       count = after.count;
       whole = λ right. absurd (true≢false (sym refused ∙ right));
-      part = part_of_first look before.limit before.is_later before.head.now bytes value asked path shown took.first took.others lines.0 after.count (second (is_plain before.showing.now) (has_nodes look.output.form) plain) (first_many contents before after shown took none) few shows of selected took.split
+      part = part_of_first look before.limit before.is_later before.head.now bytes value asked path shown took.first took.others lines.0 after.count has (first_many contents before after shown took none) few shows of selected took.split
           (from_none before look before.head.now took.first lines.0 none lines.1);
       writes = subst (λ (o : W). Adds (contents before.streams.now.out) (string_bytes before.streams.now.pending) (contents o) (string_bytes final.pending) lines.0) (sym out)
           (subst (λ (p : List ℕ). Adds (contents before.streams.now.out) (string_bytes before.streams.now.pending) (contents after.streams.now.out) p lines.0) (sym pending) lines.2);
@@ -147,14 +143,14 @@ path_refused {W} {E} contents path bytes value asked before after final shown no
 -- of the nodes of a path a beginning is out
 pub path_begun : {W E : Type 0} (contents : W → Option (List ℕ)) (path : JsonPath) (bytes : List ℕ) (value asked : Data) (before after : Written W E) (final : Streams W E) (shown : List Located)
     → before.count ≡ 0 → ShowsAs (look_of before.showing.now) bytes value path → IsAsked bytes value asked
-    → AreSelected builtin_functions path before.showing.now.output.unique asked shown → BeginsFirst contents before shown after → shows_nodes before.showing.now ≡ true → final.out ≡ after.streams.now.out
+    → AreSelected builtin_functions path before.showing.now.output.unique asked shown → BeginsFirst contents before shown after → has_nodes before.showing.now.output.form ≡ true → final.out ≡ after.streams.now.out
     → Begins contents (IsAnswerInPart builtin_functions path (with_most (look_of before.showing.now) before.limit) before.is_later before.head.now bytes) before.streams.now final
-path_begun {W} contents path bytes value asked before after final shown none shows of selected begins plain out =
+path_begun {W} contents path bytes value asked before after final shown none shows of selected begins has out =
     let look = look_of before.showing.now in
-    let lines = begins.begins.written plain in (
+    let lines = begins.begins.written has in (
       lines.0,
       length begins.first,
-      part_of_first look before.limit before.is_later before.head.now bytes value asked path shown begins.first begins.others lines.0 (length begins.first) (second (is_plain before.showing.now) (has_nodes look.output.form) plain) refl (begins.few none) shows of selected begins.split
+      part_of_first look before.limit before.is_later before.head.now bytes value asked path shown begins.first begins.others lines.0 (length begins.first) has refl (begins.few none) shows of selected begins.split
           (from_none before look before.head.now begins.first lines.0 none lines.1),
       subst (λ (o : W). AppendsBeginning (contents before.streams.now.out) (contents o) (string_bytes before.streams.now.pending ++ lines.0)) (sym out) lines.2,
     )
@@ -560,13 +556,6 @@ answered_refused {W} {E} {silent = silent} contents Is IsPart Other before old n
 pub answered_noted : {W E : Type 0} {silent : Bool} (contents : W → Option (List ℕ)) (Is IsPart : List ℕ → ℕ → Type 0) (before old now : Streams W E) → Answered silent contents Is IsPart before old → OnlyNotes old now → (silent ≡ true → now.outcome.refused ≡ false → now.err ≡ old.err) → Answered silent contents Is IsPart before now
 answered_noted {W} {E} contents Is IsPart before old now answered kept err = answered_still contents Is IsPart before old now answered (ap (λ (s : Streams W E). s.out) kept) (ap (λ (s : Streams W E). s.pending) kept)
     (ap (λ (s : Streams W E). s.outcome.selected) kept) (λ right. sym (ap (λ (s : Streams W E). s.outcome.refused) kept) ∙ right) (ap (λ (s : Streams W E). s.total) kept) err
-
--- nodes that are not counted, in an answer that is plain, are shown each
-pub plain_nodes : (showing : Showing) → (shows_nodes showing || has_counts showing.output.form) ≡ true → has_counts showing.output.form ≡ false → shows_nodes showing ≡ true
-plain_nodes showing plain none = first_of (shows_nodes showing) (has_counts showing.output.form) plain none
-  where
-    first_of : (b c : Bool) → (b || c) ≡ true → c ≡ false → b ≡ true
-    first_of b c h none = grind (arith, nat_tests, common_steps)
 
 -- two facts of a call that went well
 pub if_both : {A E : Type 0} (r : Result A E) (P Q R : Type 0) → OnOk r P → OnOk r Q → (P → Q → R) → OnOk r R

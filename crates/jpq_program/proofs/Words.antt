@@ -2,6 +2,8 @@
 pub use Rattle.jpq_program.specs.Answers.{AreAnswersInPart, AreAnswersOn, AreEach, AreShown, IsAnswer, IsAnswerInPart, IsAnswerOn, IsArrayInPart, IsArrayOf, IsShownInPart, IsShownOn, array_end, array_text, has_nodes, look_after, with_most}
 pub use Rattle.jpq_program.specs.Rows.{AreCells, IsCell, IsCellInPart, IsCellOf, IsCellOn, IsRowInPart, IsRowOn, cell_text, comma_rows, first_cells, header_cells, in_cell, row_line, row_text}
 pub use Rattle.jpq_program.specs.Looks.{ArePieces, IsLook, IsObject, IsPiece, IsSeenIn, Look, dressed, escaped, further_in, has_escapes, in_ascii, indented, is_array, led_by, member_json, object_text, unit_escape}
+pub use Rattle.jpq_program.specs.Colours.{colours_for, field_at, fields_in, is_in_fields, names_colours, parameters_in}
+pub use Rattle.jsonpath_lines.specs.Coloured.{IsColoured, parameters_of, usual}
 pub use Rattle.jpq_program.specs.declared.colours.Colours.{Colours}
 pub use Rattle.jpq_program.specs.declared.dress.Dress.{Dress}
 pub use Rattle.jpq_program.specs.declared.dress.Place.{Place}
@@ -9,7 +11,7 @@ pub use Rattle.jpq_program.specs.declared.dress.Place.TheVariants.{AfterSpace, S
 pub use Rattle.jpq_program.specs.Heads.{head_in, head_text}
 pub use Rattle.jpq_program.specs.Inputs.{AreInputsShown, AreKnown, Opens, OpensFirst, IsInputShown, IsLineShown, IsNamedShown, IsUntil, Shown, has_enough, lines_of, is_blank, with_byte, without_mark}
 pub use Rattle.jpq_program.specs.declared.asked_path.AskedPath.{AskedPath}
-pub use Rattle.jpq_program.specs.Inside.{Adds, AreAskedBy, IsAskedBy, AnswersAs, AreBetween, IsAside, SendsAll, SendsWanted, header_by, texts_asked, total_by, wanted_by, wanted_in_part_by, Answered, AnswersBy, AnswersEach, AnswersPath, AnswersAll, AnswersRow, AreSelected, AreShownAs, Begins, BeginsFirst, BeginsNodes, OnlyPends, OnlyRefuses, PendsNode, SendsBy, SendsFor, SendsInput, SendsInputs, SendsLine, TookFirst, shown_in_part_by, Counts, FilledNodes, Finds, IsAsked, IsFirstOf, asked_look, cell_look, each_by, each_in_part_by, paths_in, row_by, row_in_part_by, IsFailure, IsPlain, IsReadIn, KeepsRest, OnlyNotes, OnlyTells, OnlyWrites, Reads, ReadsFurther, Sends, ShowsAs, Tells, TookNodes, Writes, WritesNode, WritesNodes, all_by, all_in_part_by, is_after, has_counts, has_palette, head_by, heads_in, left_from, look_of, look_with, unit_by, is_plain, is_plain_answer, shown_by, shows_nodes, shows_places, status_after, status_of, told_after, AnswersRun, Ends, IfWhole, IsKnownRun, SendsDocument, SendsUntil, is_done, is_quiet, is_whole}
+pub use Rattle.jpq_program.specs.Inside.{Adds, AreAskedBy, IsAskedBy, AnswersAs, AreBetween, IsAside, SendsAll, SendsWanted, header_by, texts_asked, total_by, wanted_by, wanted_in_part_by, Answered, AnswersBy, AnswersEach, AnswersPath, AnswersAll, AnswersRow, AreSelected, AreShownAs, Begins, BeginsFirst, BeginsNodes, OnlyPends, OnlyRefuses, PendsNode, SendsBy, SendsFor, SendsInput, SendsInputs, SendsLine, TookFirst, shown_in_part_by, Counts, FilledNodes, Finds, IsAsked, IsFirstOf, asked_look, cell_look, each_by, each_in_part_by, paths_in, row_by, row_in_part_by, IsFailure, IsReadIn, ReadsForPaths, KeepsRest, OnlyNotes, OnlyTells, OnlyWrites, Reads, ReadsFurther, Sends, ShowsAs, Tells, TookNodes, Writes, WritesNode, WritesNodes, all_by, all_in_part_by, is_after, has_counts, head_by, heads_in, left_from, look_of, colours_by, look_with, unit_by, shown_by, shows_places, status_after, status_of, told_after, AnswersRun, Ends, IfWhole, SendsDocument, SendsUntil, is_done, is_quiet, is_whole}
 pub use Rattle.jpq_program.specs.Run.{AreAllInPart, AreAllShown, AreInputsFor, ArePaths, IsBetween, header_for, total_for, IsCheckRun, IsChecked, canonical_lines, ComesOf, IsAnswered, IsAnsweredInPart, IsCheckedInPart, IsShownInPartFor, IsPathOf, OpensInOrder, IsPlainRun, IsPrinted, IsShownFor, IsStatusOf, LacksMemory, cells_for, form_in, has_text, head_for, is_each, known_bytes, look_in, looked_at_in, names_in, opened_in, output_in, path_files_in, path_texts, rule_in, texts_in_file, unit_in, IsFound, IsQuietRun, IsUsualRun, TellsNothing}
 pub use Rattle.jpq_options.specs.Options.{is_table}
 pub use Rattle.jpq_options.specs.Paths.{path_lines}
@@ -59,7 +61,9 @@ pub use Rattle.serde_json_path_syntax.proofs.Words.{Bor}
 pub use Rattle.std.proofs.Common.{drop-cons, get_or, inl, inr, rules, suc, zero, take-append-drop, ◌<◌, ◌⊎◌}
 pub use Rattle.std.specs.Io.KnownBytes.{Appends}
 pub use Rattle.std.specs.Io.BufRead.{drop_through, strip_last, take_through}
-pub use Rattle.std.specs.List.{AllZip, flat_map, take-map}
+pub use Rattle.std.specs.List.{AllZip, flat_map, list_all, take-map}
+pub use Rattle.std.proofs.lemmas.Iterator.Consumers.{nth_from_yields_List}
+pub use Rattle.std.proofs.lemmas.Iterator.Splits.{YieldsList-from_str_split}
 pub use Rattle.std.proofs.lemmas.List.{append_cancel_right, get_or-map}
 pub use Rattle.std.proofs.lemmas.Grind.{flat_map-append}
 pub use Rattle.std.proofs.lemmas.Result.{IfErr-weaker}
@@ -77,4 +81,4 @@ pub use Rattle.serde_json_path_nodes.specs.Location.{Step}
 pub use Rattle.serde_json_path_nodes.specs.Lists.{first_places_after, is_among}
 pub use Rattle.serde_json_path_nodes.specs.Text.{normal, pointer}
 pub use Rattle.serde_json_path_functions.specs.Functions.{FunctionSet}
-pub use Rattle.std.specs.Prelude.{◌-◌, replicate, IfSome, MatchBool, MatchOption, drop, is_some, map, nat_eq, nat_lt, not, take, if◌then◌else◌, ◌&&◌, ◌==◌, ◌||◌}
+pub use Rattle.std.specs.Prelude.{◌-◌, option_map, replicate, slice_get, unwrap_or, IfSome, MatchBool, MatchOption, drop, is_some, map, nat_eq, nat_lt, not, take, if◌then◌else◌, ◌&&◌, ◌==◌, ◌||◌}

@@ -1,10 +1,11 @@
 -- What contracts of private functions cite alone.
-use Rattle.std.specs.Prelude.{◌≡◌, ◌+◌, ◌<◌, ◌≤◌, get_or, ◌⊎◌, Err, Ok, Result, codes, if◌then◌else◌, ℕ, Bool, true, false, not, ◌&&◌, ◌||◌, List, [], ◌∷◌, ◌++◌, map, MatchBool, Option, None, Some, String, IfSome, length, option_map, is_some, nat_lt, string_bytes}
+use Rattle.std.specs.Prelude.{◌≡◌, ◌+◌, ◌<◌, ◌≤◌, get_or, ◌⊎◌, Err, Ok, Result, codes, if◌then◌else◌, ℕ, Bool, true, false, not, ◌&&◌, ◌||◌, List, [], ◌∷◌, ◌++◌, map, MatchBool, Option, None, Some, String, IfSome, length, option_map, nat_lt, string_bytes}
 use Rattle.std.specs.Fmt.{decimal}
 use Rattle.std.specs.Io.KnownBytes.{Appends}
 use Rattle.std.specs.List.{AllZip}
 use Rattle.std.specs.declared.alloc.Global.{Global}
 use Rattle.serde_json_path_nodes.specs.Location.{Located}
+use Rattle.jsonpath_lines.specs.Coloured.{parameters_of}
 use Rattle.jsonpath_lines.specs.Inside.{is_reached, once}
 use Rattle.jsonpath_lines.specs.Inside as lines
 use Rattle.jsonpath_lines.specs.Output.{AreLines, IsCount, IsText, compact_lines, end_text, up_to}
@@ -33,7 +34,7 @@ use Rattle.jsonpath_lines.specs.declared.forms.LineEnd.{LineEnd}
 use Rattle.jpq_program.specs.declared.rows.Separator.{Separator}
 use Rattle.jpq_program.specs.declared.rows.Separator.TheVariants.{Comma, Tab}
 use Rattle.jpq_program.specs.Rows.{comma_rows, header_cells, IsRowInPart, IsRowOn, first_cells, row_line, row_text}
-use Rattle.jpq_program.specs.Run.{AreAllInPart, AreAllShown, ArePaths, IsBetween, IsPathOf, IsPlainRun, IsQuietRun, form_in, has_line_numbers, has_names, has_numbers, path_texts, rule_in}
+use Rattle.jpq_program.specs.Run.{AreAllInPart, AreAllShown, ArePaths, IsBetween, IsPathOf, form_in, has_line_numbers, has_names, has_numbers, path_texts, rule_in}
 use Rattle.jpq_options.specs.declared.options.Options.{Options}
 use Rattle.jpq_options.specs.declared.options.Shown.{Shown as OptionShown}
 use Rattle.jpq_options.specs.declared.options.Shown.TheVariants.{Csv, Nodes, Tsv}
@@ -233,7 +234,7 @@ left_from unit Start cs = led_by unit true cs
 left_from unit AfterSpace cs = led_by unit true (32 ∷ cs)
 left_from unit Within cs = led_by unit false cs
 
--- by what a dress has a level indented, where that is not two spaces; whether it escapes, and whether it has colours
+-- by what a dress has a level indented, where that is not two spaces; whether it escapes, and the parameters of its colours
 abbrev pub unit_by : Option Dress → Option (List ℕ)
 unit_by None = None
 unit_by (Some dress) = option_map string_bytes dress.indent
@@ -242,9 +243,9 @@ abbrev pub is_ascii : Option Dress → Bool
 is_ascii None = false
 is_ascii (Some dress) = dress.ascii
 
-abbrev pub has_colours : Option Dress → Bool
-has_colours None = false
-has_colours (Some dress) = dress.colored
+abbrev pub colours_by : Option Dress → Option (List (List ℕ))
+colours_by None = None
+colours_by (Some dress) = option_map parameters_of dress.colours
 
 -- what is shown of nodes, and how: how many of all documents, whether counts are summed up, and how lines are dressed
 abbrev pub look_with : Output → Option ℕ → Bool → Option Dress → Look
@@ -254,23 +255,11 @@ look_with output most_of_all summed dress = record {
   summed = summed;
   unit = unit_by dress;
   ascii = is_ascii dress;
-  colored = has_colours dress;
+  colours = colours_by dress;
 }
 
 abbrev pub look_of : Showing → Look
 look_of showing = look_with showing.output showing.most_of_all showing.summed showing.dress
-
--- the environment says which colours lines have
-abbrev pub has_palette : Option Dress → Bool
-has_palette None = false
-has_palette (Some dress) = is_some dress.palette
-
--- lines have the usual colours, or none
-abbrev pub is_plain : Showing → Bool
-is_plain showing = not (has_palette showing.dress)
-
-abbrev pub shows_nodes : Showing → Bool
-shows_nodes showing = is_plain showing && has_nodes showing.output.form
 
 -- what stands between the cells of a row, where rows are shown
 abbrev pub separator_in : OptionShown → Option Separator
@@ -282,11 +271,6 @@ separator_in (Nodes form) = None
 abbrev pub separated : Separator → LineEnd → List (List ℕ) → List ℕ
 separated Tab end cells = row_text cells ++ end_text end
 separated Comma end cells = csv.row_text (comma_rows end) cells
-
--- the nodes are shown so, or counted for each path, or of each path the first in a row
-abbrev pub is_plain_answer : Answering → Bool
-is_plain_answer answering = is_table answering.shown
-    || (shows_nodes answering.showing || has_counts answering.showing.output.form)
 
 -- the text of the first node, in a cell
 abbrev pub IsFirstOf : List Located → Option (String Global) → Type 0
@@ -301,7 +285,7 @@ cell_look = record {
   summed = false;
   unit = None;
   ascii = false;
-  colored = false;
+  colours = None;
 }
 
 -- how the nodes are looked at that are asked for
@@ -452,37 +436,32 @@ shows_places _ = false
 abbrev pub IsReadIn : Bool → List ℕ → List Query → Data → Type 0
 IsReadIn places bytes queries value = MatchBool places (IsReadForPlaces bytes queries value) (IsReadFor bytes queries value)
 
--- answers are plain, and documents are read for the paths
-pub record IsPlain (documents : Documents) : Type 0 where
-  pub answer : is_plain_answer documents.answering ≡ true
+-- documents are read for the paths
+pub record ReadsForPaths (documents : Documents) : Type 0 where
   pub places : is_table documents.answering.shown ≡ true → shows_places documents.answering.showing.output.form ≡ false
   pub read : IfSome documents.reader (λ reader. Keeps reader (shows_places documents.answering.showing.output.form)
       (map (λ (path : AskedPath). path_tree path.path) documents.answering.paths.now))
 
 -- what options ask for was sent
-abbrev pub SendsFor : {W E : Type 0} → (W → Option (List ℕ)) → Options → Bool → Next → List JsonPath → (List ℕ → Option (List ℕ)) → Streams W E → Streams W E → Type 0
-SendsFor contents options taken next paths bytes_of before after = SendsUntil options.silent contents (form_in options.shown) options.most_of_all next
-    (AreAllShown options taken paths bytes_of) (AreAllInPart options taken paths bytes_of) before after
+abbrev pub SendsFor : {W E : Type 0} → (W → Option (List ℕ)) → Options → Colours → Next → List JsonPath → (List ℕ → Option (List ℕ)) → Streams W E → Streams W E → Type 0
+SendsFor contents options colours next paths bytes_of before after = SendsUntil options.silent contents (form_in options.shown) options.most_of_all next
+    (AreAllShown options colours paths bytes_of) (AreAllInPart options colours paths bytes_of) before after
 
 -- nothing is shown of nodes
 abbrev pub is_quiet : OptionShown → Bool
 is_quiet (Nodes Nothing) = true
 is_quiet _ = false
 
--- contracts say what comes of such a run
-abbrev pub IsKnownRun : Options → Colours → Type 0
-IsKnownRun options colours = IsPlainRun options colours ⊎ IsQuietRun options
-
 -- Such a run was answered, up to its end or not: what went out since it began, how many nodes are shown by that, and that nothing was
 -- told where that is so.
-pub record AnswersRun {W E : Type 0} (contents : W → Option (List ℕ)) (bytes_of : List ℕ → Option (List ℕ)) (options : Options) (taken : Bool) (next : Next) (before after : Streams W E) : Type 0 where
+pub record AnswersRun {W E : Type 0} (contents : W → Option (List ℕ)) (bytes_of : List ℕ → Option (List ℕ)) (options : Options) (colours : Colours) (next : Next) (before after : Streams W E) : Type 0 where
   pub paths : List JsonPath
   pub are : ArePaths (rule_in options) (path_texts bytes_of options) paths
   pub text : List ℕ
   pub count : ℕ
   pub ends : Ends (form_in options.shown) options.most_of_all next after
-  pub whole : after.outcome.refused ≡ false → is_whole next ≡ true → AreAllShown options taken paths bytes_of text count
-  pub part : AreAllInPart options taken paths bytes_of text count
+  pub whole : after.outcome.refused ≡ false → is_whole next ≡ true → AreAllShown options colours paths bytes_of text count
+  pub part : AreAllInPart options colours paths bytes_of text count
   pub out : Appends (contents before.out) (contents after.out) text
   pub selected : after.outcome.selected ≡ nat_lt 0 count
   pub told : options.silent ≡ true → after.outcome.refused ≡ false → after.err ≡ before.err
@@ -501,12 +480,12 @@ is_after written = written.is_later || nat_lt 0 written.count
 
 -- where nodes are shown, a node is added to what is pending
 abbrev pub PendsNode : {W E : Type 0} → Located → Written W E → Written W E → Type 0
-PendsNode n before after = shows_nodes before.showing.now ≡ true
+PendsNode n before after = has_nodes before.showing.now.output.form ≡ true
     → lines.Appends (IsPiece (look_of before.showing.now) (is_after before) before.head.now n) (string_bytes before.streams.now.pending) (string_bytes after.streams.now.pending)
 
 -- where nodes are shown, these went out or are pending
 abbrev pub WritesNodes : {W E : Type 0} → (W → Option (List ℕ)) → List Located → Written W E → Written W E → Type 0
-WritesNodes contents nodes before after = shows_nodes before.showing.now ≡ true
+WritesNodes contents nodes before after = has_nodes before.showing.now.output.form ≡ true
     → (text : List ℕ) × ArePieces (look_of before.showing.now) (is_after before) before.head.now nodes text
     × Writes contents before.streams.now after.streams.now text
 
@@ -546,7 +525,7 @@ pub record FilledNodes {W E : Type 0} (contents : W → Option (List ℕ)) (befo
 -- where nodes are shown, a beginning of what was pending and of these is out
 pub record BeginsNodes {W E : Type 0} (contents : W → Option (List ℕ)) (nodes : List Located) (before now : Written W E) : Type 0 where
   pub rest : KeepsRest before now
-  pub written : shows_nodes before.showing.now ≡ true → (text : List ℕ) × ArePieces (look_of before.showing.now) (is_after before) before.head.now nodes text
+  pub written : has_nodes before.showing.now.output.form ≡ true → (text : List ℕ) × ArePieces (look_of before.showing.now) (is_after before) before.head.now nodes text
       × AppendsBeginning (contents before.streams.now.out) (contents now.streams.now.out) (string_bytes before.streams.now.pending ++ text)
 
 -- the same of the first of these nodes, not more than the limit, where there was none before

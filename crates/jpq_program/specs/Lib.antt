@@ -1,6 +1,7 @@
 -- What contracts cite:
 -- Run: what comes of a run.
 -- Heads: what lines begin with.
+-- Colours: the colours of lines.
 -- Looks: how the line of a node looks.
 -- Answers: what is shown of a document.
 -- Rows: rows of tables.
@@ -8,6 +9,7 @@
 -- Inside: what contracts of private functions cite alone.
 pub mod Run
 pub mod Heads
+pub mod Colours
 pub mod Looks
 pub mod Answers
 pub mod Rows

@@ -19,14 +19,14 @@ use Rattle.jsonpath_lines.specs.declared.forms.Layout.TheVariants.{Compact, Pret
 use Rattle.jsonpath_lines.specs.declared.forms.Output.{Output}
 
 -- what is shown of nodes, and how: how many of all documents, whether counts are summed up, by what a level is indented where that is
--- not two spaces, whether characters above U+007F are escaped, and whether lines have colours
+-- not two spaces, whether characters above U+007F are escaped, and the parameters of the sequences of colours, where lines have these
 pub record Look : Type 0 where
   pub output : Output
   pub most_of_all : Option ℕ
   pub summed : Bool
   pub unit : Option (List ℕ)
   pub ascii : Bool
-  pub colored : Bool
+  pub colours : Option (List (List ℕ))
 
 -- ---- indentation
 
@@ -70,14 +70,15 @@ has_escapes form d = true
 abbrev pub dressed : Look → Data → List ℕ → List ℕ
 dressed look d line = if has_escapes look.output.form d then escaped look.ascii (indented look.unit line) else line
 
--- what is seen is the line, or the line with the sequences of colours before, between and after its bytes
-abbrev pub IsSeenIn : Bool → List ℕ → List ℕ → Type 0
-IsSeenIn colored line text = MatchBool colored (IsColoured line text) (text ≡ line)
+-- what is seen is the line, or the line with sequences of these parameters before, between and after its bytes
+abbrev pub IsSeenIn : Option (List (List ℕ)) → List ℕ → List ℕ → Type 0
+IsSeenIn None line text = text ≡ line
+IsSeenIn (Some parameters) line text = IsColoured parameters line text
 
 -- a node's line after a head, in this look
 abbrev pub IsLook : Look → List ℕ → Located → List ℕ → Type 0
 IsLook look head n text = (line seen : List ℕ) × IsLine look.output [] n line
-    × IsSeenIn look.colored (dressed look n.value line) seen × (text ≡ head ++ seen)
+    × IsSeenIn look.colours (dressed look n.value line) seen × (text ≡ head ++ seen)
 
 -- ---- a node in an array
 
@@ -117,7 +118,7 @@ object_text layout later members path json = (if later then codes "," else []) +
 -- a node's object in this look
 abbrev pub IsObject : Look → Bool → List ℕ → Located → List ℕ → Type 0
 IsObject look later members n text = (json : List ℕ) × IsJsonIn look.output.layout n.value json
-    × IsSeenIn look.colored (escaped look.ascii (indented look.unit (object_text look.output.layout later members
+    × IsSeenIn look.colours (escaped look.ascii (indented look.unit (object_text look.output.layout later members
     (compact_text (string (normal n.location))) (member_json look.output.layout json)))) text
 
 -- ---- some nodes

@@ -24,6 +24,7 @@ use Rattle.jpq_options.specs.declared.options.Request.TheVariants.{Run, Print, W
 use Rattle.jpq_options.specs.declared.options.Shown.{Shown}
 use Rattle.jpq_options.specs.declared.options.Shown.TheVariants.{Nodes}
 use Rattle.jpq_program.specs.Answers.{IsShownInPart, IsShownOn}
+use Rattle.jpq_program.specs.Colours.{colours_for}
 use Rattle.jpq_program.specs.Heads.{head_in}
 use Rattle.jpq_program.specs.Inputs.{AreInputsShown, AreKnown, IsUntil, Opens, OpensFirst, Shown as DocumentShown, without_mark}
 use Rattle.jpq_program.specs.Looks.{Look, is_array}
@@ -68,15 +69,15 @@ is_colored Always taken = true
 is_colored Never taken = false
 is_colored Auto taken = taken
 
--- how nodes are shown, where the output takes colours or not
-abbrev pub look_in : Options → Bool → Look
-look_in options taken = record {
+-- how nodes are shown, by what the environment says of colours
+abbrev pub look_in : Options → Colours → Look
+look_in options colours = record {
   output = output_in options;
   most_of_all = options.most_of_all;
   summed = options.total;
   unit = unit_in options;
   ascii = options.ascii;
-  colored = is_colored options.color taken;
+  colours = if is_colored options.color colours.taken then Some (colours_for colours) else None;
 }
 
 -- whether what is shown of a node begins with the name of the input, the number of the line, and the number of the path, for so many
@@ -101,16 +102,16 @@ abbrev pub cells_for : Options → List ℕ → ℕ → List (List ℕ)
 cells_for options = first_cells (has_names options) (has_line_numbers options)
 
 -- what is shown of a document for the paths
-abbrev pub IsShownFor : Options → Bool → List JsonPath → DocumentShown
-IsShownFor options taken paths name number bytes before text count = MatchBool (is_table options.shown)
+abbrev pub IsShownFor : Options → Colours → List JsonPath → DocumentShown
+IsShownFor options colours paths name number bytes before text count = MatchBool (is_table options.shown)
     (IsRowOn builtin_functions paths (row_line options.shown options.end) (cells_for options name number) bytes text count)
-    (IsShownOn builtin_functions paths (look_in options taken) (head_for options (length paths) name number) bytes before text count)
+    (IsShownOn builtin_functions paths (look_in options colours) (head_for options (length paths) name number) bytes before text count)
 
 -- the same where it, or the query of a path, may be refused
-abbrev pub IsShownInPartFor : Options → Bool → List JsonPath → DocumentShown
-IsShownInPartFor options taken paths name number bytes before text count = MatchBool (is_table options.shown)
+abbrev pub IsShownInPartFor : Options → Colours → List JsonPath → DocumentShown
+IsShownInPartFor options colours paths name number bytes before text count = MatchBool (is_table options.shown)
     (IsRowInPart builtin_functions paths (row_line options.shown options.end) (cells_for options name number) bytes text count)
-    (IsShownInPart builtin_functions paths (look_in options taken) (head_for options (length paths) name number) bytes before text count)
+    (IsShownInPart builtin_functions paths (look_in options colours) (head_for options (length paths) name number) bytes before text count)
 
 -- the row of a table that stands before all, where it is asked for, by the texts of the paths
 abbrev pub header_for : Options → List (List ℕ) → List ℕ
@@ -155,14 +156,14 @@ abbrev pub AreInputsFor : Options → DocumentShown → (List ℕ → Option (Li
 AreInputsFor options Is bytes_of = AreInputsShown (IsUntil options.most_of_all Is) options.lines bytes_of (names_in options) 0
 
 -- all that is shown for the paths: the first row of a table, what is shown of the inputs, and the sum of counts
-abbrev pub AreAllShown : Options → Bool → List JsonPath → (List ℕ → Option (List ℕ)) → List ℕ → ℕ → Type 0
-AreAllShown options taken paths bytes_of = IsBetween (header_for options (path_texts bytes_of options)) (total_for options)
-    (AreInputsFor options (IsShownFor options taken paths) bytes_of)
+abbrev pub AreAllShown : Options → Colours → List JsonPath → (List ℕ → Option (List ℕ)) → List ℕ → ℕ → Type 0
+AreAllShown options colours paths bytes_of = IsBetween (header_for options (path_texts bytes_of options)) (total_for options)
+    (AreInputsFor options (IsShownFor options colours paths) bytes_of)
 
 -- the same where documents, or the queries of paths, may be refused
-abbrev pub AreAllInPart : Options → Bool → List JsonPath → (List ℕ → Option (List ℕ)) → List ℕ → ℕ → Type 0
-AreAllInPart options taken paths bytes_of = IsBetween (header_for options (path_texts bytes_of options)) (total_for options)
-    (AreInputsFor options (IsShownInPartFor options taken paths) bytes_of)
+abbrev pub AreAllInPart : Options → Colours → List JsonPath → (List ℕ → Option (List ℕ)) → List ℕ → ℕ → Type 0
+AreAllInPart options colours paths bytes_of = IsBetween (header_for options (path_texts bytes_of options)) (total_for options)
+    (AreInputsFor options (IsShownInPartFor options colours paths) bytes_of)
 
 -- what a run opens: the files of paths, and then the inputs, unless paths are only checked
 abbrev pub opened_in : Options → List (List ℕ)
@@ -187,29 +188,28 @@ pub record IsUsualRun (options : Options) : Type 0 where
   pub bindings : options.bindings.items ≡ []
   pub check : options.check ≡ false
 
--- In such a run nodes are shown so, and where lines have colours the environment does not say which.
-pub record IsPlainRun (options : Options) (colours : Colours) : Type 0 where
+-- In such a run nodes are shown so.
+pub record IsPlainRun (options : Options) : Type 0 where
   pub usual : IsUsualRun options
   pub each : is_each options.shown ≡ true
-  pub palette : is_colored options.color colours.taken ≡ true → colours.palette ≡ None
 
 -- What comes of such a run in which nothing is refused and no writing fails, where the bytes of the inputs are known: what is shown of
 -- them for the paths went out, and nothing else, and the status says whether nodes are shown.
-pub record IsAnswered {W : Type 0} (contents : W → Option (List ℕ)) (bytes_of : List ℕ → Option (List ℕ)) (options : Options) (taken : Bool) (before after : W) (status : ℕ) : Type 0 where
+pub record IsAnswered {W : Type 0} (contents : W → Option (List ℕ)) (bytes_of : List ℕ → Option (List ℕ)) (options : Options) (colours : Colours) (before after : W) (status : ℕ) : Type 0 where
   pub paths : List JsonPath
   pub are : ArePaths (rule_in options) (path_texts bytes_of options) paths
   pub text : List ℕ
   pub count : ℕ
-  pub shown : AreAllShown options taken paths bytes_of text count
+  pub shown : AreAllShown options colours paths bytes_of text count
   pub out : Appends (contents before) (contents after) text
   pub ends : status ≡ (if nat_lt 0 count then 0 else 1)
 
 -- What is out after such a run, however it ended: nothing, where no path is asked, as where one is refused; else a beginning of what is
 -- shown of the inputs for the paths, without what was refused.
-abbrev pub IsAnsweredInPart : {W : Type 0} → (W → Option (List ℕ)) → (List ℕ → Option (List ℕ)) → Options → Bool → W → W → Type 0
-IsAnsweredInPart contents bytes_of options taken before after = (after ≡ before)
+abbrev pub IsAnsweredInPart : {W : Type 0} → (W → Option (List ℕ)) → (List ℕ → Option (List ℕ)) → Options → Colours → W → W → Type 0
+IsAnsweredInPart contents bytes_of options colours before after = (after ≡ before)
     ⊎ ((paths : List JsonPath) × ArePaths (rule_in options) (path_texts bytes_of options) paths
-    × (text : List ℕ) × (count : ℕ) × AreAllInPart options taken paths bytes_of text count
+    × (text : List ℕ) × (count : ℕ) × AreAllInPart options colours paths bytes_of text count
     × AppendsBeginning (contents before) (contents after) text)
 
 -- ---- whether there is a node
@@ -223,11 +223,11 @@ pub record IsQuietRun (options : Options) : Type 0 where
 -- What comes of such a run that answers 0 or 1, where the bytes of the inputs are known: with 0 a path selects a node of some document,
 -- and of others nothing is said; with 1 each document is read, no path selects a node of any, and nothing is refused. With `-n 0` no
 -- node counts, and with `-m 0` no document.
-pub record IsFound (bytes_of : List ℕ → Option (List ℕ)) (options : Options) (taken : Bool) (status : ℕ) : Type 0 where
+pub record IsFound (bytes_of : List ℕ → Option (List ℕ)) (options : Options) (colours : Colours) (status : ℕ) : Type 0 where
   pub paths : List JsonPath
   pub are : ArePaths (rule_in options) (path_texts bytes_of options) paths
-  pub found : status ≡ 0 → (count : ℕ) × (nat_lt 0 count ≡ true) × AreInputsFor options (IsShownInPartFor options taken paths) bytes_of [] count
-  pub none : status ≡ 1 → AreInputsFor options (IsShownFor options taken paths) bytes_of [] 0
+  pub found : status ≡ 0 → (count : ℕ) × (nat_lt 0 count ≡ true) × AreInputsFor options (IsShownInPartFor options colours paths) bytes_of [] count
+  pub none : status ≡ 1 → AreInputsFor options (IsShownFor options colours paths) bytes_of [] 0
 
 -- ---- paths that are only checked
 
@@ -280,12 +280,12 @@ ComesOf out err bytes_of opened colours (WrongUse kind text) inputs later before
     × AppendsBeginning (err before.err) (err after.err) (string_bytes text)
 ComesOf out err bytes_of opened colours (Print text) inputs later before after status = (later ≡ inputs) × IsPrinted out err (string_bytes text) before after status
 ComesOf out err bytes_of opened colours (Run options) inputs later before after status = IsStatusOf options status
-    × (IsPlainRun options colours → AreKnown bytes_of (path_files_in options) → AreKnown bytes_of (names_in options)
-    → (status ≤ 1 → IsAnswered out bytes_of options colours.taken before.out after.out status
+    × (IsPlainRun options → AreKnown bytes_of (path_files_in options) → AreKnown bytes_of (names_in options)
+    → (status ≤ 1 → IsAnswered out bytes_of options colours before.out after.out status
     × (options.most_of_all ≡ None → Opens (opened inputs) (opened later) (opened_in options)) × TellsNothing options before after)
-    × IsAnsweredInPart out bytes_of options colours.taken before.out after.out)
+    × IsAnsweredInPart out bytes_of options colours before.out after.out)
     × (IsQuietRun options → AreKnown bytes_of (path_files_in options) → AreKnown bytes_of (names_in options)
-    → Appends (out before.out) (out after.out) [] × (status ≤ 1 → IsFound bytes_of options colours.taken status)
+    → Appends (out before.out) (out after.out) [] × (status ≤ 1 → IsFound bytes_of options colours status)
     × (status ≡ 1 → (options.most_of_all ≡ None → Opens (opened inputs) (opened later) (opened_in options)) × TellsNothing options before after))
     × (IsCheckRun options → AreKnown bytes_of (path_files_in options)
     → (status ≤ 1 → IsChecked out bytes_of options inputs later before.out after.out status × TellsNothing options before after)

@@ -6,8 +6,8 @@ ghost use Rattle.serde_json.specs.Data.{Data};
 ghost use Rattle.serde_json_path_core.specs.Inside.Words.{view, Located, OnlyMemoryOrPattern, Selects};
 ghost use Rattle.serde_json_path.specs.Paths.{path_tree, with_rule_of};
 ghost use Rattle.jsonpath_lines.specs.Inside.{once};
-ghost use Rattle.jpq_program.specs.Answers.{IsAnswerInPart, look_after, lower, with_most};
-ghost use Rattle.jpq_program.specs.Inside.{AnswersAll, AnswersBy, AnswersEach, AnswersPath, AreSelected, AreShownAs, Begins, BeginsFirst, Counts, FilledNodes, IsAsked, OnlyNotes, OnlyRefuses, Sends, SendsBy, SendsDocument, ShowsAs, IsAside, TookFirst, all_in_part_by, asked_look, each_in_part_by, has_counts, head_by, is_done, is_plain_answer, look_of, shown_in_part_by, shows_nodes, total_by, wanted_in_part_by};
+ghost use Rattle.jpq_program.specs.Answers.{IsAnswerInPart, has_nodes, look_after, lower, with_most};
+ghost use Rattle.jpq_program.specs.Inside.{AnswersAll, AnswersBy, AnswersEach, AnswersPath, AreSelected, AreShownAs, Begins, BeginsFirst, Counts, FilledNodes, IsAsked, OnlyNotes, OnlyRefuses, Sends, SendsBy, SendsDocument, ShowsAs, IsAside, TookFirst, all_in_part_by, asked_look, each_in_part_by, has_counts, head_by, is_done, look_of, shown_in_part_by, total_by, wanted_in_part_by};
 ghost use Rattle.jpq_program.specs.Looks.{is_array};
 
 use crate::answers::push_answer;
@@ -209,13 +209,13 @@ impl Answering<'_> {
     ) -> Result<(), Stop>
         ensures answered { IfOk result (λ _. ShowsAs (look_of self.now.showing)
             document.entry.bytes.now (view document.entry.value.now) path.now.path
-            → shows_nodes self.now.showing ≡ true
+            → has_nodes self.now.showing.output.form ≡ true
             → AnswersPath self.now.silent W.contents path.now.path
             (look_after (look_of self.now.showing) streams.old.total) is_later head.now
             document.entry.bytes.now streams.old streams.new) }
         ensures begun { ShowsAs (look_of self.now.showing)
             document.entry.bytes.now (view document.entry.value.now) path.now.path
-            → shows_nodes self.now.showing ≡ true
+            → has_nodes self.now.showing.output.form ≡ true
             → Begins W.contents (IsAnswerInPart builtin_functions path.now.path
             (look_after (look_of self.now.showing) streams.old.total) is_later head.now
             document.entry.bytes.now) streams.old streams.new }
@@ -254,12 +254,12 @@ impl Answering<'_> {
     ) -> Result<(), Stop>
         ensures answered { IfOk result (λ _. AreShownAs (look_of self.now.showing)
             document.entry.bytes.now (view document.entry.value.now) self.now.paths.now
-            → shows_nodes self.now.showing ≡ true
+            → has_nodes self.now.showing.output.form ≡ true
             → AnswersEach W.contents self.now document.entry.source.name.now
             document.entry.source.line document.entry.bytes.now streams.old streams.new) }
         ensures begun { AreShownAs (look_of self.now.showing)
             document.entry.bytes.now (view document.entry.value.now) self.now.paths.now
-            → shows_nodes self.now.showing ≡ true
+            → has_nodes self.now.showing.output.form ≡ true
             → Begins W.contents (each_in_part_by self.now document.entry.source.name.now
             document.entry.source.line document.entry.bytes.now streams.old.total)
             streams.old streams.new }
@@ -281,13 +281,13 @@ impl Answering<'_> {
     ) -> Result<(), Stop>
         ensures answered { IfOk result (λ _. AreShownAs (look_of self.now.showing)
             document.entry.bytes.now (view document.entry.value.now) self.now.paths.now
-            → shows_nodes self.now.showing ≡ true
+            → has_nodes self.now.showing.output.form ≡ true
             → is_array self.now.showing.output.form ≡ true
             → AnswersAll W.contents self.now document.entry.source.name.now
             document.entry.source.line document.entry.bytes.now streams.old streams.new) }
         ensures begun { AreShownAs (look_of self.now.showing)
             document.entry.bytes.now (view document.entry.value.now) self.now.paths.now
-            → shows_nodes self.now.showing ≡ true
+            → has_nodes self.now.showing.output.form ≡ true
             → is_array self.now.showing.output.form ≡ true
             → Begins W.contents (all_in_part_by self.now document.entry.source.name.now
             document.entry.source.line document.entry.bytes.now streams.old.total)
@@ -450,12 +450,12 @@ impl Answering<'_> {
     ) -> Result<Next, Stop>
         ensures answered { IfOk result (λ next. AreShownAs (asked_look self.now)
             document.entry.bytes.now (view document.entry.value.now) self.now.paths.now
-            → is_plain_answer self.now ≡ true → is_done self.now streams.old ≡ false
+            → is_done self.now streams.old ≡ false
             → SendsDocument W.contents self.now next document.entry.source.name.now
             document.entry.source.line document.entry.bytes.now streams.old streams.new) }
         ensures begun { AreShownAs (asked_look self.now)
             document.entry.bytes.now (view document.entry.value.now) self.now.paths.now
-            → is_plain_answer self.now ≡ true → is_done self.now streams.old ≡ false
+            → is_done self.now streams.old ≡ false
             → Begins W.contents (wanted_in_part_by self.now document.entry.source.name.now
             document.entry.source.line document.entry.bytes.now streams.old.total)
             streams.old streams.new }
@@ -479,12 +479,10 @@ impl Answering<'_> {
     ) -> Result<(), Stop>
         ensures answered { IfOk result (λ _. AreShownAs (asked_look self.now)
             document.entry.bytes.now (view document.entry.value.now) self.now.paths.now
-            → is_plain_answer self.now ≡ true
             → SendsBy W.contents self.now document.entry.source.name.now
             document.entry.source.line document.entry.bytes.now streams.old streams.new) }
         ensures begun { AreShownAs (asked_look self.now)
             document.entry.bytes.now (view document.entry.value.now) self.now.paths.now
-            → is_plain_answer self.now ≡ true
             → Begins W.contents (shown_in_part_by self.now document.entry.source.name.now
             document.entry.source.line document.entry.bytes.now streams.old.total)
             streams.old streams.new }
@@ -504,12 +502,10 @@ impl Answering<'_> {
     ) -> Result<(), Stop>
         ensures answered { IfOk result (λ _. AreShownAs (asked_look self.now)
             document.entry.bytes.now (view document.entry.value.now) self.now.paths.now
-            → is_plain_answer self.now ≡ true
             → AnswersBy W.contents self.now document.entry.source.name.now
             document.entry.source.line document.entry.bytes.now streams.old streams.new) }
         ensures begun { AreShownAs (asked_look self.now)
             document.entry.bytes.now (view document.entry.value.now) self.now.paths.now
-            → is_plain_answer self.now ≡ true
             → Begins W.contents (shown_in_part_by self.now document.entry.source.name.now
             document.entry.source.line document.entry.bytes.now streams.old.total)
             streams.old streams.new }

@@ -1,8 +1,11 @@
 //! Whether an output takes colours, and which.
 
-ghost use Rattle.std.specs.Prelude.{◌≡◌, ◌&&◌, ◌||◌, not};
+ghost use Rattle.std.specs.List.{list_all};
+ghost use Rattle.std.specs.Prelude.{◌≡◌, ◌&&◌, ◌||◌, MatchOption, not, option_map, slice_get};
+ghost use Rattle.jsonpath_lines.specs.Coloured.{parameters_of, usual};
+ghost use Rattle.jpq_program.specs.Colours.{field_at, fields_in, is_in_fields, parameters_in};
 
-use std::alloc::{AllocError, Global};
+use jsonpath_lines::Palette;
 
 /// What the environment says of colours.
 #[derive(Clone, Copy, Debug, Drop)]
@@ -22,90 +25,51 @@ pub fn takes_colors(is_terminal: bool, is_dumb: bool, no_color: bool, is_forced:
     !no_color && (is_forced || (is_terminal && !is_dumb))
 }
 
-/// The parameters of the sequences before the parts of a line, each as the environment has it, or none where it does not say.
-#[derive(Clone, Copy, Drop)]
-pub(crate) struct Palette<'a> {
-    fields: [Option<&'a str>; 9],
-}
+/// How many fields a text of colours has at most.
+const MOST_FIELDS: usize = 9;
 
-/// A part of a line that has a colour, by its place among the fields.
-#[derive(Clone, Copy)]
-enum Part {
-    Null = 0,
-    False = 1,
-    True = 2,
-    Number = 3,
-    String = 4,
-    Name = 7,
-    Location = 8,
-}
-
-/// Whether a text may be the parameters of a sequence: digits and semicolons.
-fn is_parameters(field: &str) -> bool {
-    field
-        .as_bytes()
-        .iter()
-        .all(|byte| byte.is_ascii_digit() || *byte == b';')
-}
-
-impl<'a> Palette<'a> {
-    /// The palette of a text; `None` where a field is no list of parameters, or there are too many.
-    pub(crate) fn of(text: &'a str) -> Option<Palette<'a>> {
-        let mut fields = [None; 9];
-        for (index, field) in text.split(':').enumerate() {
-            if !is_parameters(field) {
-                return None;
-            }
-            *fields.get_mut(index)? = Some(field);
-        }
-        Some(Palette { fields })
-    }
-
-    /// The parameters of a part, or those that it has where the palette does not say.
-    fn parameters(&self, part: Part, usual: &'a str) -> &'a str {
-        match self.fields.get(part as usize) {
-            Some(Some(field)) => field,
-            _ => usual,
+/// Whether a text has bytes of fields alone: digits, semicolons, and the colons between fields.
+fn is_fields(text: &str) -> bool
+    ensures { result ≡ list_all is_in_fields text.now }
+{
+    for byte in text.as_bytes() {
+        if !byte.is_ascii_digit() && *byte != b';' && *byte != b':' {
+            return false;
         }
     }
+    true
 }
 
-/// The part that begins by a sequence with these parameters, by its text and by what follows it.
-fn part_of(parameters: &str, text: &str, after: &str) -> Option<Part> {
-    match (parameters, text) {
-        ("32", _) if after.starts_with(':') => Some(Part::Name),
-        ("32", _) => Some(Part::String),
-        ("33", "null") => Some(Part::Null),
-        ("33", "false") => Some(Part::False),
-        ("33", _) => Some(Part::True),
-        ("35", _) => Some(Part::Location),
-        ("36", _) => Some(Part::Number),
-        _ => None,
-    }
+/// A field of a text by its index.
+fn field(text: &str, index: usize) -> Option<&str>
+    ensures { option_map (λ field. field.now) result ≡ slice_get (fields_in text.now) index }
+{
+    text.split(':').nth(index)
 }
 
-/// A line in the usual colours, in those of a palette. The line has no escape character of its own.
-pub(crate) fn recolored<'p>(
-    alloc: Global,
-    line: &'p str,
-    palette: &Palette<'p>,
-) -> Result<String, AllocError> {
-    let mut text = String::new(alloc);
-    let mut rest = line;
-    for _ in 0..line.len() {
-        let Some((plain, after)) = rest.split_once("\u{1b}[") else {
-            break;
-        };
-        let (parameters, after) = after.split_once('m').unwrap_or((after, ""));
-        let (colored, after) = after.split_once("\u{1b}[0m").unwrap_or((after, ""));
-        text.push_str(plain)?;
-        let parameters = match part_of(parameters, colored, after) {
-            Some(part) => palette.parameters(part, parameters),
-            None => parameters,
-        };
-        write!(text, "\u{1b}[{parameters}m{colored}\u{1b}[0m")?;
-        rest = after;
+/// The same, or else these parameters.
+fn field_or<'a>(text: &'a str, index: usize, other: &'a str) -> &'a str
+    ensures { result.now ≡ field_at text.now index other.now }
+{
+    field(text, index).unwrap_or(other)
+}
+
+/// The colours that a text of the environment names, and the usual ones of the parts that it says nothing of; `None` where a field
+/// is no list of parameters, or there are too many. Fields of arrays and objects are passed over.
+pub(crate) fn palette_in<'a>(text: &'a str) -> Option<Palette<'a>>
+    ensures { MatchOption result (parameters_in text.now ≡ usual)
+        (λ palette. parameters_of palette ≡ parameters_in text.now) }
+{
+    if !is_fields(text) || field(text, MOST_FIELDS).is_some() {
+        return None;
     }
-    text.push_str(rest)?;
-    Ok(text)
+    Some(Palette {
+        null_word: field_or(text, 0, "33"),
+        false_word: field_or(text, 1, "33"),
+        true_word: field_or(text, 2, "33"),
+        number: field_or(text, 3, "36"),
+        string: field_or(text, 4, "32"),
+        name: field_or(text, 7, "32"),
+        location: field_or(text, 8, "35"),
+    })
 }

@@ -7,7 +7,7 @@ ghost use Rattle.serde_json.specs.View.{view};
 ghost use Rattle.serde_json_path_syntax.specs.Tree.{Query};
 ghost use Rattle.serde_json_path_reach.specs.Readers.{Keeps};
 ghost use Rattle.jpq_program.specs.Inputs.{AreInputsShown, AreKnown, IsInputShown, IsLineShown, Opens, OpensFirst, is_blank, without_mark};
-ghost use Rattle.jpq_program.specs.Inside.{Begins, IsPlain, IsReadIn, OnlyNotes, OnlyRefuses, SendsDocument, SendsInput, SendsInputs, SendsLine, is_done, wanted_in_part_by};
+ghost use Rattle.jpq_program.specs.Inside.{Begins, IsReadIn, OnlyNotes, OnlyRefuses, ReadsForPaths, SendsDocument, SendsInput, SendsInputs, SendsLine, is_done, wanted_in_part_by};
 
 use crate::answering::{Answering, Document};
 use crate::encodings::{encoding_of, without_mark};
@@ -113,12 +113,12 @@ impl Documents<'_> {
         bytes: &[u8],
         streams: &mut Streams<W, E>,
     ) -> Result<Next, Stop>
-        ensures answered { IfOk result (λ next. IsPlain self.now
+        ensures answered { IfOk result (λ next. ReadsForPaths self.now
             → is_done self.now.answering streams.old ≡ false
             → string_bytes streams.old.pending ≡ []
             → SendsDocument W.contents self.now.answering next source.entry.name.now
             source.entry.line bytes.now streams.old streams.new) }
-        ensures begun { IsPlain self.now
+        ensures begun { ReadsForPaths self.now
             → is_done self.now.answering streams.old ≡ false
             → Begins W.contents (wanted_in_part_by self.now.answering source.entry.name.now
             source.entry.line bytes.now streams.old.total) streams.old streams.new }
@@ -242,12 +242,12 @@ impl Documents<'_> {
         mut input: I,
         streams: &mut Streams<W, E>,
     ) -> Result<Next, Stop>
-        ensures answered { IfOk result (λ next. IsPlain self.now
+        ensures answered { IfOk result (λ next. ReadsForPaths self.now
             → is_done self.now.answering streams.old ≡ false
             → string_bytes streams.old.pending ≡ [] → IfSome (I.remaining input) (λ bytes.
             SendsInput W.contents self.now.answering next false name.now bytes
             streams.old streams.new)) }
-        ensures begun { IsPlain self.now
+        ensures begun { ReadsForPaths self.now
             → is_done self.now.answering streams.old ≡ false
             → IfSome (I.remaining input) (λ bytes. Begins W.contents (IsInputShown
             (wanted_in_part_by self.now.answering) false name.now bytes streams.old.total)
@@ -267,12 +267,12 @@ impl Documents<'_> {
         line: &[u8],
         streams: &mut Streams<W, E>,
     ) -> Result<Next, Stop>
-        ensures answered { IfOk result (λ next. IsPlain self.now
+        ensures answered { IfOk result (λ next. ReadsForPaths self.now
             → is_done self.now.answering streams.old ≡ false
             → string_bytes streams.old.pending ≡ []
             → SendsLine W.contents self.now.answering next source.entry.name.now
             source.entry.line line.now streams.old streams.new) }
-        ensures begun { IsPlain self.now
+        ensures begun { ReadsForPaths self.now
             → is_done self.now.answering streams.old ≡ false
             → Begins W.contents (IsLineShown (wanted_in_part_by self.now.answering)
             source.entry.name.now source.entry.line line.now streams.old.total)
@@ -291,12 +291,12 @@ impl Documents<'_> {
         input: I,
         streams: &mut Streams<W, E>,
     ) -> Result<Next, Stop>
-        ensures answered { IfOk result (λ next. IsPlain self.now
+        ensures answered { IfOk result (λ next. ReadsForPaths self.now
             → is_done self.now.answering streams.old ≡ false
             → string_bytes streams.old.pending ≡ [] → IfSome (I.remaining input) (λ bytes.
             SendsInput W.contents self.now.answering next true name.now bytes
             streams.old streams.new)) }
-        ensures begun { IsPlain self.now
+        ensures begun { ReadsForPaths self.now
             → is_done self.now.answering streams.old ≡ false
             → string_bytes streams.old.pending ≡ [] → IfSome (I.remaining input) (λ bytes.
             Begins W.contents (IsInputShown (wanted_in_part_by self.now.answering) true name.now
@@ -339,13 +339,13 @@ impl Documents<'_> {
     ) -> Result<Next, Stop>
         ensures same { (name : List ℕ) → I.bytes_of inputs.new name ≡ I.bytes_of inputs.old name }
         ensures opens { Opens (I.opened inputs.old) (I.opened inputs.new) (name.now ∷ []) }
-        ensures answered { IfOk result (λ next. IsPlain self.now
+        ensures answered { IfOk result (λ next. ReadsForPaths self.now
             → is_done self.now.answering streams.old ≡ false
             → string_bytes streams.old.pending ≡ []
             → IfSome (I.bytes_of inputs.old name.now) (λ bytes.
             SendsInput W.contents self.now.answering next self.now.lines name.now bytes
             streams.old streams.new)) }
-        ensures begun { IsPlain self.now
+        ensures begun { ReadsForPaths self.now
             → is_done self.now.answering streams.old ≡ false
             → string_bytes streams.old.pending ≡ []
             → IfSome (I.bytes_of inputs.old name.now) (λ bytes. Begins W.contents (IsInputShown
@@ -376,12 +376,12 @@ impl Documents<'_> {
         ensures all { IfOk result (λ next. next ≡ Next.More
             → Opens (I.opened inputs.old) (I.opened inputs.new)
             (map (λ name. name.now) names.now)) }
-        ensures answered { IfOk result (λ next. IsPlain self.now
+        ensures answered { IfOk result (λ next. ReadsForPaths self.now
             → string_bytes streams.old.pending ≡ []
             → AreKnown (I.bytes_of inputs.old) (map (λ name. name.now) names.now)
             → SendsInputs W.contents self.now.answering next self.now.lines
             (I.bytes_of inputs.old) (map (λ name. name.now) names.now) streams.old streams.new) }
-        ensures begun { IsPlain self.now
+        ensures begun { ReadsForPaths self.now
             → string_bytes streams.old.pending ≡ []
             → AreKnown (I.bytes_of inputs.old) (map (λ name. name.now) names.now)
             → Begins W.contents (AreInputsShown (wanted_in_part_by self.now.answering)

@@ -6,13 +6,13 @@ ghost use Rattle.std.specs.List.{flat_map};
 ghost use Rattle.std.specs.Prelude.{◌≡◌, ◌==◌, ◌<◌, ◌++◌, ◌∷◌, ℕ, List, [], None, Some, IfOk, OnOk, false, option_map, string_bytes, true};
 ghost use Rattle.std.specs.Str.{chars};
 ghost use Rattle.serde_json_path_nodes.specs.Views.{located};
+ghost use Rattle.jsonpath_lines.specs.Coloured.{parameters_of};
 ghost use Rattle.jsonpath_lines.specs.Inside.{Appends};
 ghost use Rattle.jsonpath_lines.specs.Output.{IsLine};
 ghost use Rattle.jpq_program.specs.Inside.{left_from, look_with};
 ghost use Rattle.jpq_program.specs.Looks.{IsLook, IsSeenIn, dressed, escaped, has_escapes, in_ascii, indented, led_by, unit_escape};
 
-use crate::colours::{Palette, recolored};
-use jsonpath_lines::{Form, Output, colored, push_line};
+use jsonpath_lines::{Form, Output, Palette, colored, push_line};
 use serde_json::Value;
 use serde_json_path::LocatedNode;
 use std::alloc::{AllocError, Global};
@@ -162,10 +162,8 @@ pub(crate) struct Dress<'a> {
     pub(crate) indent: Option<String>,
     /// Whether characters above U+007F are escaped.
     pub(crate) ascii: bool,
-    /// Whether lines have colours.
-    pub(crate) colored: bool,
-    /// Which ones, where they are not the usual ones.
-    pub(crate) palette: Option<Palette<'a>>,
+    /// The colours of lines, where they have these.
+    pub(crate) colours: Option<Palette<'a>>,
 }
 
 impl Dress<'_> {
@@ -192,27 +190,23 @@ impl Dress<'_> {
         Ok(text)
     }
 
-    /// Appends a text that a form shows in colours, if they are wanted. A text with an escape character of its own has the usual
-    /// ones.
+    /// Appends a text that a form shows, in colours where lines have these.
     pub(crate) fn push_colored(
         &self,
         to: &mut String,
         text: &str,
         form: Form,
     ) -> Result<(), AllocError>
-        ensures { self.now.palette ≡ None → OnOk result
-            (Appends (IsSeenIn self.now.colored text.now) (string_bytes to.old)
-            (string_bytes to.new)) }
+        ensures { OnOk result
+            (Appends (IsSeenIn (option_map parameters_of self.now.colours) text.now)
+            (string_bytes to.old) (string_bytes to.new)) }
     {
-        if !self.colored {
-            return to.push_str(text);
-        }
-        let line = colored(self.alloc, text, form)?;
-        match &self.palette {
-            Some(palette) if !text.contains('\u{1b}') => {
-                to.push_str(recolored(self.alloc, line.as_str(), palette)?.as_str())
+        match &self.colours {
+            None => to.push_str(text),
+            Some(palette) => {
+                let line = colored(self.alloc, text, form, palette)?;
+                to.push_str(line.as_str())
             }
-            _ => to.push_str(line.as_str()),
         }
     }
 
@@ -240,7 +234,7 @@ impl Dress<'_> {
         head: &str,
         node: &LocatedNode<'_>,
     ) -> Result<(), AllocError>
-        ensures { self.now.palette ≡ None → OnOk result
+        ensures { OnOk result
             (Appends (IsLook (look_with output.now None false (Some self.now)) head.now
             (located node.now)) (string_bytes to.old) (string_bytes to.new)) }
     {

@@ -1,20 +1,22 @@
 //! The program over its inputs and two writers.
 
-ghost use Rattle.std.specs.Prelude.{◌≡◌, ◌≤◌, ◌⊎◌, [], None, IfOk, IfSome, OnOk, false, map, option_map, replicate, string_bytes, true};
+ghost use Rattle.std.specs.Prelude.{◌≡◌, ◌≤◌, ◌⊎◌, [], IfOk, IfSome, OnOk, false, map, option_map, replicate, string_bytes, true};
 ghost use Rattle.std.specs.Io.KnownBytes.{Appends};
 ghost use Rattle.serde_json_path.specs.Paths.{path_tree};
 ghost use Rattle.serde_json_path_reach.specs.Alike.{trees_of};
 ghost use Rattle.serde_json_path_reach.specs.Readers.{Keeps};
+ghost use Rattle.jsonpath_lines.specs.Coloured.{parameters_of};
 ghost use Rattle.jsonpath_lines.specs.Sent.{AppendsBeginning};
 ghost use Rattle.jpq_options.specs.Options.{AsksFor};
 ghost use Rattle.jpq_options.specs.declared.options.Request as input;
+ghost use Rattle.jpq_program.specs.Colours.{colours_for};
 ghost use Rattle.jpq_program.specs.Inputs.{AreInputsShown, AreKnown, Opens, OpensFirst};
-ghost use Rattle.jpq_program.specs.Inside.{AnswersRun, AreBetween, Begins, IsKnownRun, IsPlain, OnlyTells, SendsAll, SendsFor, SendsInputs, texts_asked, has_palette, heads_in, is_quiet, look_with, shows_places, status_after, status_of, told_after, wanted_in_part_by};
-ghost use Rattle.jpq_program.specs.Run.{AreAllInPart, ComesOf, IsAnsweredInPart, IsChecked, IsCheckedInPart, IsCheckRun, IsPrinted, LacksMemory, canonical_lines, is_colored, look_in, looked_at_in, names_in, opened_in, output_in, path_files_in, path_texts, unit_in};
+ghost use Rattle.jpq_program.specs.Inside.{AnswersRun, AreBetween, Begins, OnlyTells, ReadsForPaths, SendsAll, SendsFor, SendsInputs, texts_asked, heads_in, is_quiet, look_with, shows_places, status_after, status_of, told_after, wanted_in_part_by};
+ghost use Rattle.jpq_program.specs.Run.{AreAllInPart, ComesOf, IsAnsweredInPart, IsChecked, IsCheckedInPart, IsCheckRun, IsPrinted, IsUsualRun, LacksMemory, canonical_lines, is_colored, look_in, looked_at_in, names_in, opened_in, output_in, path_files_in, path_texts, unit_in};
 
 use crate::answering::Answering;
 use crate::asked_path::AskedPath;
-use crate::colours::{Colours, Palette};
+use crate::colours::{Colours, palette_in};
 use crate::documents::Documents;
 use crate::dress::Dress;
 use crate::empty_answer::Marks;
@@ -25,7 +27,7 @@ use crate::showing::Showing;
 use crate::source::Heads;
 use crate::streams::{Next, OUTPUT_FAILED, REFUSED, SELECTED, Stop, Streams, WRONG_USE};
 use jpq_options::options::{Color, Options, Request, Shown, read};
-use jsonpath_lines::{Form, Output};
+use jsonpath_lines::{Form, Output, Palette};
 use serde_json::Value;
 use serde_json_path::DocumentReader;
 use serde_json_path::functions::{CachedPatterns, PatternStore};
@@ -179,21 +181,27 @@ fn is_colored(options: &Options<'_>, colours: Colours<'_>) -> bool
     }
 }
 
-/// The palette of lines with colours. Tells where the environment has none that can be read.
+/// The colours that lines have where they have some: the environment's, or the usual ones. Tells where the environment has none that
+/// can be read.
 fn palette_of<'a, W: Write, E: Write>(
     colours: Colours<'a>,
     silent: bool,
     streams: &mut Streams<W, E>,
-) -> Option<Palette<'a>>
+) -> Palette<'a>
     ensures told { OnlyTells streams.old streams.new }
     ensures quiet { silent ≡ true → streams.new ≡ streams.old }
-    ensures none { colours.entry.palette ≡ None → result ≡ None }
+    ensures colours { parameters_of result ≡ colours_for colours.entry }
 {
-    let palette = Palette::of(colours.palette?);
-    if palette.is_none() && !silent {
+    let Some(text) = colours.palette else {
+        return Palette::usual();
+    };
+    if let Some(palette) = palette_in(text) {
+        return palette;
+    }
+    if !silent {
         streams.tell("jpq: JPQ_COLORS is not in jq's form, as 0;90:0;37:0;37:0;36:0;32\n");
     }
-    palette
+    Palette::usual()
 }
 
 /// How lines are dressed, as the options and the environment say; `None` where they are shown as they are made.
@@ -207,26 +215,22 @@ fn dress_of<'a, W: Write, E: Write>(
     ensures quiet { options.now.silent ≡ true → streams.new ≡ streams.old }
     ensures look { IfOk result (λ dress. look_with (output_in options.now)
         options.now.most_of_all options.now.total dress
-        ≡ look_in options.now colours.entry.taken) }
-    ensures usual { (is_colored options.now.color colours.entry.taken ≡ true
-        → colours.entry.palette ≡ None) → IfOk result (λ dress. has_palette dress ≡ false) }
+        ≡ look_in options.now colours.entry) }
 {
     let indent = indent_of(alloc, options)?;
-    let colored = is_colored(options, colours);
-    if indent.is_none() && !options.ascii && !colored {
-        return Ok(None);
-    }
-    let palette = if colored {
-        palette_of(colours, options.silent, streams)
+    let colours = if is_colored(options, colours) {
+        Some(palette_of(colours, options.silent, streams))
     } else {
         None
     };
+    if indent.is_none() && !options.ascii && colours.is_none() {
+        return Ok(None);
+    }
     Ok(Some(Dress {
         alloc,
         indent,
         ascii: options.ascii,
-        colored,
-        palette,
+        colours,
     }))
 }
 
@@ -259,12 +263,12 @@ fn answer_inputs<I: Inputs, W: Write, E: Write>(
     ensures opens { OpensFirst (I.opened inputs.old) (I.opened inputs.new) (names_in options.now) }
     ensures all { IfOk result (λ next. next ≡ Next.More
         → Opens (I.opened inputs.old) (I.opened inputs.new) (names_in options.now)) }
-    ensures answered { IfOk result (λ next. IsPlain documents.now
+    ensures answered { IfOk result (λ next. ReadsForPaths documents.now
         → string_bytes streams.old.pending ≡ []
         → AreKnown (I.bytes_of inputs.old) (names_in options.now)
         → SendsInputs W.contents documents.now.answering next documents.now.lines
         (I.bytes_of inputs.old) (names_in options.now) streams.old streams.new) }
-    ensures begun { IsPlain documents.now
+    ensures begun { ReadsForPaths documents.now
         → string_bytes streams.old.pending ≡ []
         → AreKnown (I.bytes_of inputs.old) (names_in options.now)
         → Begins W.contents (AreInputsShown (wanted_in_part_by documents.now.answering)
@@ -288,12 +292,12 @@ fn answer_documents<I: Inputs, W: Write, E: Write>(
     ensures opens { OpensFirst (I.opened inputs.old) (I.opened inputs.new) (names_in options.now) }
     ensures all { IfOk result (λ next. next ≡ Next.More
         → Opens (I.opened inputs.old) (I.opened inputs.new) (names_in options.now)) }
-    ensures answered { IfOk result (λ next. IsPlain documents.now
+    ensures answered { IfOk result (λ next. ReadsForPaths documents.now
         → streams.old.total ≡ 0 → string_bytes streams.old.pending ≡ []
         → AreKnown (I.bytes_of inputs.old) (names_in options.now)
         → SendsAll W.contents documents.now.answering options.now.header next documents.now.lines
         (I.bytes_of inputs.old) (names_in options.now) streams.old streams.new) }
-    ensures begun { IsPlain documents.now
+    ensures begun { ReadsForPaths documents.now
         → streams.old.total ≡ 0 → string_bytes streams.old.pending ≡ []
         → AreKnown (I.bytes_of inputs.old) (names_in options.now)
         → Begins W.contents (AreBetween documents.now.answering options.now.header
@@ -335,17 +339,17 @@ fn answer_paths<I: Inputs, W: Write, E: Write>(
     ensures opens { OpensFirst (I.opened inputs.old) (I.opened inputs.new) (names_in options.now) }
     ensures all { IfOk result (λ next. next ≡ Next.More
         → Opens (I.opened inputs.old) (I.opened inputs.new) (names_in options.now)) }
-    ensures answered { IfOk result (λ next. IsKnownRun options.now colours.entry
+    ensures answered { IfOk result (λ next. IsUsualRun options.now
         → texts_asked paths.now ≡ path_texts (I.bytes_of inputs.old) options.now
         → streams.old.total ≡ 0 → string_bytes streams.old.pending ≡ []
         → AreKnown (I.bytes_of inputs.old) (names_in options.now)
-        → SendsFor W.contents options.now colours.entry.taken next
+        → SendsFor W.contents options.now colours.entry next
         (map (λ path. path.path) paths.now) (I.bytes_of inputs.old) streams.old streams.new) }
-    ensures begun { IsKnownRun options.now colours.entry
+    ensures begun { IsUsualRun options.now
         → texts_asked paths.now ≡ path_texts (I.bytes_of inputs.old) options.now
         → streams.old.total ≡ 0 → string_bytes streams.old.pending ≡ []
         → AreKnown (I.bytes_of inputs.old) (names_in options.now)
-        → Begins W.contents (AreAllInPart options.now colours.entry.taken
+        → Begins W.contents (AreAllInPart options.now colours.entry
         (map (λ path. path.path) paths.now) (I.bytes_of inputs.old)) streams.old streams.new }
 {
     let store = PatternStore::new();
@@ -385,19 +389,19 @@ fn run_with<I: Inputs, W: Write, E: Write>(
     inputs: &mut I,
     streams: &mut Streams<W, E>,
 ) -> Result<Next, Stop>
-    ensures answered { IfOk result (λ next. IsKnownRun options.now colours.entry
+    ensures answered { IfOk result (λ next. IsUsualRun options.now
         → streams.old.outcome ≡ record { selected = false; refused = false }
         → streams.old.total ≡ 0 → string_bytes streams.old.pending ≡ []
         → AreKnown (I.bytes_of inputs.old) (path_files_in options.now)
         → AreKnown (I.bytes_of inputs.old) (names_in options.now)
         → AnswersRun W.contents (I.bytes_of inputs.old) options.now
-        colours.entry.taken next streams.old streams.new) }
-    ensures in_part { IsKnownRun options.now colours.entry
+        colours.entry next streams.old streams.new) }
+    ensures in_part { IsUsualRun options.now
         → streams.old.total ≡ 0 → string_bytes streams.old.pending ≡ []
         → AreKnown (I.bytes_of inputs.old) (path_files_in options.now)
         → AreKnown (I.bytes_of inputs.old) (names_in options.now)
         → IsAnsweredInPart W.contents (I.bytes_of inputs.old) options.now
-        colours.entry.taken streams.old.out streams.new.out }
+        colours.entry streams.old.out streams.new.out }
     ensures checked { IfOk result (λ _. IsCheckRun options.now
         → streams.old.outcome ≡ record { selected = false; refused = false }
         → string_bytes streams.old.pending ≡ []

@@ -1,7 +1,7 @@
 //! How nodes are shown: their lines and their objects.
 
 ghost use Rattle.std.specs.Char.{encode_utf8};
-ghost use Rattle.std.specs.Prelude.{◌≡◌, ◌++◌, ℕ, List, IfOk, OnOk, string_bytes, true};
+ghost use Rattle.std.specs.Prelude.{◌≡◌, ◌++◌, ℕ, List, IfOk, OnOk, string_bytes};
 ghost use Rattle.serde_json.specs.Data.{string};
 ghost use Rattle.serde_json.specs.Written.{compact_text};
 ghost use Rattle.serde_json_path_nodes.specs.Text.{normal};
@@ -9,7 +9,7 @@ ghost use Rattle.serde_json_path_nodes.specs.Views.{located};
 ghost use Rattle.jsonpath_lines.specs.Inside.{Appends};
 ghost use Rattle.jsonpath_lines.specs.Output.{IsJsonIn, end_text};
 ghost use Rattle.jpq_program.specs.Answers.{array_end};
-ghost use Rattle.jpq_program.specs.Inside.{is_plain, look_of};
+ghost use Rattle.jpq_program.specs.Inside.{look_of};
 ghost use Rattle.jpq_program.specs.Looks.{IsLook, IsObject, member_json};
 
 use crate::dress::{Dress, push_own_line};
@@ -60,7 +60,7 @@ impl Showing<'_> {
         head: &str,
         node: &LocatedNode<'_>,
     ) -> Result<(), AllocError>
-        ensures { is_plain self.now ≡ true → OnOk result
+        ensures { OnOk result
             (Appends (IsLook (look_of self.now) head.now (located node.now))
             (string_bytes to.old) (string_bytes to.new)) }
     {
@@ -111,7 +111,7 @@ impl Showing<'_> {
         is_later: bool,
         node: &LocatedNode<'_>,
     ) -> Result<(), AllocError>
-        ensures { is_plain self.now ≡ true → OnOk result
+        ensures { OnOk result
             (Appends (IsObject (look_of self.now) is_later members.now (located node.now))
             (string_bytes to.old) (string_bytes to.new)) }
     {

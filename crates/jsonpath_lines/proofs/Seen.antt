@@ -1,42 +1,64 @@
 -- A line so far, in colours.
-use Rattle.jsonpath_lines.proofs.Words.{◌≡◌, ℕ, List, [], ◌∷◌, ◌++◌, refl, sym, ap, subst, ◌∙◌, append_assoc, append-nil, Form, IsColoured, IsTrue, IsUnseen, Raw, byte, empty, is_sequence, sequence}
+use Rattle.jsonpath_lines.proofs.Words.{◌≡◌, ◌||◌, ℕ, Bool, true, false, List, [], ◌∷◌, ◌++◌, refl, sym, ap, subst, ◌∙◌, append_assoc, append-nil, bytes_eq, bytes_eq-Decides, codes, list_any, list_any_at, Contains, Form, IsColoured, IsTrue, IsUnseen, Raw, byte, empty, is_sequence, sequence, unseen}
 use Rattle.jsonpath_lines.specs.declared.colours.Place.{Place}
 use Rattle.jsonpath_lines.specs.declared.colours.Place.TheVariants.{Between}
 
--- a sequence is not seen
-pub unseen_one : (bytes : List ℕ) → IsTrue (is_sequence bytes) → IsUnseen bytes
-unseen_one bytes is = record { shows = λ line text shown. sequence bytes line text is shown }
+-- ---- sequences
 
--- nor is one with another after it
-pub unseen_both : (a b : List ℕ) → IsUnseen a → IsUnseen b → IsUnseen (a ++ b)
-unseen_both a b first second = record { shows = λ line text shown. rw append_assoc (first.shows line (b ++ text) (second.shows line text shown)) }
+-- the sequence that ends a colour is not seen
+pub unseen_end : (parameters : List (List ℕ)) → IsUnseen parameters (sequence (codes "0"))
+unseen_end parameters = record { shows = λ line text shown. unseen (sequence (codes "0")) line text refl shown }
 
--- bytes of the line are seen
-seen : (bytes line text : List ℕ) → IsColoured line text → IsColoured (bytes ++ line) (bytes ++ text)
-seen [] line text shows = shows
-seen (b ∷ bs) line text shows = byte b _ _ (seen bs line text shows)
+-- nor is one with one of the parameters
+pub unseen_part : (parameters : List (List ℕ)) (own : List ℕ) → Contains parameters own → IsUnseen parameters (sequence own)
+unseen_part parameters own is = record { shows = λ line text shown. unseen (sequence own) line text among shown }
+  where
+    test : List ℕ → Bool
+    test other = bytes_eq (sequence own) (sequence other)
 
--- what is seen of the text, and what is left, are the whole line
-abbrev pub IsSeenUpTo : List ℕ → List ℕ → List ℕ → Type 0
-IsSeenUpTo line text left =
-    (done : List ℕ) × (line ≡ done ++ left) × ((rest more : List ℕ) → IsColoured rest more → IsColoured (done ++ rest) (text ++ more))
+    passes : test own ≡ true
+    passes = (bytes_eq-Decides (sequence own) (sequence own)).1 refl
 
--- the line, one character further, before which a sequence may stand
-pub seen_further : (line text change bytes left left' : List ℕ) → IsUnseen change → left ≡ bytes ++ left' → IsSeenUpTo line text left → IsSeenUpTo line ((text ++ change) ++ bytes) left'
-seen_further line text change bytes left left' unseen is before =
-    let done = before.0 in (
-      done ++ bytes,
-      before.1 ∙ ap (λ (t : List ℕ). done ++ t) is ∙ sym (append_assoc done bytes left'),
-      λ rest more shows.
-          rw (append_assoc done bytes rest, append_assoc (text ++ change) bytes more, append_assoc text change (bytes ++ more))
-          (before.2 (bytes ++ rest) (change ++ (bytes ++ more)) (unseen.shows (bytes ++ rest) (bytes ++ more) (seen bytes rest more shows))),
-    )
+    either : (a b : Bool) → b ≡ true → (a || b) ≡ true
+    either true b holds = refl
+    either false b holds = holds
 
--- the whole line is seen, whatever sequence ends it
-pub seen_whole : (line text change : List ℕ) → IsUnseen change → IsSeenUpTo line text [] → IsColoured line (text ++ change)
-seen_whole line text change unseen before =
-    subst (λ (l : List ℕ). IsColoured l (text ++ change)) (sym before.1)
-    (subst (λ (t : List ℕ). IsColoured (before.0 ++ []) (text ++ t)) (append-nil change) (before.2 [] (change ++ []) (unseen.shows [] [] empty)))
+    among : IsTrue (is_sequence parameters (sequence own))
+    among = either (test (codes "0")) (list_any test parameters) (list_any_at test parameters is.0 own is.1 (ap test is.2 ∙ passes))
+
+-- nor is the first with another after it
+pub unseen_both : (parameters : List (List ℕ)) (own : List ℕ) → Contains parameters own → IsUnseen parameters (sequence (codes "0") ++ sequence own)
+unseen_both parameters own is = record { shows = λ line text shown. rw (append_assoc (sequence (codes "0")) (sequence own) text) ((unseen_end parameters).shows line (sequence own ++ text) ((unseen_part parameters own is).shows line text shown)) }
+
+-- ---- a line in colours
+
+module _ (parameters : List (List ℕ)) where
+  -- bytes of the line are seen
+  seen : (bytes line text : List ℕ) → IsColoured parameters line text → IsColoured parameters (bytes ++ line) (bytes ++ text)
+  seen [] line text shows = shows
+  seen (b ∷ bs) line text shows = byte b _ _ (seen bs line text shows)
+
+  -- what is seen of the text, and what is left, are the whole line
+  abbrev pub IsSeenUpTo : List ℕ → List ℕ → List ℕ → Type 0
+  IsSeenUpTo line text left =
+      (done : List ℕ) × (line ≡ done ++ left) × ((rest more : List ℕ) → IsColoured parameters rest more → IsColoured parameters (done ++ rest) (text ++ more))
+
+  -- the line, one character further, before which a sequence may stand
+  pub seen_further : (line text change bytes left left' : List ℕ) → IsUnseen parameters change → left ≡ bytes ++ left' → IsSeenUpTo line text left → IsSeenUpTo line ((text ++ change) ++ bytes) left'
+  seen_further line text change bytes left left' hidden is before =
+      let done = before.0 in (
+        done ++ bytes,
+        before.1 ∙ ap (λ (t : List ℕ). done ++ t) is ∙ sym (append_assoc done bytes left'),
+        λ rest more shows.
+            rw (append_assoc done bytes rest, append_assoc (text ++ change) bytes more, append_assoc text change (bytes ++ more))
+            (before.2 (bytes ++ rest) (change ++ (bytes ++ more)) (hidden.shows (bytes ++ rest) (bytes ++ more) (seen bytes rest more shows))),
+      )
+
+  -- the whole line is seen, whatever sequence ends it
+  pub seen_whole : (line text change : List ℕ) → IsUnseen parameters change → IsSeenUpTo line text [] → IsColoured parameters line (text ++ change)
+  seen_whole line text change hidden before =
+      subst (λ (l : List ℕ). IsColoured parameters l (text ++ change)) (sym before.1)
+      (subst (λ (t : List ℕ). IsColoured parameters (before.0 ++ []) (text ++ t)) (append-nil change) (before.2 [] (change ++ []) (hidden.shows [] [] empty)))
 
 -- ---- lines that have no colours
 

@@ -11,7 +11,7 @@ pub use Rattle.json.specs.Print.{ArePrintableOrBad, ends, escape, print, token_t
 pub use Rattle.json.specs.Reads.{token_of}
 pub use Rattle.json.specs.Token.{Token, end_object}
 pub use Rattle.json.specs.Tree.{HasNumbers, ItemsHaveNumbers, items_tokens, json_tokens, members_tokens}
-pub use Rattle.jsonpath_lines.specs.Coloured.{IsColoured, byte, empty, is_sequence, sequence}
+pub use Rattle.jsonpath_lines.specs.Coloured.{IsColoured, byte, empty, is_sequence, parameters_of, sequence, unseen}
 pub use Rattle.jsonpath_lines.specs.Inside.{Appends, ArePieces, ArePiecesIn, FilledLines, IsClosedIn, IsLaid, IsLaidOut, IsPiece, IsPieceIn, IsPrintedOf, IsUnseen, Pushes, TookDistinct, TookLines, asked, is_reached, leaves_out_in, limit_in, once, opening, path_string}
 pub use Rattle.jsonpath_lines.specs.Output.{AreLines, AreLinesIn, IsCount, IsCountIn, IsJsonIn, IsJsonOf, IsLine, IsLineOfEach, IsPrettyOf, array_of, end_text, items_of, object_of, up_to}
 pub use Rattle.jsonpath_lines.specs.Sent.{AppendsBeginning}
@@ -34,4 +34,7 @@ pub use Rattle.serde_json_path_nodes.specs.declared.located_node.LocatedNode.{Lo
 pub use Rattle.serde_json_path_syntax.proofs.Words.{length-map, length-take, length-take-le, map_push, nil_from_length, take-append-le, take-map, take_all, take_more}
 pub use Rattle.std.proofs.lemmas.Grind.{common_steps, flat_map-append}
 pub use Rattle.std.proofs.KnownBytes.{Appends-kept, Appends-trans}
-pub use Rattle.std.specs.Prelude.{IfSome, IsTrue, drop, slice_index, ◌-◌}
+pub use Rattle.std.proofs.lemmas.List.Folds.{list_any_at}
+pub use Rattle.std.proofs.lemmas.Slice.Eq.{bytes_eq-Decides}
+pub use Rattle.std.specs.List.{Contains, list_any}
+pub use Rattle.std.specs.Prelude.{IfSome, IsTrue, bytes_eq, drop, slice_index, ◌-◌}

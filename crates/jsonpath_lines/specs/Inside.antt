@@ -144,6 +144,6 @@ IsClosedIn Json output head count written shown = IsArrayLine output head writte
 IsClosedIn Count output head count written shown = shown ≡ head ++ (decimal count ++ end_text output.end)
 IsClosedIn form output head count written shown = shown ≡ written
 
--- sequences of colours, or none: a text that they stand before shows the same line
-pub record IsUnseen (change : List ℕ) : Type 0 where
-  pub shows : (line text : List ℕ) → IsColoured line text → IsColoured line (change ++ text)
+-- sequences with these parameters, or none: a text that they stand before shows the same line
+pub record IsUnseen (parameters : List (List ℕ)) (change : List ℕ) : Type 0 where
+  pub shows : (line text : List ℕ) → IsColoured parameters line text → IsColoured parameters line (change ++ text)

@@ -10,7 +10,7 @@
 //! let written = write_nodes(alloc, &output, "", String::new(alloc), walk)?;
 //! ```
 //!
-//! [`colored`] gives such a line in the colours of a terminal. [`write_text`] writes a text, or a beginning of it.
+//! [`colored`] gives such a line in the colours of a [`Palette`]. [`write_text`] writes a text, or a beginning of it.
 //!
 //! Definitions are in `specs/`: `Output` says what is shown, `Distinct` when distinct nodes are enough, `Coloured` what a
 //! line is in colours, `Sent` what went out.
@@ -24,7 +24,7 @@ mod nodes;
 mod values;
 mod writing;
 
-pub use colours::colored;
+pub use colours::{Palette, colored};
 pub use distinct::distinct_nodes;
 pub use forms::{Form, Layout, LineEnd, Output};
 pub use line::push_line;

@@ -1,6 +1,6 @@
 -- What is shown of lists of two, and of a document by a normalised path.
-use Rattle.std.specs.Prelude.{◌≡◌, ◌+◌, ◌++◌, ◌||◌, ℕ, Bool, true, false, List, [], ◌∷◌, None, Some, codes, length, nat_lt}
-use Rattle.std.proofs.Common.{ap, refl, subst, sym, ◌∙◌}
+use Rattle.std.specs.Prelude.{◌≡◌, ◌+◌, ◌++◌, ℕ, Bool, false, List, [], ◌∷◌, None, Some, codes, length}
+use Rattle.std.proofs.Common.{ap, arith, subst, sym, ◌∙◌}
 use Rattle.serde_json.specs.Data.{Data}
 use Rattle.serde_json.specs.Read.{read}
 use Rattle.serde_json.specs.Written.{compact_text, has_float}
@@ -24,25 +24,24 @@ use Rattle.jsonpath_lines.proofs.Words.{append-nil}
 abbrev pub ResultIsUnique : Type 0
 ResultIsUnique = (F : FunctionSet) (top : Data) (q : Query) (node : Data) (some other : List Located) → IsResult F top q node some → IsResult F top q node other → some ≡ other
 
-or_false : (b : Bool) → b ≡ (b || false)
-or_false true = refl
-or_false false = refl
-
 -- what is shown of two items, where it is known of each
-pub two_each : {A : Type 0} (Is : ℕ → Bool → A → List ℕ → Bool → Type 0) (number : ℕ) (later : Bool) (one other : A) (first second text : List ℕ) (is also any : Bool)
-    → ((l : Bool) (t : List ℕ) (b : Bool) → Is number l one t b → (t ≡ first) × (b ≡ is)) → ((l : Bool) (t : List ℕ) (b : Bool) → Is (number + 1) l other t b → (t ≡ second) × (b ≡ also))
-    → AreEach Is number later (one ∷ other ∷ []) text any → (text ≡ first ++ second) × (any ≡ (is || also))
-two_each Is number later one other first second text is also any front back are =
-    let here = front later are.0 are.2 are.4 in
+pub two_each : {A : Type 0} (Is : ℕ → ℕ → A → List ℕ → ℕ → Type 0) (number before : ℕ) (one other : A) (first second text : List ℕ) (is also count : ℕ)
+    → ((b : ℕ) (t : List ℕ) (n : ℕ) → Is number b one t n → (t ≡ first) × (n ≡ is)) → ((b : ℕ) (t : List ℕ) (n : ℕ) → Is (number + 1) b other t n → (t ≡ second) × (n ≡ also))
+    → AreEach Is number before (one ∷ other ∷ []) text count → (text ≡ first ++ second) × (count ≡ is + also)
+two_each Is number before one other first second text is also count front back are =
+    let here = front before are.0 are.2 are.4 in
     let rest = are.5 in
-    let there = back (later || are.2) rest.0 rest.2 rest.4 in (
+    let there = back (before + are.2) rest.0 rest.2 rest.4 in (
       are.6 ∙ ap (λ t. t ++ are.1) here.0 ∙ ap (λ t. first ++ t) (rest.6 ∙ ap (λ t. t ++ rest.1) there.0 ∙ ap (λ t. second ++ t) rest.5.0 ∙ append-nil second),
-      are.7 ∙ ap (λ b. b || are.3) here.1 ∙ ap (λ b. is || b) (rest.7 ∙ ap (λ b. b || rest.3) there.1 ∙ ap (λ b. also || b) rest.5.1 ∙ sym (or_false also)),
+      are.7 ∙ ap (λ n. n + are.3) here.1 ∙ ap (λ n. is + n) (rest.7 ∙ ap (λ n. n + rest.3) there.1 ∙ ap (λ n. also + n) rest.5.1 ∙ plus_zero also),
     )
+  where
+    plus_zero : (n : ℕ) → n + 0 ≡ n
+    plus_zero n = grind arith
 
 -- lines with location and value, as they are made
 abbrev pub plain : Look
-plain = record { output = compact_lines LocationAndValue; unit = None; ascii = false; colored = false }
+plain = record { output = compact_lines LocationAndValue; most_of_all = None; summed = false; unit = None; ascii = false; colours = None }
 
 -- the line of a node by a path to it, after a head
 abbrev pub line_to : List ℕ → List Step → Data → List ℕ
@@ -52,9 +51,9 @@ same_document : (d e : Data) → Some d ≡ Some e → d ≡ e
 same_document d e same = cc
 
 -- what is shown of a document by the normalised path of a node without doubles
-pub answer_is : (location : List Step) (rule : Numbers) (F : FunctionSet) (path : JsonPath) (later : Bool) (head bytes text : List ℕ) (any : Bool) (d v : Data) → IsNormal location → ResultIsUnique → IsPathOf rule (normal location) path
-    → read bytes ≡ Some d → at d location ≡ Some v → has_float v ≡ false → IsAnswerOn F path plain later head bytes text any → (text ≡ line_to head location v) × (any ≡ true)
-answer_is location rule F path later head bytes text any d v law unique parsed reads there whole shown =
+pub answer_is : (location : List Step) (rule : Numbers) (F : FunctionSet) (path : JsonPath) (later : Bool) (head bytes text : List ℕ) (count : ℕ) (d v : Data) → IsNormal location → ResultIsUnique → IsPathOf rule (normal location) path
+    → read bytes ≡ Some d → at d location ≡ Some v → has_float v ≡ false → IsAnswerOn F path plain later head bytes text count → (text ≡ line_to head location v) × (count ≡ 1)
+answer_is location rule F path later head bytes text count d v law unique parsed reads there whole shown =
     let is = shown.2 in
     let tree : tree_to location ≡ path_tree path = parsed.only (tree_to location) (law.accepted rule builtin_functions.signature) in
     let same : shown.0 ≡ d = same_document shown.0 d (sym shown.1.1 ∙ reads) in
@@ -64,7 +63,7 @@ answer_is location rule F path later head bytes text any d v law unique parsed r
     let only : is.0 ≡ node ∷ [] = unique (with_rule_of path F) d (path_tree path) d is.0 (node ∷ []) found result in
     let line : ArePieces plain later head (node ∷ []) text = subst (λ ns. ArePieces plain later head ns text) only is.2 in (
       line_is node text whole line,
-      is.3 ∙ ap (λ (ns : List Located). nat_lt 0 (length ns)) only,
+      is.3 ∙ ap (λ (ns : List Located). length ns) only,
     )
   where
     line_is : (node : Located) (text : List ℕ) → has_float node.value ≡ false → ArePieces plain later head (node ∷ []) text → text ≡ line_to head node.location node.value

@@ -5,7 +5,7 @@ use crate::tests::inputs::{MemoryInputs, words};
 use jpq_program::colours::{Colours, takes_colors};
 use jpq_program::run::run;
 use jpq_program::streams::Streams;
-use jsonpath_lines::colored;
+use jsonpath_lines::{Palette, colored};
 use std::alloc::Global;
 use std::test::Fail;
 use test_rows::{Came, fields, hold_rows};
@@ -28,13 +28,46 @@ const LINES: &[&str] = &[
     r#"json ~ [{"path":"$[0]","value":1}] -> [{<2"path">:<2"$[0]">,<2"value">:<61>}]"#,
     "count ~ 12\n -> <612>\n",
     "nothing ~  -> ",
+    // Strings side by side.
+    r#"value ~ "a""b":"c" -> <2"a""b">:<2"c">"#,
+];
+
+/// Colours of which each part has its own.
+fn own_colours() -> Palette<'static> {
+    Palette {
+        null_word: "31",
+        false_word: "32",
+        true_word: "33",
+        number: "34",
+        string: "35",
+        name: "36",
+        location: "37",
+    }
+}
+
+/// The same in colours of which each part has its own.
+const OWN_LINES: &[&str] = &[
+    "location and value ~ $['a \"b'][0]\tnull\n -> <7$['a \"b'][0]>\t<1null>\n",
+    "location and value ~ $['a']\t\"b\"\n$\t{\"c\":1}\n -> <7$['a']>\t<5\"b\">\n<7$>\t{<6\"c\">:<41>}\n",
+    r#"value ~ {"a":["b",{"c":"d"}]} -> {<6"a">:[<5"b">,{<6"c">:<5"d">}]}"#,
+    r#"value ~ {"a\"b\\":"c\"d\\"} -> {<6"a\"b\\">:<5"c\"d\\">}"#,
+    r#"value ~ [":",{":":":"}] -> [<5":">,{<6":">:<5":">}]"#,
+    r#"value ~ {"é":"\u00e9"} -> {<6"é">:<5"\u00e9">}"#,
+    "value ~ {\n  \"a\": \"b\"\n} -> {\n  <6\"a\">: <5\"b\">\n}",
+    "value ~ [1,-2.5e+3] -> [<41>,<4-2.5e+3>]",
+    "value ~ 1\n2\n -> <41>\n<42>\n",
+    "value ~ [null,false,true] -> [<1null>,<2false>,<3true>]",
+    r#"value ~ "a -> <5"a>"#,
+    "pointer ~ /a\"/1\n -> <7/a\"/1>\n",
+    r#"raw ~ {"a":1} -> {"a":1}"#,
+    r#"json ~ [{"path":"$[0]","value":1}] -> [{<6"path">:<5"$[0]">,<6"value">:<41>}]"#,
 ];
 
 /// A line in colours, with the short signs of the rows. The first field is its form.
-fn with_signs(alloc: Global, given: &str) -> Came {
+fn with_signs(alloc: Global, given: &str, palette: &Palette<'_>) -> Came {
     let (name, line) = fields(given)?;
     let mut text = String::new(alloc);
-    let line = colored(alloc, line, form(name)?)?;
+    let line = colored(alloc, line, form(name)?, palette)?;
     for part in line.as_str().split('\u{1b}') {
         match part.strip_prefix("[0m") {
             Some(plain) => {
@@ -56,9 +89,24 @@ fn push_coloured(text: &mut String, part: &str) -> Result<(), Fail> {
     }
 }
 
+/// A line in the usual colours.
+fn in_usual_colours(alloc: Global, given: &str) -> Came {
+    with_signs(alloc, given, &Palette::usual())
+}
+
+/// A line in colours of which each part has its own.
+fn in_own_colours(alloc: Global, given: &str) -> Came {
+    with_signs(alloc, given, &own_colours())
+}
+
 #[test]
 fn lines_in_colours(rt: HostRuntime) -> Result<(), Fail> {
-    hold_rows(&rt, LINES, with_signs)
+    hold_rows(&rt, LINES, in_usual_colours)
+}
+
+#[test]
+fn lines_in_own_colours(rt: HostRuntime) -> Result<(), Fail> {
+    hold_rows(&rt, OWN_LINES, in_own_colours)
 }
 
 /// What an output is, and what the environment says; and whether the output takes colours.

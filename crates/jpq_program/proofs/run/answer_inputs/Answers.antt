@@ -25,29 +25,29 @@ returns-else-is_empty-clause-all g c = IfOk-weaker c.answer_all-else-is_empty.re
     subst (Opens (g.I.Inputs.opened c.args.inputs.now) (g.I.Inputs.opened c.answer_all-else-is_empty.new.inputs)) (sym names) (all more)) c.answer_all-else-is_empty.ensures.all
 
 pub returns-then-is_empty-clause-answered : goal.returns-then-is_empty-clause-answered
-returns-then-is_empty-clause-answered g c = IfOk-weaker c.answer_all.result _ _ (λ next answered plain empty known.
+returns-then-is_empty-clause-answered g c = IfOk-weaker c.answer_all.result _ _ (λ next answered reads empty known.
     let none : nat_eq (length c.args.options.now.files.items) 0 ≡ true = grind (arith, nat_tests, common_steps, c.is_empty.ensures, c.if-is_empty.true) in
     let names = none_named c.args.options.now none in
     subst (λ (names : List (List ℕ)). SendsInputs g.W.Write.contents c.args.documents.now.answering next c.args.documents.now.lines (g.I.Inputs.bytes_of c.args.inputs.now) names c.args.streams.now c.answer_all.new.streams) (sym names)
-    (answered plain empty (subst (AreKnown (g.I.Inputs.bytes_of c.args.inputs.now)) names known))) c.answer_all.ensures.answered
+    (answered reads empty (subst (AreKnown (g.I.Inputs.bytes_of c.args.inputs.now)) names known))) c.answer_all.ensures.answered
 
 pub returns-then-is_empty-clause-begun : goal.returns-then-is_empty-clause-begun
-returns-then-is_empty-clause-begun g c = λ plain empty known.
+returns-then-is_empty-clause-begun g c = λ reads empty known.
     let none : nat_eq (length c.args.options.now.files.items) 0 ≡ true = grind (arith, nat_tests, common_steps, c.is_empty.ensures, c.if-is_empty.true) in
     let names = none_named c.args.options.now none in
     subst (λ (names : List (List ℕ)). Begins g.W.Write.contents (AreInputsShown (wanted_in_part_by c.args.documents.now.answering) c.args.documents.now.lines (g.I.Inputs.bytes_of c.args.inputs.now) names c.args.streams.now.total) c.args.streams.now c.answer_all.new.streams) (sym names)
-    (c.answer_all.ensures.begun plain empty (subst (AreKnown (g.I.Inputs.bytes_of c.args.inputs.now)) names known))
+    (c.answer_all.ensures.begun reads empty (subst (AreKnown (g.I.Inputs.bytes_of c.args.inputs.now)) names known))
 
 pub returns-else-is_empty-clause-answered : goal.returns-else-is_empty-clause-answered
-returns-else-is_empty-clause-answered g c = IfOk-weaker c.answer_all-else-is_empty.result _ _ (λ next answered plain empty known.
+returns-else-is_empty-clause-answered g c = IfOk-weaker c.answer_all-else-is_empty.result _ _ (λ next answered reads empty known.
     let some : nat_eq (length c.args.options.now.files.items) 0 ≡ false = grind (arith, nat_tests, common_steps, c.is_empty.ensures, c.if-is_empty.false) in
     let names = some_named c.args.options.now some ∙ ap (map (λ (file : Bor (List ℕ)). file.now)) (sym c.deref.ensures.value) in
     subst (λ (names : List (List ℕ)). SendsInputs g.W.Write.contents c.args.documents.now.answering next c.args.documents.now.lines (g.I.Inputs.bytes_of c.args.inputs.now) names c.args.streams.now c.answer_all-else-is_empty.new.streams) (sym names)
-    (answered plain empty (subst (AreKnown (g.I.Inputs.bytes_of c.args.inputs.now)) names known))) c.answer_all-else-is_empty.ensures.answered
+    (answered reads empty (subst (AreKnown (g.I.Inputs.bytes_of c.args.inputs.now)) names known))) c.answer_all-else-is_empty.ensures.answered
 
 pub returns-else-is_empty-clause-begun : goal.returns-else-is_empty-clause-begun
-returns-else-is_empty-clause-begun g c = λ plain empty known.
+returns-else-is_empty-clause-begun g c = λ reads empty known.
     let some : nat_eq (length c.args.options.now.files.items) 0 ≡ false = grind (arith, nat_tests, common_steps, c.is_empty.ensures, c.if-is_empty.false) in
     let names = some_named c.args.options.now some ∙ ap (map (λ (file : Bor (List ℕ)). file.now)) (sym c.deref.ensures.value) in
     subst (λ (names : List (List ℕ)). Begins g.W.Write.contents (AreInputsShown (wanted_in_part_by c.args.documents.now.answering) c.args.documents.now.lines (g.I.Inputs.bytes_of c.args.inputs.now) names c.args.streams.now.total) c.args.streams.now c.answer_all-else-is_empty.new.streams) (sym names)
-    (c.answer_all-else-is_empty.ensures.begun plain empty (subst (AreKnown (g.I.Inputs.bytes_of c.args.inputs.now)) names known))
+    (c.answer_all-else-is_empty.ensures.begun reads empty (subst (AreKnown (g.I.Inputs.bytes_of c.args.inputs.now)) names known))

@@ -18,28 +18,28 @@ returns-in-Ok-Run-clause-comes g c =
       | inr wrong ↦ inr (wrong.0, λ none. absurd (grind (arith, common_steps, none, wrong.1, c.is_empty.ensures)))
     ] in
     let untold = λ (next : Next) (is : ended ≡ Ok next). c.exit_status.ensures.quiet (ap told_after is) in
-    let answered : IsPlainRun options c.args.colours → AreKnown (g.I.Inputs.bytes_of c.args.inputs.now) (path_files_in options) → AreKnown (g.I.Inputs.bytes_of c.args.inputs.now) (names_in options) → c.exit_status.result ≤ 1
-    → IsAnswered g.W.Write.contents (g.I.Inputs.bytes_of c.args.inputs.now) options c.args.colours.taken c.args.streams.now.out c.exit_status.new.streams.out c.exit_status.result
+    let answered : IsPlainRun options → AreKnown (g.I.Inputs.bytes_of c.args.inputs.now) (path_files_in options) → AreKnown (g.I.Inputs.bytes_of c.args.inputs.now) (names_in options) → c.exit_status.result ≤ 1
+    → IsAnswered g.W.Write.contents (g.I.Inputs.bytes_of c.args.inputs.now) options c.args.colours c.args.streams.now.out c.exit_status.new.streams.out c.exit_status.result
     × (options.most_of_all ≡ None → Opens (g.I.Inputs.opened c.args.inputs.now) (g.I.Inputs.opened c.run_with-ended.new.inputs) (opened_in options)) × TellsNothing options c.args.streams.now c.exit_status.new.streams = λ run files known few.
     let well = ended_well ended (not c.is_empty.result) outcome c.exit_status.result (subst (λ (quiet : Bool). c.exit_status.result ≡ status_after ended (not c.is_empty.result) quiet outcome) (c.is_quiet-quiet.ensures ∙ each_shown options.shown run.each) c.exit_status.ensures.status) few in
-    let done = of_ok _ ended well.0 well.1 c.run_with-ended.ensures.answered (inl run) c.restart.ensures.outcome c.restart.ensures.total c.restart.ensures.pending files known in (
-      run_ended g.W.Write.contents (g.I.Inputs.bytes_of c.args.inputs.now) options c.args.colours.taken c.args.streams.now.out c.restart.new.self.out c.run_with-ended.new.streams.out c.exit_status.new.streams.out outcome c.exit_status.result
+    let done = of_ok _ ended well.0 well.1 c.run_with-ended.ensures.answered run.usual c.restart.ensures.outcome c.restart.ensures.total c.restart.ensures.pending files known in (
+      run_ended g.W.Write.contents (g.I.Inputs.bytes_of c.args.inputs.now) options c.args.colours c.args.streams.now.out c.restart.new.self.out c.run_with-ended.new.streams.out c.exit_status.new.streams.out outcome c.exit_status.result
           c.restart.ensures.out c.exit_status.ensures.out well.3
-          (plain_answered g.W.Write.contents (g.I.Inputs.bytes_of c.args.inputs.now) options c.args.colours.taken well.0 c.restart.new.self c.run_with-ended.new.streams run.each well.2 done),
+          (plain_answered g.W.Write.contents (g.I.Inputs.bytes_of c.args.inputs.now) options c.args.colours well.0 c.restart.new.self c.run_with-ended.new.streams run.each well.2 done),
       λ all. of_ok _ ended well.0 well.1 c.run_with-ended.ensures.all run.usual.check (all_wanted _ _ well.0 c.run_with-ended.new.streams (plain_whole options well.0 c.run_with-ended.new.streams run.each done.ends) all done.ends),
       λ silent. untold well.0 well.1 ∙ done.told silent well.2 ∙ c.restart.ensures.err,
     ) in
     let found : IsQuietRun options → AreKnown (g.I.Inputs.bytes_of c.args.inputs.now) (path_files_in options) → AreKnown (g.I.Inputs.bytes_of c.args.inputs.now) (names_in options)
-    → Appends (g.W.Write.contents c.args.streams.now.out) (g.W.Write.contents c.exit_status.new.streams.out) [] × (c.exit_status.result ≤ 1 → IsFound (g.I.Inputs.bytes_of c.args.inputs.now) options c.args.colours.taken c.exit_status.result)
+    → Appends (g.W.Write.contents c.args.streams.now.out) (g.W.Write.contents c.exit_status.new.streams.out) [] × (c.exit_status.result ≤ 1 → IsFound (g.I.Inputs.bytes_of c.args.inputs.now) options c.args.colours c.exit_status.result)
     × (c.exit_status.result ≡ 1 → (options.most_of_all ≡ None → Opens (g.I.Inputs.opened c.args.inputs.now) (g.I.Inputs.opened c.run_with-ended.new.inputs) (opened_in options)) × TellsNothing options c.args.streams.now c.exit_status.new.streams) = λ run files known.
     let status_is = subst (λ (quiet : Bool). c.exit_status.result ≡ status_after ended (not c.is_empty.result) quiet outcome) (c.is_quiet-quiet.ensures ∙ ap is_quiet run.shown) c.exit_status.ensures.status in
-    let done = λ (next : Next) (is : ended ≡ Ok next). of_ok _ ended next is c.run_with-ended.ensures.answered (inr run) c.restart.ensures.outcome c.restart.ensures.total c.restart.ensures.pending files known in (
-      quiet_out g.W.Write.contents (g.I.Inputs.bytes_of c.args.inputs.now) options c.args.colours.taken c.args.streams.now.out c.exit_status.new.streams.out run
-          (out_since (IsAnsweredInPart g.W.Write.contents (g.I.Inputs.bytes_of c.args.inputs.now) options c.args.colours.taken) c.args.streams.now.out c.restart.new.self.out c.run_with-ended.new.streams.out c.exit_status.new.streams.out
-          c.restart.ensures.out c.exit_status.ensures.out (c.run_with-ended.ensures.in_part (inr run) c.restart.ensures.total c.restart.ensures.pending files known)),
+    let done = λ (next : Next) (is : ended ≡ Ok next). of_ok _ ended next is c.run_with-ended.ensures.answered run.usual c.restart.ensures.outcome c.restart.ensures.total c.restart.ensures.pending files known in (
+      quiet_out g.W.Write.contents (g.I.Inputs.bytes_of c.args.inputs.now) options c.args.colours c.args.streams.now.out c.exit_status.new.streams.out run
+          (out_since (IsAnsweredInPart g.W.Write.contents (g.I.Inputs.bytes_of c.args.inputs.now) options c.args.colours) c.args.streams.now.out c.restart.new.self.out c.run_with-ended.new.streams.out c.exit_status.new.streams.out
+          c.restart.ensures.out c.exit_status.ensures.out (c.run_with-ended.ensures.in_part run.usual c.restart.ensures.total c.restart.ensures.pending files known)),
       (λ few.
           let well = ended_quietly ended (not c.is_empty.result) outcome c.exit_status.result status_is few in
-          quiet_found g.W.Write.contents (g.I.Inputs.bytes_of c.args.inputs.now) options c.args.colours.taken well.0 c.restart.new.self c.run_with-ended.new.streams c.exit_status.result run well.2 well.3 (done well.0 well.1)),
+          quiet_found g.W.Write.contents (g.I.Inputs.bytes_of c.args.inputs.now) options c.args.colours well.0 c.restart.new.self c.run_with-ended.new.streams c.exit_status.result run well.2 well.3 (done well.0 well.1)),
       (λ one.
           let well = ended_quietly ended (not c.is_empty.result) outcome c.exit_status.result status_is (omega (arith, one)) in
           let came = done well.0 well.1 in (
@@ -55,10 +55,10 @@ returns-in-Ok-Run-clause-comes g c =
           (of_ok _ ended well.0 well.1 c.run_with-ended.ensures.checked run c.restart.ensures.outcome c.restart.ensures.pending known),
       λ silent. untold well.0 well.1 ∙ of_ok _ ended well.0 well.1 c.run_with-ended.ensures.check_told run.check silent ∙ c.restart.ensures.err,
     ) in
-    let in_part : IsPlainRun options c.args.colours → AreKnown (g.I.Inputs.bytes_of c.args.inputs.now) (path_files_in options) → AreKnown (g.I.Inputs.bytes_of c.args.inputs.now) (names_in options)
-    → IsAnsweredInPart g.W.Write.contents (g.I.Inputs.bytes_of c.args.inputs.now) options c.args.colours.taken c.args.streams.now.out c.exit_status.new.streams.out = λ run files known.
-    out_since (IsAnsweredInPart g.W.Write.contents (g.I.Inputs.bytes_of c.args.inputs.now) options c.args.colours.taken) c.args.streams.now.out c.restart.new.self.out c.run_with-ended.new.streams.out c.exit_status.new.streams.out
-    c.restart.ensures.out c.exit_status.ensures.out (c.run_with-ended.ensures.in_part (inl run) c.restart.ensures.total c.restart.ensures.pending files known) in
+    let in_part : IsPlainRun options → AreKnown (g.I.Inputs.bytes_of c.args.inputs.now) (path_files_in options) → AreKnown (g.I.Inputs.bytes_of c.args.inputs.now) (names_in options)
+    → IsAnsweredInPart g.W.Write.contents (g.I.Inputs.bytes_of c.args.inputs.now) options c.args.colours c.args.streams.now.out c.exit_status.new.streams.out = λ run files known.
+    out_since (IsAnsweredInPart g.W.Write.contents (g.I.Inputs.bytes_of c.args.inputs.now) options c.args.colours) c.args.streams.now.out c.restart.new.self.out c.run_with-ended.new.streams.out c.exit_status.new.streams.out
+    c.restart.ensures.out c.exit_status.ensures.out (c.run_with-ended.ensures.in_part run.usual c.restart.ensures.total c.restart.ensures.pending files known) in
     let checked_in_part : IsCheckRun options → AreKnown (g.I.Inputs.bytes_of c.args.inputs.now) (path_files_in options) → IsCheckedInPart g.W.Write.contents (g.I.Inputs.bytes_of c.args.inputs.now) options c.args.streams.now.out c.exit_status.new.streams.out = λ run known.
     out_since (IsCheckedInPart g.W.Write.contents (g.I.Inputs.bytes_of c.args.inputs.now) options) c.args.streams.now.out c.restart.new.self.out c.run_with-ended.new.streams.out c.exit_status.new.streams.out
     c.restart.ensures.out c.exit_status.ensures.out (c.run_with-ended.ensures.checked_in_part run c.restart.ensures.pending known) in

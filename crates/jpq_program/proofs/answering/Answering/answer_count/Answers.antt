@@ -1,4 +1,4 @@
-use Rattle.jpq_program.proofs.Words.{◌≡◌, ◌∙◌, ◌++◌, [], List, ap, append-nil, arith, common_steps, false, inl, refl, string_bytes, subst, sym, true, view, ℕ, AnswersPath, builtin_functions, look_after, look_of, IsAnswerInPart, IsAnswerOn, Look, Option, Streams}
+use Rattle.jpq_program.proofs.Words.{◌∙◌, [], List, ap, append-nil, arith, common_steps, false, inl, refl, string_bytes, subst, sym, true, view, ℕ, AnswersPath, builtin_functions, look_after, look_of, IsAnswerInPart, IsAnswerOn, Look, Streams}
 use Rattle.jpq_program.proofs.Shown.{nothing_answered, on_ok_then, path_counted, shows_count, sums_up}
 use Rattle.jpq_program.proofs.answering.Answering.answer_count.Goals as goal
 use Rattle.jpq_program.proofs.answering.Answering.answer_count.Goals.{then-not-self+in_ok-push_str-in-Ok, else-not-self}

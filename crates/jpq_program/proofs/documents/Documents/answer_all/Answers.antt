@@ -9,7 +9,7 @@ pub returns-then-is_done-clause-opens : goal.returns-then-is_done-clause-opens
 returns-then-is_done-clause-opens g c = opens_some c.args.names.now 0 (g.I.Inputs.opened c.args.inputs.now) (g.I.Inputs.opened c.args.inputs.now) (opens_none (g.I.Inputs.opened c.args.inputs.now))
 
 pub returns-then-is_done-clause-answered : goal.returns-then-is_done-clause-answered
-returns-then-is_done-clause-answered g c = λ plain empty known.
+returns-then-is_done-clause-answered g c = λ reads empty known.
     let enough = sym c.is_done.ensures ∙ c.if-is_done.true in
     let Is = AreInputsShown (wanted_by c.args.self.now.answering) c.args.self.now.lines (g.I.Inputs.bytes_of c.args.inputs.now) (map (λ (name : Bor (List ℕ)). name.now) c.args.names.now) c.args.streams.now.total in
     let IsPart = AreInputsShown (wanted_in_part_by c.args.self.now.answering) c.args.self.now.lines (g.I.Inputs.bytes_of c.args.inputs.now) (map (λ (name : Bor (List ℕ)). name.now) c.args.names.now) c.args.streams.now.total in
@@ -20,7 +20,7 @@ returns-then-is_done-clause-answered g c = λ plain empty known.
     )
 
 pub returns-then-is_done-clause-begun : goal.returns-then-is_done-clause-begun
-returns-then-is_done-clause-begun g c = λ plain empty known.
+returns-then-is_done-clause-begun g c = λ reads empty known.
     nothing_begun g.W.Write.contents (AreInputsShown (wanted_in_part_by c.args.self.now.answering) c.args.self.now.lines (g.I.Inputs.bytes_of c.args.inputs.now) (map (λ (name : Bor (List ℕ)). name.now) c.args.names.now) c.args.streams.now.total) c.args.streams.now c.args.streams.now
     (no_named (wanted_in_part_by c.args.self.now.answering) c.args.self.now.lines (g.I.Inputs.bytes_of c.args.inputs.now) (map (λ (name : Bor (List ℕ)). name.now) c.args.names.now) c.args.streams.now.total (λ name number bytes. no_answer c.args.self.now.answering name number bytes c.args.streams.now.total) known 1) refl
 
@@ -30,7 +30,7 @@ pub loop-name-init : goal.loop-name-init
 loop-name-init g c = (
   λ name. refl,
   opens_none (g.I.Inputs.opened c.args.inputs.now),
-  λ plain empty known. (
+  λ reads empty known. (
     (none_answered g.W.Write.contents (λ number so_far name. IsNamedShown (wanted_by c.args.self.now.answering) c.args.self.now.lines (g.I.Inputs.bytes_of c.args.inputs.now) name so_far) (λ number so_far name. IsNamedShown (wanted_in_part_by c.args.self.now.answering) c.args.self.now.lines (g.I.Inputs.bytes_of c.args.inputs.now) name so_far) 1 c.args.streams.now.total c.args.streams.now, empty),
     sym c.is_done.ensures ∙ c.if-is_done.false,
   ),
@@ -42,10 +42,10 @@ loop-name-preserved g c =
     let ensures = c.in_ok-ended.ensures in (
       λ name. ensures.same name ∙ same name,
       opens_further c.args.names.now c.loop-name.name-index _ (g.I.Inputs.opened c.args.inputs.now) (g.I.Inputs.opened c.loop-name.inputs) (g.I.Inputs.opened c.answer_input.new.inputs) c.loop-name-test.true c.loop-name.invariant.1 ensures.opens,
-      λ plain empty known.
-          let before = c.loop-name.invariant.2 plain empty known in
+      λ reads empty known.
+          let before = c.loop-name.invariant.2 reads empty known in
           let sent = input_sent g.W.Write.contents c.args.self.now.answering.showing.output.form c.args.self.now.answering.showing.most_of_all (wanted_by c.args.self.now.answering) (wanted_in_part_by c.args.self.now.answering) c.args.self.now.lines (g.I.Inputs.bytes_of c.args.inputs.now) (g.I.Inputs.bytes_of c.loop-name.inputs) c.args.names.now c.loop-name.name-index
-          _ c.in_ok-ended.ended c.args.streams.now c.loop-name.streams c.answer_input.new.streams (ap is_whole c.in-More.is) c.loop-name-test.true same known (ensures.answered plain before.1 before.0.1) before.0.0 in
+          _ c.in_ok-ended.ended c.args.streams.now c.loop-name.streams c.answer_input.new.streams (ap is_whole c.in-More.is) c.loop-name-test.true same known (ensures.answered reads before.1 before.0.1) before.0.0 in
           (sent.1, subst (λ (next : Next). Ends c.args.self.now.answering.showing.output.form c.args.self.now.answering.showing.most_of_all next c.answer_input.new.streams) c.in-More.is sent.0),
     )
 
@@ -56,8 +56,8 @@ pub returns-clause-all : goal.returns-clause-all
 returns-clause-all g c = λ more. opens_all c.args.names.now c.loop-name.name-index (g.I.Inputs.opened c.args.inputs.now) (g.I.Inputs.opened c.loop-name.inputs) c.loop-name-test.false c.loop-name.invariant.1
 
 pub returns-clause-answered : goal.returns-clause-answered
-returns-clause-answered g c = λ plain empty known.
-    let sent = c.loop-name.invariant.2 plain empty known in
+returns-clause-answered g c = λ reads empty known.
+    let sent = c.loop-name.invariant.2 reads empty known in
     goes_on g.W.Write.contents c.args.self.now.answering.showing.output.form c.args.self.now.answering.showing.most_of_all _ _ More c.args.streams.now c.loop-name.streams sent.1 (
       all_answered g.W.Write.contents (λ number so_far name. IsNamedShown (wanted_by c.args.self.now.answering) c.args.self.now.lines (g.I.Inputs.bytes_of c.args.inputs.now) name so_far) (λ number so_far name. IsNamedShown (wanted_in_part_by c.args.self.now.answering) c.args.self.now.lines (g.I.Inputs.bytes_of c.args.inputs.now) name so_far) (λ (name : Bor (List ℕ)). name.now)
           c.args.names.now c.loop-name.name-index c.args.streams.now c.loop-name.streams c.loop-name-test.false sent.0.0,
@@ -76,27 +76,27 @@ pub returns-in_default-clause-all : goal.returns-in_default-clause-all
 returns-in_default-clause-all g c = λ more. absurd (c.in_default.not-More more)
 
 pub returns-in_default-clause-answered : goal.returns-in_default-clause-answered
-returns-in_default-clause-answered g c = λ plain empty known.
-    let before = c.loop-name.invariant.2 plain empty known in
+returns-in_default-clause-answered g c = λ reads empty known.
+    let before = c.loop-name.invariant.2 reads empty known in
     input_until g.W.Write.contents c.args.self.now.answering.showing.output.form c.args.self.now.answering.showing.most_of_all (wanted_by c.args.self.now.answering) (wanted_in_part_by c.args.self.now.answering) c.args.self.now.lines (g.I.Inputs.bytes_of c.args.inputs.now) (g.I.Inputs.bytes_of c.loop-name.inputs) c.args.names.now c.loop-name.name-index
     _ c.in_ok-ended.ended c.args.streams.now c.loop-name.streams c.answer_input.new.streams (λ whole enough. enough_answer c.args.self.now.answering c.answer_input.new.streams.total enough) (no_answer c.args.self.now.answering) c.in_default.not-More
-    c.loop-name-test.true c.loop-name.invariant.0 known (c.in_ok-ended.ensures.answered plain before.1 before.0.1) before.0.0
+    c.loop-name-test.true c.loop-name.invariant.0 known (c.in_ok-ended.ensures.answered reads before.1 before.0.1) before.0.0
 
 -- ---- of what a beginning is out, however it ends
 
 pub returns-in_default-clause-begun : goal.returns-in_default-clause-begun
-returns-in_default-clause-begun g c = λ plain empty known.
-    let before = c.loop-name.invariant.2 plain empty known in
+returns-in_default-clause-begun g c = λ reads empty known.
+    let before = c.loop-name.invariant.2 reads empty known in
     input_begun g.W.Write.contents (wanted_by c.args.self.now.answering) (wanted_in_part_by c.args.self.now.answering) c.args.self.now.lines (g.I.Inputs.bytes_of c.args.inputs.now) (g.I.Inputs.bytes_of c.loop-name.inputs) c.args.names.now c.loop-name.name-index
-    _ c.args.streams.now c.loop-name.streams c.answer_input.new.streams (no_answer c.args.self.now.answering) c.loop-name-test.true c.loop-name.invariant.0 known (c.answer_input.ensures.begun plain before.1 before.0.1) before.0.0
+    _ c.args.streams.now c.loop-name.streams c.answer_input.new.streams (no_answer c.args.self.now.answering) c.loop-name-test.true c.loop-name.invariant.0 known (c.answer_input.ensures.begun reads before.1 before.0.1) before.0.0
 
 pub returns-in_err-ended-clause-begun : goal.returns-in_err-ended-clause-begun
-returns-in_err-ended-clause-begun g c = λ plain empty known.
-    let before = c.loop-name.invariant.2 plain empty known in
+returns-in_err-ended-clause-begun g c = λ reads empty known.
+    let before = c.loop-name.invariant.2 reads empty known in
     input_begun g.W.Write.contents (wanted_by c.args.self.now.answering) (wanted_in_part_by c.args.self.now.answering) c.args.self.now.lines (g.I.Inputs.bytes_of c.args.inputs.now) (g.I.Inputs.bytes_of c.loop-name.inputs) c.args.names.now c.loop-name.name-index
-    _ c.args.streams.now c.loop-name.streams c.answer_input.new.streams (no_answer c.args.self.now.answering) c.loop-name-test.true c.loop-name.invariant.0 known (c.answer_input.ensures.begun plain before.1 before.0.1) before.0.0
+    _ c.args.streams.now c.loop-name.streams c.answer_input.new.streams (no_answer c.args.self.now.answering) c.loop-name-test.true c.loop-name.invariant.0 known (c.answer_input.ensures.begun reads before.1 before.0.1) before.0.0
 
 pub returns-clause-begun : goal.returns-clause-begun
-returns-clause-begun g c = λ plain empty known.
-    let sent = returns-clause-answered g c plain empty known in
+returns-clause-begun g c = λ reads empty known.
+    let sent = returns-clause-answered g c reads empty known in
     answered_begun g.W.Write.contents _ _ c.args.streams.now c.loop-name.streams sent.1.0

@@ -20,7 +20,7 @@ returns-clause-taken g c =
       count = search rules;
       further = λ more. (ap (λ (w : Written g.row.W.Denot g.row.E.Denot). w.stop) pushed.kept, grind (arith, common_steps, more, c.is_reached.ensures));
       enough = λ more _. grind (arith, common_steps, more, c.is_reached.ensures);
-      node = λ _ _ plain. node_written (look_of c.args.self.now.showing.now) (is_after c.args.self.now) c.args.self.now.head.now (located c.args.node.now) (g.W.Write.contents c.args.self.now.streams.now.out) _ _ _ _ (c.in_ok-push_pending.ensures.node plain)
+      node = λ _ _ has. node_written (look_of c.args.self.now.showing.now) (is_after c.args.self.now) c.args.self.now.head.now (located c.args.node.now) (g.W.Write.contents c.args.self.now.streams.now.out) _ _ _ _ (c.in_ok-push_pending.ensures.node has)
           (subst (λ (out : Option (List ℕ)). Adds out (string_bytes c.push_pending.new.self.streams.now.pending) (g.W.Write.contents c.write_if_full.new.self.out) (string_bytes c.write_if_full.new.self.pending) [])
           (ap (λ (s : Streams g.row.W.Denot g.row.E.Denot). g.W.Write.contents s.out) pushed.streams) c.in_default.ensures.whole);
     }
@@ -28,7 +28,7 @@ returns-clause-taken g c =
 pub returns-clause-begun : goal.returns-clause-begun
 returns-clause-begun g c = record {
   rest = (returns-clause-taken g c).rest;
-  written = λ plain. node_begun (look_of c.args.self.now.showing.now) (is_after c.args.self.now) c.args.self.now.head.now (located c.args.node.now) (g.W.Write.contents c.args.self.now.streams.now.out) _ _ _ (c.in_ok-push_pending.ensures.node plain)
+  written = λ has. node_begun (look_of c.args.self.now.showing.now) (is_after c.args.self.now) c.args.self.now.head.now (located c.args.node.now) (g.W.Write.contents c.args.self.now.streams.now.out) _ _ _ (c.in_ok-push_pending.ensures.node has)
       (subst (λ (out : Option (List ℕ)). AppendsBeginning out (g.W.Write.contents c.write_if_full.new.self.out) (string_bytes c.push_pending.new.self.streams.now.pending))
       (ap (λ (s : Streams g.row.W.Denot g.row.E.Denot). g.W.Write.contents s.out) c.push_pending.ensures.kept.streams) c.write_if_full.ensures.beginning);
 }
@@ -48,7 +48,7 @@ returns-in-Err-clause-begun g c =
         err = ap (λ (s : Streams g.row.W.Denot g.row.E.Denot). s.err) kept ∙ ap (λ (s : Streams g.row.W.Denot g.row.E.Denot). s.err) pushed.streams;
         total = ap (λ (s : Streams g.row.W.Denot g.row.E.Denot). s.total) kept ∙ ap (λ (s : Streams g.row.W.Denot g.row.E.Denot). s.total) pushed.streams;
       };
-      written = λ plain. node_begun (look_of c.args.self.now.showing.now) (is_after c.args.self.now) c.args.self.now.head.now (located c.args.node.now) (g.W.Write.contents c.args.self.now.streams.now.out) _ _ _ (c.in_ok-push_pending.ensures.node plain)
+      written = λ has. node_begun (look_of c.args.self.now.showing.now) (is_after c.args.self.now) c.args.self.now.head.now (located c.args.node.now) (g.W.Write.contents c.args.self.now.streams.now.out) _ _ _ (c.in_ok-push_pending.ensures.node has)
           (subst (λ (out : Option (List ℕ)). AppendsBeginning out (g.W.Write.contents c.write_if_full.new.self.out) (string_bytes c.push_pending.new.self.streams.now.pending))
           (ap (λ (s : Streams g.row.W.Denot g.row.E.Denot). g.W.Write.contents s.out) pushed.streams) c.write_if_full.ensures.beginning);
     }
