@@ -84,7 +84,7 @@ impl Answering<'_> {
         ensures refused { OnlyMemoryOrPattern (with_rule_of path.now.path builtin_functions)
             (path_tree path.now.path) (view document.now) result }
     {
-        let walk = path.path.walk_under(self.alloc, document, &self.functions)?;
+        let mut walk = path.path.walk_under(self.alloc, document, &self.functions)?;
         if written.is_reached() {
             return Ok(());
         }
@@ -92,7 +92,7 @@ impl Answering<'_> {
             let nodes = distinct_nodes(self.alloc, written.limit, walk)?;
             return written.take_each(&nodes);
         }
-        written.take_rest(self.alloc, walk)
+        written.take_rest(self.alloc, &mut walk)
     }
 
     /// The same of a document. Where a pattern is refused before a node is written, the whole document is asked, so that what is

@@ -1,6 +1,6 @@
 //! Nodes that are written as a walk gives them.
 
-ghost use Rattle.std.specs.Prelude.{◌≡◌, [], ◌∷◌, IfErr, IfOk, OnOk, map};
+ghost use Rattle.std.specs.Prelude.{◌≡◌, [], ◌∷◌, IfErr, IfOk, OnOk, drop, map};
 ghost use Rattle.serde_json_path_nodes.specs.Views.{located};
 ghost use Rattle.serde_json_path_core.specs.Selects.{OnlyMemoryOrPattern};
 ghost use Rattle.serde_json_path_core.specs.Walks.{document_of, query_of, rest, set_of};
@@ -78,20 +78,23 @@ impl<W: Write, E: Write> Written<'_, '_, '_, '_, W, E> {
         Ok(!self.is_reached())
     }
 
-    /// Takes the nodes that remain of a walk, as many as are wanted. Where the query is refused, those before are written.
+    /// Takes the nodes that remain of a walk, as many as are wanted, and goes no further. Where the query is refused, those before
+    /// are written.
     pub(crate) fn take_rest(
         &mut self,
         alloc: Global,
-        mut walk: Walk<'_, '_, &CachedPatterns<'_>>,
+        walk: &mut Walk<'_, '_, &CachedPatterns<'_>>,
     ) -> Result<(), QueryError>
         requires { TookNodes W.contents self.old [] self.old }
         ensures filled { IfOk result (λ _.
-            FilledNodes W.contents self.old (rest walk.entry) self.new) }
+            FilledNodes W.contents self.old (rest walk.old) self.new) }
+        ensures stands { IfOk result (λ _. self.old.count ≡ 0
+            → rest walk.new ≡ drop self.new.count (rest walk.old)) }
         ensures before { IfErr result (λ e. e ≡ QueryError.Pattern →
-            TookFirst W.contents self.old (rest walk.entry) self.new) }
-        ensures begun { BeginsFirst W.contents self.old (rest walk.entry) self.new }
-        ensures refused { OnlyMemoryOrPattern (set_of walk.entry) (query_of walk.entry)
-            (document_of walk.entry) result }
+            TookFirst W.contents self.old (rest walk.old) self.new) }
+        ensures begun { BeginsFirst W.contents self.old (rest walk.old) self.new }
+        ensures refused { OnlyMemoryOrPattern (set_of walk.old) (query_of walk.old)
+            (document_of walk.old) result }
     {
         let mut steps = Vec::new(alloc);
         'nodes: while let Some(node) = walk.next_into(steps)? {
