@@ -68,7 +68,6 @@ const RUNS: &[&str] = &[
     "-m  1  -L  -c  $.* ~ [1,2]\n[3] -> 0: 1~",
     "-m  0  -c  $.* ~ [ -> 1: ",
     "-m  2  -L  -v  $.* ~ [1]\n[2]\n[ -> 0: 1~2~",
-    "-m  2  -L  --tsv  -e  $[0]  -e  $[1] ~ [1]\n[2,3]\n[4] -> 0: 1\t~2\t3~",
     "-m  3  -L  -j  $.* ~ [1]\n[2,3,4]\n[5] -> 0: [{\"line\":1,\"path\":\"$[0]\",\"value\":1}]~[{\"line\":2,\"path\":\"$[0]\",\"value\":2},{\"line\":2,\"path\":\"$[1]\",\"value\":3}]~",
     "-m  3  -c  -e  $.*  -e  $.a  one.json  two.json -> 0: one.json\t1\t1~one.json\t2\t1~two.json\t1\t1~two.json\t2\t0~",
     "-m  3  -c  --total  -e  $.*  -e  $.a  one.json  two.json -> 0: 3~",
