@@ -73,13 +73,14 @@ pub use json::FromJsonError;
 pub use laws::{law_locations_are_proper, law_normal, law_set_before_itself};
 pub use path::JsonPath;
 pub use serde_json_path_core::{
-    AtMostOneError, ExactlyOneError, LocatedNode, LocatedNodeList, LocatedNodes, Locations,
-    NodeList, Nodes, NormalizedPath, Numbers, PathElement, PathElements, QueryError, Sink, Taken,
-    Walk, functions, law_append, law_before_is_asymmetric, law_descendants_in_document_order,
-    law_each_document_has_a_height, law_equality_is_an_equivalence, law_equality_of_numbers,
-    law_integers_keep_their_order, law_less_or_equal_is_either, law_not_equal_negates_equal,
-    law_numbers_are_finite, law_order_is_total, law_order_of_numbers, law_result_exists,
-    law_result_is_unique, law_singular_query_selects_at_most_one, law_texts_tell_locations,
+    AtMostOneError, Binding, ExactlyOneError, LocatedNode, LocatedNodeList, LocatedNodes,
+    Locations, NodeList, Nodes, NormalizedPath, Numbers, PathElement, PathElements, QueryError,
+    Sink, Taken, Walk, functions, law_append, law_before_is_asymmetric,
+    law_descendants_in_document_order, law_each_document_has_a_height,
+    law_equality_is_an_equivalence, law_equality_of_numbers, law_integers_keep_their_order,
+    law_less_or_equal_is_either, law_not_equal_negates_equal, law_numbers_are_finite,
+    law_order_is_total, law_order_of_numbers, law_result_exists, law_result_is_unique,
+    law_singular_query_selects_at_most_one, law_texts_tell_locations,
 };
 pub use serde_json_path_parser::{
     ParseError, ParseErrorKind, PathSource, TextSource, law_all_numbers_read_more,

@@ -1,12 +1,16 @@
 //! Paths.
 
 ghost use Rattle.std.specs.Prelude.{◌≡◌, [], IfOk, IfErr, IsTrue, ◌↔◌};
+ghost use Rattle.serde_json_path_syntax.specs.Bound.{bound, value_in};
+ghost use Rattle.serde_json_path_syntax.specs.Bindings.{pairs_of};
 ghost use Rattle.serde_json_path.specs.Words.{view, located_nodes, node_values, query, root, no_segments, tree_of, signatures_of, rule_of, OnlyMemoryOrPattern, Selects, SelectsValues, rest, query_of, set_of, document_of, Fits, whole_numbers, before_builtin, builtin_functions, numbers_view, Memory};
 
 use crate::source::parse_source;
 use serde_json::Value;
 use serde_json_path_core::functions::{Both, Builtin, CachedPatterns, Functions, PatternStore};
-use serde_json_path_core::{Checked, Numbers, QueryError, Walk, evaluate, evaluate_located, walk};
+use serde_json_path_core::{
+    Binding, Checked, Numbers, QueryError, Walk, evaluate, evaluate_located, walk,
+};
 use serde_json_path_nodes::{LocatedNodeList, NodeList};
 use serde_json_path_parser::{ParseError, TextSource};
 use std::alloc::{AllocError, Global};
@@ -126,6 +130,27 @@ impl JsonPath {
     {
         Ok(JsonPath {
             checked: self.checked.try_clone(alloc)?,
+        })
+    }
+
+    /// A copy of the path with values for texts: each literal of its filters (RFC 9535, section 2.3.5.1) whose text has a binding
+    /// stands for the value of the first one of that text. So a text from a stranger comes into a path without being pasted into
+    /// its source. Names of members stay as they are, and so do the signatures and the rule for numbers.
+    ///
+    /// An error comes only where memory is refused.
+    ///
+    /// ```text
+    /// let path = JsonPath::parse(alloc, "$..book[?@.title == '$title'].price")?;
+    /// let path = path.bound(alloc, &[Binding { text: "$title", value: title }])?;
+    /// ```
+    pub fn bound(&self, alloc: Global, bindings: &[Binding<'_>]) -> Result<JsonPath, AllocError>
+        ensures tree { IfOk result (λ copy.
+            path_tree copy ≡ bound (value_in (pairs_of bindings.now)) (path_tree self.now)) }
+        ensures used { IfOk result (λ copy. path_signatures copy ≡ path_signatures self.now) }
+        ensures rule { IfOk result (λ copy. path_rule copy ≡ path_rule self.now) }
+    {
+        Ok(JsonPath {
+            checked: self.checked.bound(alloc, bindings)?,
         })
     }
 

@@ -40,6 +40,6 @@ pub use serde_json_path_numbers::{
     law_order_of_numbers,
 };
 pub use serde_json_path_syntax::{
-    Checked, ComparisonOperator, Literal, NumberLiteral, Part, Parts, QueryKind, SegmentKind,
-    Slice, SyntaxBuilder,
+    Binding, Checked, ComparisonOperator, Literal, NumberLiteral, Part, Parts, QueryKind,
+    SegmentKind, Slice, SyntaxBuilder,
 };

@@ -12,3 +12,7 @@ pub mod Lists
 pub mod Printing
 -- equality
 pub mod Equality
+-- queries in which texts stand for others
+pub mod Bound
+-- what a text stands for, binding by binding
+pub mod Bindings

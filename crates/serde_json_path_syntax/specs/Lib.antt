@@ -14,6 +14,8 @@ pub mod Used
 pub mod Text
 -- whether two trees are the same, as a computed test
 pub mod SameTree
+-- a query in which texts of literals stand for others
+pub mod Bound
 -- the range of the numbers in a tree, and the double of a decimal
 pub mod WellFormed
 -- what is in a list, and lists in an order
@@ -26,6 +28,8 @@ pub mod Parts
 pub mod Branch
 -- literals and comparison operators as the definitions see them
 pub mod Literals
+-- the bindings of the program as the definitions see them
+pub mod Bindings
 -- a slice selector of the program as the definitions see it
 pub mod SliceView
 -- ---- how a vector of nodes stands for a tree

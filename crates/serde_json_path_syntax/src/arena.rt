@@ -3,7 +3,8 @@
 ghost use Rattle.serde_json_path_syntax.specs.Flat.{IsGrown};
 ghost use Rattle.serde_json_path_syntax.specs.Kinds.{AreFitting};
 
-use crate::copies::copies_of;
+use crate::binding::Binding;
+use crate::copies::{bound_copies_of, copies_of};
 use crate::node::{Node, Part};
 use std::alloc::{AllocError, Global};
 
@@ -17,7 +18,7 @@ pub(crate) struct Arena {
 
 impl Arena {
     ghost use Rattle.std.specs.Prelude.{ℕ, List, true, Some, ◌≡◌, ◌<◌, ◌≤◌, ◌++◌, ◌∷◌, [], IfOk, OnErr, OnOk, length, slice_get};
-    ghost use Rattle.serde_json_path_syntax.specs.Words.{NamesBelow, called_by, calls_among, part_query, branch_at, branch_of, branches, segments_at, Signature, AreOfKind, IsOfKind, fits, is_query, is_segment, IsIn, parts_bound, segments_of};
+    ghost use Rattle.serde_json_path_syntax.specs.Words.{NamesBelow, bound_branches, pairs_of, value_in, called_by, calls_among, part_query, branch_at, branch_of, branches, segments_at, Signature, AreOfKind, IsOfKind, fits, is_query, is_segment, IsIn, parts_bound, segments_of};
 
     /// No nodes. Takes no memory.
     pub(crate) fn new(alloc: Global) -> Arena
@@ -60,6 +61,20 @@ impl Arena {
             length copy.nodes.items ≡ length self.now.nodes.items) }
     {
         let nodes = copies_of(self.nodes.as_slice(), alloc)?;
+        Ok(Arena { nodes })
+    }
+
+    /// A copy of the nodes, in which texts of literals stand for others. An error comes only where memory is refused.
+    #[tactic(auto, using(crate::proofs::Tree::Bound::of_bound_copies))]
+    pub(crate) fn bound(&self, alloc: Global, bindings: &[Binding<'_>]) -> Result<Arena, AllocError>
+        ensures branches { IfOk result (λ copy. branches copy.nodes.items
+            ≡ bound_branches (value_in (pairs_of bindings.now)) (branches self.now.nodes.items)) }
+        ensures calls { IfOk result (λ copy.
+            calls_among copy.nodes.items ≡ calls_among self.now.nodes.items) }
+        ensures length { IfOk result (λ copy.
+            length copy.nodes.items ≡ length self.now.nodes.items) }
+    {
+        let nodes = bound_copies_of(self.nodes.as_slice(), bindings, alloc)?;
         Ok(Arena { nodes })
     }
 

@@ -12,6 +12,7 @@ ghost use Rattle.serde_json_path_functions.specs.Functions.{Fits};
 ghost use Rattle.serde_json_path_syntax.specs.Stages.{selector_view, stage_at};
 
 use crate::arena::Arena;
+use crate::binding::Binding;
 use crate::node::{Node, Part, QueryKind, Segment, SegmentKind, Selector};
 use crate::selector_ref::SelectorRef;
 use serde_json_path_functions::{FunctionArgType, Functions, Numbers};
@@ -39,7 +40,7 @@ pub struct Checked {
 }
 
 impl Checked {
-    ghost use Rattle.serde_json_path_syntax.specs.Words.{ℕ, List, true, map, Some, IfOk, string_bytes, AreOfKind, IsOfKind, fits, is_and, is_argument, is_basic, is_call, is_or, is_query, is_segment, is_selector, selector_ref_fits, IsIn, child, query, no_segments, segments_of, FunctionSet, Signature, arguments_of, name_of, MayFinish, or_at, ors_in, and_at, ands_in, call_at, arguments_in, part_query, segment_kind_view, branch_at, branch_of, branches, branches_named, segments_at, selector_at, selectors_at, NamesBelow, selectors_list, query_text, nodes_in, number_of, tree_of, rule_of, signatures_of, whole_numbers, parts_bound, selector_bound, kind_view, numbers_view, query_kind_view};
+    ghost use Rattle.serde_json_path_syntax.specs.Words.{ℕ, List, true, map, Some, IfOk, string_bytes, AreOfKind, IsOfKind, fits, is_and, is_argument, is_basic, is_call, is_or, is_query, is_segment, is_selector, selector_ref_fits, IsIn, child, query, no_segments, segments_of, FunctionSet, Signature, arguments_of, name_of, MayFinish, or_at, ors_in, and_at, ands_in, call_at, arguments_in, part_query, segment_kind_view, branch_at, branch_of, branches, branches_named, segments_at, selector_at, selectors_at, bound, pairs_of, value_in, NamesBelow, selectors_list, query_text, nodes_in, number_of, tree_of, rule_of, signatures_of, whole_numbers, parts_bound, selector_bound, kind_view, numbers_view, query_kind_view};
     ghost use Rattle.serde_json_path_syntax.specs.Tree as tree;
 
     /// The query `$`. Takes no memory.
@@ -85,6 +86,25 @@ impl Checked {
             arena,
             query: self.query,
             numbers: self.numbers,
+        })
+    }
+
+    /// A copy of the query, in which each literal whose text has a binding stands for the value of the first one of that text.
+    /// Names of members stay as they are, and so do the signatures and the rule for numbers.
+    ///
+    /// An error comes only where memory is refused.
+    pub fn bound(&self, alloc: Global, bindings: &[Binding<'_>]) -> Result<Checked, AllocError>
+        ensures tree { IfOk result (λ copy.
+            tree_of copy ≡ bound (value_in (pairs_of bindings.now)) (tree_of self.now)) }
+        ensures used { IfOk result (λ copy. signatures_of copy ≡ signatures_of self.now) }
+        ensures rule { IfOk result (λ copy. rule_of copy ≡ rule_of self.now) }
+    {
+        let arena = self.arena.bound(alloc, bindings)?;
+        let numbers = self.numbers;
+        Ok(Checked {
+            arena,
+            query: self.query,
+            numbers,
         })
     }
 

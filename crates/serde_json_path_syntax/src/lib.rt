@@ -12,11 +12,12 @@
 //!
 //! Definitions are in `specs/`: `Tree` has the trees, `WellFormed` the range of their numbers, `Typing` which are
 //! well-typed, `Depth` how deep they nest, `Calls` what they call, `Text` how they print,
-//! `SameTree` when they are the same.
+//! `SameTree` when they are the same, `Bound` what is left of one where texts stand for others.
 #![tactic(auto)]
 
 mod arena;
 mod argument_ref;
+mod binding;
 mod builder;
 mod checked;
 mod copies;
@@ -31,6 +32,7 @@ mod singular;
 mod slice;
 
 pub use argument_ref::ArgumentRef;
+pub use binding::Binding;
 pub use builder::SyntaxBuilder;
 pub use checked::Checked;
 pub use literal::{HeldDecimal, Literal, LiteralValue, NumberLiteral};

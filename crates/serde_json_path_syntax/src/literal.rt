@@ -8,6 +8,7 @@ ghost use Rattle.serde_json_path_numbers.specs.Numbers.{literal_double};
 ghost use Rattle.serde_json_path_numbers.specs.Views.{decimal_view};
 ghost use Rattle.serde_json_path_syntax.specs.WellFormed.{IsLiteralAmount, double_in};
 
+use crate::binding::{Binding, value_of};
 use serde_json::Value;
 use serde_json_path_numbers::{Decimal, ExactNumber, literal_double};
 use std::alloc::{AllocError, Global};
@@ -169,7 +170,7 @@ pub enum LiteralValue {
 
 impl LiteralValue {
     ghost use Rattle.std.specs.Prelude.{◌≡◌, IfOk};
-    ghost use Rattle.serde_json_path_syntax.specs.Words.{held_view, literal_fits};
+    ghost use Rattle.serde_json_path_syntax.specs.Words.{bound_literal, held_view, literal_fits, pairs_of, value_in};
 
     /// A copy of the literal. An error comes only where memory is refused.
     pub(crate) fn try_clone(&self) -> Result<LiteralValue, AllocError>
@@ -184,5 +185,24 @@ impl LiteralValue {
                 Ok(LiteralValue::Decimal(copy))
             }
         }
+    }
+    /// A copy of the literal, whose text stands for another one where a binding says so. An error comes only where memory is
+    /// refused.
+    pub(crate) fn bound(
+        &self,
+        bindings: &[Binding<'_>],
+        alloc: Global,
+    ) -> Result<LiteralValue, AllocError>
+        ensures means { IfOk result (λ copy. held_view copy
+            ≡ bound_literal (value_in (pairs_of bindings.now)) (held_view self.now)) }
+        ensures fits { IfOk result (λ copy. literal_fits copy ≡ literal_fits self.now) }
+    {
+        if let LiteralValue::Value(Value::String(text)) = self {
+            if let Some(value) = value_of(bindings, text.as_str()) {
+                let value = String::from_str(alloc, value)?;
+                return Ok(LiteralValue::Value(Value::String(value)));
+            }
+        }
+        self.try_clone()
     }
 }

@@ -4,6 +4,7 @@
 mod all_numbers;
 mod blanks;
 mod bookstore;
+mod bound;
 mod built;
 mod calls;
 mod compared_values;

@@ -10,7 +10,7 @@ use serde_json_path::functions::{
     Builtin, CachedPatterns, FunctionArgType, Functions, LogicalType, PatternStore, Signature,
 };
 use serde_json_path::{
-    FromJsonError, JsonPath, JsonPathExt, LocatedNode, LocatedNodeList, NodeList, Numbers,
+    Binding, FromJsonError, JsonPath, JsonPathExt, LocatedNode, LocatedNodeList, NodeList, Numbers,
     ParseError, ParseErrorKind, PathSource, TextSource, parse_source,
 };
 use serde_json_path_nodes::escaped;
@@ -124,6 +124,32 @@ fn copied(alloc: Global, text: &str) -> Called {
 #[test]
 fn try_clone(rt: HostRuntime) -> Result<(), Fail> {
     hold_answers(&rt, PRINTED, copied)
+}
+
+/// A path, and the text that it prints with `c` for `b`.
+const BOUND: &[&str] = &[
+    "$[?@.a[?@ == 'b']] -> $[?@.a[?@ == 'c']]",
+    "$[?first(@.*) == 'b' || @['b'] == 'a'] -> $[?first(@.*) == 'c' || @['b'] == 'a']",
+];
+
+/// The text of a path with a value for a text.
+fn with_value(alloc: Global, text: &str) -> Called {
+    let path = own_path(alloc, text)?;
+    let Ok(path) = path.bound(
+        alloc,
+        &[Binding {
+            text: "b",
+            value: "c",
+        }],
+    ) else {
+        return Ok(None);
+    };
+    Ok(Some(path.to_text(alloc)?))
+}
+
+#[test]
+fn bound(rt: HostRuntime) -> Result<(), Fail> {
+    hold_answers(&rt, BOUND, with_value)
 }
 
 #[test]
