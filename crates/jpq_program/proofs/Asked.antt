@@ -1,5 +1,5 @@
 -- What options ask for, as documents are answered.
-use Rattle.jpq_program.proofs.Words.{AreAllInPart, AreAllShown, IsBetween, IsUntil, total_for, has_enough, nat_lt, decimal, end_text, true≢false, header_cells, header_for, if◌then◌else◌, texts_asked, ◌≡◌, ◌∙◌, ◌&&◌, ◌||◌, ℕ, true, false, List, [], Option, None, length, length-map, map, refl, sym, ap, subst, string_bytes, Appends, AreInputsShown, AreKnown, ArePaths, IsAnswered, IsShownInPart, IsShownOn, cells_for, head_for, Outcome, names_in, rule_in, status_of, Answered, AppendsBeginning, AskedPath, Begins, IsAnsweredInPart, IsShownInPartFor, SendsFor, Shown, ◌++◌, Documents, Heads, ReadsForPaths, JsonPath, Keeps, IfSome, Nodes, OptionShown, Options, Output, Colours, Form, IsRowInPart, IsRowOn, Look, MatchBool, first_cells, row_line, look_in, Streams, builtin_functions, form_in, head_by, heads_in, is_each, is_table, output_in, path_tree, shows_places, Nothing, path_texts, AnswersRun, Ends, IfWhole, is_whole, Enough, Found, More, Next, inr, SendsUntil, is_quiet}
+use Rattle.jpq_program.proofs.Words.{AreAllInPart, AreAllShown, IsBetween, IsUntil, total_for, has_enough, nat_lt, decimal, end_text, true≢false, header_cells, header_for, if◌then◌else◌, texts_asked, ◌≡◌, ◌∙◌, ◌&&◌, ◌||◌, ℕ, true, false, List, [], Option, None, length, length-map, map, refl, sym, ap, subst, string_bytes, Appends, AreInputsShown, AreKnown, ArePaths, IsAnswered, IsShownInPart, IsShownOn, cells_for, head_for, Outcome, names_in, reading_in, status_of, Answered, AppendsBeginning, AskedPath, Begins, IsAnsweredInPart, IsShownInPartFor, SendsFor, Shown, ◌++◌, Documents, Heads, ReadsForPaths, JsonPath, Keeps, IfSome, Nodes, OptionShown, Options, Output, Colours, Form, IsRowInPart, IsRowOn, Look, MatchBool, first_cells, row_line, look_in, Streams, builtin_functions, form_in, head_by, heads_in, is_each, is_table, output_in, path_tree, shows_places, Nothing, path_texts, AnswersRun, Ends, IfWhole, is_whole, Enough, Found, More, Next, inr, SendsUntil, is_quiet}
 use Rattle.jpq_program.proofs.Ended.{sent_out, status_is}
 use Rattle.jpq_program.proofs.Sending.{ends_still, no_named, no_shown, none_wanted}
 use Rattle.jpq_program.proofs.Shown.{answered_since, begun_since, none_begun_of}
@@ -89,7 +89,7 @@ nothing_for contents options colours paths bytes_of before now known same =
 
 -- a run was answered
 pub run_answered : {W E : Type 0} (contents : W → Option (List ℕ)) (bytes_of : List ℕ → Option (List ℕ)) (options : Options) (colours : Colours) (next : Next) (asked : List AskedPath) (old start answer final : Streams W E)
-    → ArePaths (rule_in options) (path_texts bytes_of options) (map (λ (path : AskedPath). path.path) asked)
+    → ArePaths (reading_in options) (path_texts bytes_of options) (map (λ (path : AskedPath). path.path) asked)
     → old.outcome ≡ record { selected = false; refused = false } → start.out ≡ old.out → start.outcome ≡ old.outcome → string_bytes start.pending ≡ []
     → final.out ≡ answer.out → final.outcome ≡ answer.outcome → final.total ≡ answer.total → (options.silent ≡ true → (start.err ≡ old.err) × (final.err ≡ answer.err)) → SendsFor contents options colours next (map (λ (path : AskedPath). path.path) asked) bytes_of start answer
     → AnswersRun contents bytes_of options colours next old final
@@ -146,7 +146,7 @@ plain_answered contents bytes_of options colours next before after each right ru
 
 -- of what is shown of the inputs a beginning is out
 pub run_begun : {W E : Type 0} (contents : W → Option (List ℕ)) (bytes_of : List ℕ → Option (List ℕ)) (options : Options) (colours : Colours) (asked : List AskedPath) (old start answer final : Streams W E)
-    → ArePaths (rule_in options) (path_texts bytes_of options) (map (λ (path : AskedPath). path.path) asked)
+    → ArePaths (reading_in options) (path_texts bytes_of options) (map (λ (path : AskedPath). path.path) asked)
     → start.out ≡ old.out → string_bytes start.pending ≡ [] → final.out ≡ answer.out
     → Begins contents (AreAllInPart options colours (map (λ (path : AskedPath). path.path) asked) bytes_of) start answer
     → IsAnsweredInPart contents bytes_of options colours old.out final.out

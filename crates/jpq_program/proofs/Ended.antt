@@ -1,5 +1,5 @@
 -- How a run ends: the status, and what is told.
-use Rattle.jpq_program.proofs.Words.{◌≡◌, ◌∙◌, ◌⊎◌, ℕ, Bool, true, false, List, [], ◌∷◌, ◌++◌, codes, Option, Result, Ok, Err, inl, inr, refl, sym, ap, subst, append-nil, string_bytes, Appends, AppendsBeginning, Adds, IsFailure, Next, Outcome, Stop, Streams, if◌then◌else◌, status_after, status_of, told_after, IsPrinted, arith, nat_tests, common_steps, ◌≤◌}
+use Rattle.jpq_program.proofs.Words.{◌&&◌, ◌≡◌, ◌∙◌, ◌⊎◌, ℕ, Bool, true, false, List, [], ◌∷◌, ◌++◌, codes, Option, Result, Ok, Err, inl, inr, refl, sym, ap, subst, append-nil, string_bytes, Appends, AppendsBeginning, Adds, IsFailure, Next, Outcome, Stop, Streams, if◌then◌else◌, status_after, status_of, told_after, IsPrinted, arith, nat_tests, common_steps, ◌≤◌}
 
 -- a text that went out whole, of which nothing is pending
 went_out : (out later : Option (List ℕ)) (text left : List ℕ) → Adds out text later left [] → left ≡ [] → Appends out later text
@@ -75,3 +75,16 @@ ended_well (Err e) binds outcome status is few = absurd (wrong e binds (subst (�
   where
     wrong : (e : Stop) (binds : Bool) → status_after (Err e) binds false outcome ≤ 1 → ⊥
     wrong e binds few = grind (arith, nat_tests, common_steps)
+
+-- a run with a status of 0 or 1 ended well, and with 0 where nothing was refused and something is selected
+pub ended_checked : (ended : Result Next Stop) (binds quiet : Bool) (outcome : Outcome) (status : ℕ) → status ≡ status_after ended binds quiet outcome → status ≤ 1
+    → (next : Next) × (ended ≡ Ok next) × (status_of outcome ≡ 0 → status ≡ 0)
+ended_checked (Ok next) binds quiet outcome status is few = (next, refl, λ none. is ∙ either (quiet && outcome.selected) none)
+  where
+    either : (found : Bool) → status_of outcome ≡ 0 → (if found then 0 else status_of outcome) ≡ 0
+    either true none = refl
+    either false none = none
+ended_checked (Err e) binds quiet outcome status is few = absurd (wrong e (subst (λ n. n ≤ 1) is few))
+  where
+    wrong : (e : Stop) → status_after (Err e) binds quiet outcome ≤ 1 → ⊥
+    wrong e few = grind (arith, nat_tests, common_steps)

@@ -8,6 +8,7 @@
 -- Arrays: what is shown of a document in one array, or for each path.
 -- Read: what is shown of what was read is what is shown of the document.
 -- Parsed: the paths of words, one after the other.
+-- Bound: paths with values in them.
 -- Asked: what options ask for, as documents are answered.
 -- Sending: what is sent of inputs, one after the other.
 -- Opened: which inputs are opened, one after the other.
@@ -24,6 +25,7 @@ mod Commas
 mod Arrays
 mod Read
 mod Parsed
+mod Bound
 mod Asked
 mod Sending
 mod Opened

@@ -11,8 +11,8 @@ pub use Rattle.jpq_program.specs.declared.dress.Place.TheVariants.{AfterSpace, S
 pub use Rattle.jpq_program.specs.Heads.{head_in, head_text}
 pub use Rattle.jpq_program.specs.Inputs.{AreInputsShown, AreKnown, Opens, OpensFirst, IsInputShown, IsLineShown, IsNamedShown, IsUntil, Shown, has_enough, lines_of, is_blank, with_byte, without_mark}
 pub use Rattle.jpq_program.specs.declared.asked_path.AskedPath.{AskedPath}
-pub use Rattle.jpq_program.specs.Inside.{Adds, AreAskedBy, IsAskedBy, AnswersAs, AreBetween, IsAside, SendsAll, SendsWanted, header_by, texts_asked, total_by, wanted_by, wanted_in_part_by, Answered, AnswersBy, AnswersEach, AnswersPath, AnswersAll, AnswersRow, AreSelected, AreShownAs, Begins, BeginsFirst, BeginsNodes, OnlyPends, OnlyRefuses, PendsNode, SendsBy, SendsFor, SendsInput, SendsInputs, SendsLine, TookFirst, shown_in_part_by, Counts, FilledNodes, Finds, IsAsked, IsFirstOf, asked_look, cell_look, each_by, each_in_part_by, paths_in, row_by, row_in_part_by, IsFailure, IsReadIn, ReadsForPaths, KeepsRest, OnlyNotes, OnlyTells, OnlyWrites, Reads, ReadsFurther, Sends, ShowsAs, Tells, TookNodes, Writes, WritesNode, WritesNodes, all_by, all_in_part_by, is_after, has_counts, head_by, heads_in, left_from, look_of, colours_by, look_with, unit_by, shown_by, shows_places, status_after, status_of, told_after, AnswersRun, Ends, IfWhole, SendsDocument, SendsUntil, is_done, is_quiet, is_whole}
-pub use Rattle.jpq_program.specs.Run.{AreAllInPart, AreAllShown, AreInputsFor, ArePaths, IsBetween, header_for, total_for, IsCheckRun, IsChecked, canonical_lines, ComesOf, IsAnswered, IsAnsweredInPart, IsCheckedInPart, IsShownInPartFor, IsPathOf, OpensInOrder, IsPlainRun, IsPrinted, IsShownFor, IsStatusOf, LacksMemory, cells_for, form_in, has_text, head_for, is_each, known_bytes, look_in, looked_at_in, names_in, opened_in, output_in, path_files_in, path_texts, rule_in, texts_in_file, unit_in, IsFound, IsQuietRun, IsUsualRun, TellsNothing}
+pub use Rattle.jpq_program.specs.Inside.{Adds, reading_by, value_pairs, AreAskedBy, IsAskedBy, AnswersAs, AreBetween, IsAside, SendsAll, SendsWanted, header_by, texts_asked, total_by, wanted_by, wanted_in_part_by, Answered, AnswersBy, AnswersEach, AnswersPath, AnswersAll, AnswersRow, AreSelected, AreShownAs, Begins, BeginsFirst, BeginsNodes, OnlyPends, OnlyRefuses, PendsNode, SendsBy, SendsFor, SendsInput, SendsInputs, SendsLine, TookFirst, shown_in_part_by, Counts, FilledNodes, Finds, IsAsked, IsFirstOf, asked_look, cell_look, each_by, each_in_part_by, paths_in, row_by, row_in_part_by, IsFailure, IsReadIn, ReadsForPaths, KeepsRest, OnlyNotes, OnlyTells, OnlyWrites, Reads, ReadsFurther, Sends, ShowsAs, Tells, TookNodes, Writes, WritesNode, WritesNodes, all_by, all_in_part_by, is_after, has_counts, head_by, heads_in, left_from, look_of, colours_by, look_with, unit_by, shown_by, shows_places, status_after, status_of, told_after, AnswersRun, Ends, IfWhole, SendsDocument, SendsUntil, is_done, is_quiet, is_whole}
+pub use Rattle.jpq_program.specs.Run.{AreAllInPart, AreAllShown, AreInputsFor, ArePaths, IsBetween, header_for, total_for, IsChecked, canonical_lines, ComesOf, IsAnswered, IsAnsweredInPart, IsCheckedInPart, IsShownInPartFor, IsPathOf, OpensInOrder, IsPlainRun, IsPrinted, IsShownFor, IsStatusOf, LacksMemory, cells_for, form_in, has_text, head_for, is_each, known_bytes, look_in, looked_at_in, names_in, opened_in, output_in, path_files_in, path_texts, rule_in, texts_in_file, unit_in, IsFound, IsQuietRun, TellsNothing, IsBound, Reading, reading_in}
 pub use Rattle.jpq_options.specs.Options.{is_table}
 pub use Rattle.jpq_options.specs.Paths.{path_lines}
 pub use Rattle.jpq_options.specs.declared.options.Shown.{Shown as OptionShown}

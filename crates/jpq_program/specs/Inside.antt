@@ -21,7 +21,9 @@ use Rattle.serde_json_path.specs.declared.path.JsonPath.{JsonPath}
 use Rattle.serde_json_path_reach.specs.Alike.{IsReadFor, IsReadForPlaces}
 use Rattle.serde_json_path_reach.specs.Readers.{Keeps}
 use Rattle.serde_json_path_syntax.specs.Tree.{Query}
-use Rattle.serde_json_path_functions.specs.Functions.{FunctionSet, Numbers}
+use Rattle.serde_json_path_functions.specs.Functions.{FunctionSet}
+use Rattle.serde_json_path_functions.specs.Terms.{numbers_view}
+use Rattle.serde_json_path_syntax.specs.Bindings.{pairs_of}
 use Rattle.serde_json_path_functions.specs.Patterns.{builtin_functions}
 use Rattle.jpq_options.specs.Options.{is_table}
 use Rattle.jsonpath_document.specs.Document.{ReadsAs}
@@ -34,7 +36,7 @@ use Rattle.jsonpath_lines.specs.declared.forms.LineEnd.{LineEnd}
 use Rattle.jpq_program.specs.declared.rows.Separator.{Separator}
 use Rattle.jpq_program.specs.declared.rows.Separator.TheVariants.{Comma, Tab}
 use Rattle.jpq_program.specs.Rows.{comma_rows, header_cells, IsRowInPart, IsRowOn, first_cells, row_line, row_text}
-use Rattle.jpq_program.specs.Run.{AreAllInPart, AreAllShown, ArePaths, IsBetween, IsPathOf, form_in, has_line_numbers, has_names, has_numbers, path_texts, rule_in}
+use Rattle.jpq_program.specs.Run.{AreAllInPart, AreAllShown, ArePaths, IsBetween, IsPathOf, Reading, form_in, has_line_numbers, has_names, has_numbers, path_texts, reading_in}
 use Rattle.jpq_options.specs.declared.options.Options.{Options}
 use Rattle.jpq_options.specs.declared.options.Shown.{Shown as OptionShown}
 use Rattle.jpq_options.specs.declared.options.Shown.TheVariants.{Csv, Nodes, Tsv}
@@ -42,6 +44,7 @@ use Rattle.jpq_program.specs.declared.colours.Colours.{Colours}
 use Rattle.jpq_program.specs.declared.documents.Documents.{Documents}
 use Rattle.jpq_program.specs.declared.answering.Answering.{Answering}
 use Rattle.jpq_program.specs.declared.asked_path.AskedPath.{AskedPath}
+use Rattle.jpq_program.specs.declared.bindings.NamedValue.{NamedValue}
 use Rattle.jpq_program.specs.declared.paths.PathReading.{PathReading}
 use Rattle.jpq_program.specs.declared.dress.Dress.{Dress}
 use Rattle.jpq_program.specs.declared.dress.Place.{Place}
@@ -94,21 +97,29 @@ Tells before after = after ≡ record before { err = after.err; outcome = record
 abbrev pub Reads : PathReading → PathReading → Type 0
 Reads before after = after ≡ record before { used = after.used }
 
+-- the texts that stand for values, with these
+abbrev pub value_pairs : List NamedValue → List (List ℕ × List ℕ)
+value_pairs values = map (λ (named : NamedValue). (string_bytes named.text, named.value.now)) values
+
+-- how paths are read
+abbrev pub reading_by : PathReading → Reading
+reading_by reading = record { numbers = numbers_view reading.numbers; bindings = pairs_of reading.bindings.items }
+
 -- a text was read as a path that is asked
-abbrev pub IsAskedBy : Numbers → List ℕ → AskedPath → Type 0
-IsAskedBy rule text asked = IsPathOf rule text asked.path × (string_bytes asked.text ≡ text)
+abbrev pub IsAskedBy : Reading → List ℕ → AskedPath → Type 0
+IsAskedBy reading text asked = IsPathOf reading text asked.path × (string_bytes asked.text ≡ text)
 
 -- the same of several texts
-abbrev pub AreAskedBy : Numbers → List (List ℕ) → List AskedPath → Type 0
-AreAskedBy rule texts asked = AllZip (IsAskedBy rule) texts asked
+abbrev pub AreAskedBy : Reading → List (List ℕ) → List AskedPath → Type 0
+AreAskedBy reading texts asked = AllZip (IsAskedBy reading) texts asked
 
 -- the texts of paths that are asked
 abbrev pub texts_asked : List AskedPath → List (List ℕ)
 texts_asked asked = map (λ (path : AskedPath). string_bytes path.text) asked
 
 -- these texts were read as paths, after those that were read before
-abbrev pub ReadsFurther : Numbers → List (List ℕ) → List AskedPath → List AskedPath → Type 0
-ReadsFurther rule texts before after = (read : List AskedPath) × (after ≡ before ++ read) × AreAskedBy rule texts read
+abbrev pub ReadsFurther : Reading → List (List ℕ) → List AskedPath → List AskedPath → Type 0
+ReadsFurther reading texts before after = (read : List AskedPath) × (after ≡ before ++ read) × AreAskedBy reading texts read
 
 -- what is shown of the path's result on a value was appended, and the count says how many nodes are chosen
 abbrev pub Counts : FunctionSet → JsonPath → Output → List ℕ → Data → List ℕ → List ℕ → ℕ → Type 0
@@ -456,7 +467,7 @@ is_quiet _ = false
 -- told where that is so.
 pub record AnswersRun {W E : Type 0} (contents : W → Option (List ℕ)) (bytes_of : List ℕ → Option (List ℕ)) (options : Options) (colours : Colours) (next : Next) (before after : Streams W E) : Type 0 where
   pub paths : List JsonPath
-  pub are : ArePaths (rule_in options) (path_texts bytes_of options) paths
+  pub are : ArePaths (reading_in options) (path_texts bytes_of options) paths
   pub text : List ℕ
   pub count : ℕ
   pub ends : Ends (form_in options.shown) options.most_of_all next after

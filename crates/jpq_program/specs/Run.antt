@@ -5,9 +5,10 @@ use Rattle.std.specs.Fmt.{decimal}
 use Rattle.std.specs.Io.KnownBytes.{Appends}
 use Rattle.serde_json_path_functions.specs.Functions.{Numbers, all_numbers, whole_numbers}
 use Rattle.serde_json_path_functions.specs.Patterns.{builtin_functions}
+use Rattle.serde_json_path_syntax.specs.Bound.{bound, value_in}
 use Rattle.serde_json_path_syntax.specs.Text.{query_text}
 use Rattle.serde_json_path_parser.specs.Parse.{IsParseOf}
-use Rattle.serde_json_path.specs.Paths.{path_tree, path_view}
+use Rattle.serde_json_path.specs.Paths.{path_rule, path_signatures, path_tree, path_view}
 use Rattle.serde_json_path.specs.declared.path.JsonPath.{JsonPath}
 use Rattle.jsonpath_lines.specs.Output.{end_text}
 use Rattle.jsonpath_lines.specs.Sent.{AppendsBeginning}
@@ -24,6 +25,7 @@ use Rattle.jpq_options.specs.declared.options.Request.TheVariants.{Run, Print, W
 use Rattle.jpq_options.specs.declared.options.Shown.{Shown}
 use Rattle.jpq_options.specs.declared.options.Shown.TheVariants.{Nodes}
 use Rattle.jpq_program.specs.Answers.{IsShownInPart, IsShownOn}
+use Rattle.jpq_program.specs.Bindings.{bindings_in}
 use Rattle.jpq_program.specs.Colours.{colours_for}
 use Rattle.jpq_program.specs.Heads.{head_in}
 use Rattle.jpq_program.specs.Inputs.{AreInputsShown, AreKnown, IsUntil, Opens, OpensFirst, Shown as DocumentShown, without_mark}
@@ -43,13 +45,27 @@ IsStatusOf options status = (status ≤ 3) ⊎ ((status ≡ 64) × (options.bind
 abbrev pub rule_in : Options → Numbers
 rule_in options = if options.whole_numbers then whole_numbers else all_numbers
 
--- the text is a path of the built-in functions, by a rule for numbers
-abbrev pub IsPathOf : Numbers → List ℕ → JsonPath → Type 0
-IsPathOf rule text path = IsParseOf path_view rule builtin_functions.signature text (Ok path)
+-- How texts are read as paths: by which rule for numbers, and which values texts of their literals stand for.
+pub record Reading : Type 0 where
+  pub numbers : Numbers
+  pub bindings : List (List ℕ × List ℕ)
+
+abbrev pub reading_in : Options → Reading
+reading_in options = record { numbers = rule_in options; bindings = bindings_in (map (λ word. word.now) options.bindings.items) }
+
+-- a path is another one with these values in it
+abbrev pub IsBound : List (List ℕ × List ℕ) → JsonPath → JsonPath → Type 0
+IsBound bindings plain path = path_view path
+    ≡ record { tree = bound (value_in bindings) (path_tree plain); signatures = path_signatures plain; rule = path_rule plain }
+
+-- the text is a path of the built-in functions, which is this one once values are in it
+abbrev pub IsPathOf : Reading → List ℕ → JsonPath → Type 0
+IsPathOf reading text path = (plain : JsonPath)
+    × IsParseOf path_view reading.numbers builtin_functions.signature text (Ok plain) × IsBound reading.bindings plain path
 
 -- the same of several texts
-abbrev pub ArePaths : Numbers → List (List ℕ) → List JsonPath → Type 0
-ArePaths rule texts paths = AllZip (IsPathOf rule) texts paths
+abbrev pub ArePaths : Reading → List (List ℕ) → List JsonPath → Type 0
+ArePaths reading texts paths = AllZip (IsPathOf reading) texts paths
 
 -- what is shown of nodes
 abbrev pub form_in : Shown → Form
@@ -183,21 +199,16 @@ abbrev pub is_each : Shown → Bool
 is_each (Nodes Nothing) = false
 is_each _ = true
 
--- In the paths no values are bound to names, and they are not only checked.
-pub record IsUsualRun (options : Options) : Type 0 where
-  pub bindings : options.bindings.items ≡ []
-  pub check : options.check ≡ false
-
--- In such a run nodes are shown so.
+-- In such a run nodes are shown so, and paths are not only checked.
 pub record IsPlainRun (options : Options) : Type 0 where
-  pub usual : IsUsualRun options
+  pub check : options.check ≡ false
   pub each : is_each options.shown ≡ true
 
 -- What comes of such a run in which nothing is refused and no writing fails, where the bytes of the inputs are known: what is shown of
 -- them for the paths went out, and nothing else, and the status says whether nodes are shown.
 pub record IsAnswered {W : Type 0} (contents : W → Option (List ℕ)) (bytes_of : List ℕ → Option (List ℕ)) (options : Options) (colours : Colours) (before after : W) (status : ℕ) : Type 0 where
   pub paths : List JsonPath
-  pub are : ArePaths (rule_in options) (path_texts bytes_of options) paths
+  pub are : ArePaths (reading_in options) (path_texts bytes_of options) paths
   pub text : List ℕ
   pub count : ℕ
   pub shown : AreAllShown options colours paths bytes_of text count
@@ -208,7 +219,7 @@ pub record IsAnswered {W : Type 0} (contents : W → Option (List ℕ)) (bytes_o
 -- shown of the inputs for the paths, without what was refused.
 abbrev pub IsAnsweredInPart : {W : Type 0} → (W → Option (List ℕ)) → (List ℕ → Option (List ℕ)) → Options → Colours → W → W → Type 0
 IsAnsweredInPart contents bytes_of options colours before after = (after ≡ before)
-    ⊎ ((paths : List JsonPath) × ArePaths (rule_in options) (path_texts bytes_of options) paths
+    ⊎ ((paths : List JsonPath) × ArePaths (reading_in options) (path_texts bytes_of options) paths
     × (text : List ℕ) × (count : ℕ) × AreAllInPart options colours paths bytes_of text count
     × AppendsBeginning (contents before) (contents after) text)
 
@@ -216,7 +227,7 @@ IsAnsweredInPart contents bytes_of options colours before after = (after ≡ bef
 
 -- Nothing is shown of nodes, as it is only asked whether there is one.
 pub record IsQuietRun (options : Options) : Type 0 where
-  pub usual : IsUsualRun options
+  pub check : options.check ≡ false
   pub shown : options.shown ≡ Nodes Nothing
   pub total : options.total ≡ false
 
@@ -225,28 +236,22 @@ pub record IsQuietRun (options : Options) : Type 0 where
 -- node counts, and with `-m 0` no document.
 pub record IsFound (bytes_of : List ℕ → Option (List ℕ)) (options : Options) (colours : Colours) (status : ℕ) : Type 0 where
   pub paths : List JsonPath
-  pub are : ArePaths (rule_in options) (path_texts bytes_of options) paths
+  pub are : ArePaths (reading_in options) (path_texts bytes_of options) paths
   pub found : status ≡ 0 → (count : ℕ) × (nat_lt 0 count ≡ true) × AreInputsFor options (IsShownInPartFor options colours paths) bytes_of [] count
   pub none : status ≡ 1 → AreInputsFor options (IsShownFor options colours paths) bytes_of [] 0
 
 -- ---- paths that are only checked
-
--- The paths are only checked: no values are bound to names in them, and the form that is asked for is one of a plain run.
-pub record IsCheckRun (options : Options) : Type 0 where
-  pub check : options.check ≡ true
-  pub each : is_each options.shown ≡ true
-  pub bindings : options.bindings.items ≡ []
 
 -- each path in its canonical form, in a line of its own
 abbrev pub canonical_lines : List JsonPath → List ℕ
 canonical_lines [] = []
 canonical_lines (path ∷ paths) = query_text (path_tree path) ++ (codes "\n" ++ canonical_lines paths)
 
--- What comes of such a run in which nothing is refused and no writing fails, where the bytes of the files of paths are known: these lines
+-- What comes of a run that only checks paths, in which nothing is refused and no writing fails, where the bytes of the files of paths are known: these lines
 -- went out, and nothing else. Without such files no input is opened.
 pub record IsChecked {I W : Type 0} (contents : W → Option (List ℕ)) (bytes_of : List ℕ → Option (List ℕ)) (options : Options) (inputs later : I) (before after : W) (status : ℕ) : Type 0 where
   pub paths : List JsonPath
-  pub are : ArePaths (rule_in options) (path_texts bytes_of options) paths
+  pub are : ArePaths (reading_in options) (path_texts bytes_of options) paths
   pub out : Appends (contents before) (contents after) (canonical_lines paths)
   pub unopened : options.paths_files.items ≡ [] → later ≡ inputs
   pub ends : status ≡ 0
@@ -254,7 +259,7 @@ pub record IsChecked {I W : Type 0} (contents : W → Option (List ℕ)) (bytes_
 -- What is out after such a run, however it ended: nothing, where a path is refused, or a beginning of these lines.
 abbrev pub IsCheckedInPart : {W : Type 0} → (W → Option (List ℕ)) → (List ℕ → Option (List ℕ)) → Options → W → W → Type 0
 IsCheckedInPart contents bytes_of options before after = (after ≡ before)
-    ⊎ ((paths : List JsonPath) × ArePaths (rule_in options) (path_texts bytes_of options) paths
+    ⊎ ((paths : List JsonPath) × ArePaths (reading_in options) (path_texts bytes_of options) paths
     × AppendsBeginning (contents before) (contents after) (canonical_lines paths))
 
 -- ---- what is told
@@ -287,7 +292,7 @@ ComesOf out err bytes_of opened colours (Run options) inputs later before after 
     × (IsQuietRun options → AreKnown bytes_of (path_files_in options) → AreKnown bytes_of (names_in options)
     → Appends (out before.out) (out after.out) [] × (status ≤ 1 → IsFound bytes_of options colours status)
     × (status ≡ 1 → (options.most_of_all ≡ None → Opens (opened inputs) (opened later) (opened_in options)) × TellsNothing options before after))
-    × (IsCheckRun options → AreKnown bytes_of (path_files_in options)
+    × (options.check ≡ true → AreKnown bytes_of (path_files_in options)
     → (status ≤ 1 → IsChecked out bytes_of options inputs later before.out after.out status × TellsNothing options before after)
     × IsCheckedInPart out bytes_of options before.out after.out)
     × OpensInOrder options status (opened inputs) (opened later)

@@ -3,21 +3,22 @@
 ghost use Rattle.std.specs.Prelude.{◌≡◌, ◌∷◌, ℕ, [], List, IfOk, IfSome, MatchOption, OnOk, false, map, string_bytes, take, true};
 ghost use Rattle.serde_json_path_functions.specs.Terms.{numbers_view};
 ghost use Rattle.serde_json_path.specs.Paths.{path_signatures};
+ghost use Rattle.serde_json_path_syntax.specs.Bindings.{pairs_of};
 ghost use Rattle.serde_json_path.specs.Fitting.{FitsBuiltin};
-ghost use Rattle.jpq_program.specs.Inside.{AreAskedBy, IsAskedBy, OnlyTells, Reads, ReadsFurther, Tells, texts_asked};
+ghost use Rattle.jpq_program.specs.Inside.{AreAskedBy, IsAskedBy, OnlyTells, Reads, ReadsFurther, Tells, reading_by, texts_asked};
 ghost use Rattle.jpq_program.specs.Inputs.{AreKnown, Opens, OpensFirst, without_mark};
-ghost use Rattle.jpq_program.specs.Run.{ArePaths, has_text, looked_at_in, path_files_in, path_texts, rule_in};
+ghost use Rattle.jpq_program.specs.Run.{ArePaths, IsBound, has_text, looked_at_in, path_files_in, path_texts, reading_in, rule_in};
 ghost use Rattle.jpq_options.specs.Paths.{path_lines};
 ghost use Rattle.std.specs.List.{filter};
 
 use crate::asked_path::AskedPath;
-use crate::bindings::{Binding, bindings_of, with_values};
+use crate::bindings::{NamedValue, bindings_of, values_of};
 use crate::inputs::Inputs;
 use crate::refusal::push_refusal;
 use crate::streams::{Stop, Streams};
 use jpq_options::options::Options;
 use jpq_options::paths::path_lines;
-use serde_json_path::{JsonPath, Numbers, ParseErrorKind};
+use serde_json_path::{Binding, JsonPath, Numbers, ParseErrorKind};
 use serde_json_path_hints::hint;
 use std::alloc::Global;
 use std::io::{Read, Write};
@@ -26,7 +27,9 @@ use std::io::{Read, Write};
 #[derive(Drop)]
 struct PathReading<'a> {
     alloc: Global,
-    /// What stands for names in paths.
+    /// The names that stand in paths.
+    values: &'a [NamedValue<'a>],
+    /// What stands for their texts.
     bindings: Vec<Binding<'a>>,
     /// The numbers of those that some path has.
     used: Vec<usize>,
@@ -50,19 +53,18 @@ impl PathReading<'_> {
         requires { FitsBuiltin (path_signatures path) }
         ensures fits { IfOk result (λ path. FitsBuiltin (path_signatures path)) }
         ensures kept { Reads self.old self.new }
-        ensures same { self.old.bindings.items ≡ [] → IfOk result (λ read. read ≡ path) }
+        ensures bound { IfOk result (λ read.
+            IsBound (pairs_of self.old.bindings.items) path read) }
     {
         if self.bindings.is_empty() {
             return Ok(path);
         }
-        let text = path.to_text(self.alloc)?;
-        let text = with_values(self.alloc, text.as_str(), &self.bindings, &mut self.used)?;
-        match JsonPath::parse_by(self.alloc, text.as_str(), self.numbers) {
-            Ok(path) => Ok(path),
-            Err(e) if e.kind() == ParseErrorKind::NoMemory => Err(Stop::Memory),
-            // Values are quoted, so that the text is a path again.
-            Err(_) => Err(Stop::Refused),
+        for (number, value) in self.values.iter().enumerate() {
+            if !self.used.contains(&number) && value.is_in(self.alloc, &path)? {
+                self.used.push(number)?;
+            }
         }
+        Ok(path.bound(self.alloc, &self.bindings)?)
     }
 
     /// Parses a path, or tells why it is none.
@@ -76,8 +78,8 @@ impl PathReading<'_> {
         ensures told { Tells streams.old streams.new }
         ensures read { IfOk result (λ read. MatchOption read
             (streams.new.outcome.refused ≡ true)
-            (λ path. (streams.new ≡ streams.old) × (self.old.bindings.items ≡ []
-            → IsAskedBy (numbers_view self.old.numbers) text.now path))) }
+            (λ path. (streams.new ≡ streams.old)
+            × IsAskedBy (reading_by self.old) text.now path)) }
     {
         let e = match JsonPath::parse_by(self.alloc, text, self.numbers) {
             Ok(path) => {
@@ -113,8 +115,8 @@ impl PathReading<'_> {
         ensures told { Tells streams.old streams.new }
         ensures right { IfOk result (λ _. streams.new.outcome.refused ≡ false
             → streams.new ≡ streams.old) }
-        ensures read { IfOk result (λ _. self.old.bindings.items ≡ [] → paths.old.items ≡ []
-            → streams.new.outcome.refused ≡ false → AreAskedBy (numbers_view self.old.numbers)
+        ensures read { IfOk result (λ _. paths.old.items ≡ []
+            → streams.new.outcome.refused ≡ false → AreAskedBy (reading_by self.old)
             (map (λ text. text.now) texts.now) paths.new.items) }
     {
         for (index, text) in texts.iter().enumerate() {
@@ -142,8 +144,8 @@ impl PathReading<'_> {
         ensures told { Tells streams.old streams.new }
         ensures right { IfOk result (λ _. streams.new.outcome.refused ≡ false
             → streams.new ≡ streams.old) }
-        ensures read { IfOk result (λ _. self.old.bindings.items ≡ []
-            → streams.new.outcome.refused ≡ false → ReadsFurther (numbers_view self.old.numbers)
+        ensures read { IfOk result (λ _. streams.new.outcome.refused ≡ false
+            → ReadsFurther (reading_by self.old)
             (filter has_text (path_lines text.now)) paths.old.items paths.new.items) }
     {
         let lines = path_lines(self.alloc, text)?;
@@ -161,14 +163,14 @@ impl PathReading<'_> {
 }
 
 impl PathReading<'_> {
-    /// Tells of the first binding whose name no path has.
+    /// Tells of the first name that no path has.
     fn tell_unused<W: Write, E: Write>(&self, streams: &mut Streams<W, E>) -> Result<(), Stop>
         ensures told { OnlyTells streams.old streams.new }
         ensures none { OnOk result (streams.new ≡ streams.old) }
     {
-        for (number, binding) in self.bindings.iter().enumerate() {
+        for (number, value) in self.values.iter().enumerate() {
             if !self.used.contains(&number) {
-                let name = binding.name;
+                let name = value.name;
                 streams.tell(format!(in self.alloc;
                     "jpq: --let {name}: no path has the text '${name}' in a filter\n"
                 )?.as_str());
@@ -276,16 +278,16 @@ pub(crate) fn asked_paths<I: Inputs, W: Write, E: Write>(
         (looked_at_in options.now) }
     ensures right { IfOk result (λ _. streams.new ≡ streams.old) }
     ensures tells { Tells streams.old streams.new }
-    ensures read { IfOk result (λ paths. options.now.bindings.items ≡ []
-        → AreKnown (I.bytes_of inputs.old) (path_files_in options.now)
-        → ArePaths (rule_in options.now) (path_texts (I.bytes_of inputs.old) options.now)
+    ensures read { IfOk result (λ paths.
+        AreKnown (I.bytes_of inputs.old) (path_files_in options.now)
+        → ArePaths (reading_in options.now) (path_texts (I.bytes_of inputs.old) options.now)
         (map (λ path. path.path) paths.items)) }
-    ensures texts { IfOk result (λ paths. options.now.bindings.items ≡ []
-        → AreKnown (I.bytes_of inputs.old) (path_files_in options.now)
+    ensures texts { IfOk result (λ paths.
+        AreKnown (I.bytes_of inputs.old) (path_files_in options.now)
         → texts_asked paths.items ≡ path_texts (I.bytes_of inputs.old) options.now) }
 {
-    let bindings = match bindings_of(alloc, &options.bindings)? {
-        Ok(bindings) => bindings,
+    let values = match values_of(alloc, &options.bindings)? {
+        Ok(values) => values,
         Err(word) => {
             let message = format!(in alloc;
                 "jpq: --let {word}: a name, '=' and a value are wanted\n"
@@ -296,7 +298,8 @@ pub(crate) fn asked_paths<I: Inputs, W: Write, E: Write>(
     };
     let mut reading = PathReading {
         alloc,
-        bindings,
+        values: &values,
+        bindings: bindings_of(alloc, &values)?,
         used: Vec::new(alloc),
         hints: !options.silent,
         numbers: numbers_of(options),

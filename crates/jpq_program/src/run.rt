@@ -12,7 +12,7 @@ ghost use Rattle.jpq_options.specs.declared.options.Request as input;
 ghost use Rattle.jpq_program.specs.Colours.{colours_for};
 ghost use Rattle.jpq_program.specs.Inputs.{AreInputsShown, AreKnown, Opens, OpensFirst};
 ghost use Rattle.jpq_program.specs.Inside.{AnswersRun, AreBetween, Begins, OnlyTells, ReadsForPaths, SendsAll, SendsFor, SendsInputs, texts_asked, heads_in, is_quiet, look_with, shows_places, status_after, status_of, told_after, wanted_in_part_by};
-ghost use Rattle.jpq_program.specs.Run.{AreAllInPart, ComesOf, IsAnsweredInPart, IsChecked, IsCheckedInPart, IsCheckRun, IsPrinted, IsUsualRun, LacksMemory, canonical_lines, is_colored, look_in, looked_at_in, names_in, opened_in, output_in, path_files_in, path_texts, unit_in};
+ghost use Rattle.jpq_program.specs.Run.{AreAllInPart, ComesOf, IsAnsweredInPart, IsChecked, IsCheckedInPart, IsPrinted, LacksMemory, canonical_lines, is_colored, look_in, looked_at_in, names_in, opened_in, output_in, path_files_in, path_texts, unit_in};
 
 use crate::answering::Answering;
 use crate::asked_path::AskedPath;
@@ -339,14 +339,13 @@ fn answer_paths<I: Inputs, W: Write, E: Write>(
     ensures opens { OpensFirst (I.opened inputs.old) (I.opened inputs.new) (names_in options.now) }
     ensures all { IfOk result (λ next. next ≡ Next.More
         → Opens (I.opened inputs.old) (I.opened inputs.new) (names_in options.now)) }
-    ensures answered { IfOk result (λ next. IsUsualRun options.now
-        → texts_asked paths.now ≡ path_texts (I.bytes_of inputs.old) options.now
+    ensures answered { IfOk result (λ next.
+        texts_asked paths.now ≡ path_texts (I.bytes_of inputs.old) options.now
         → streams.old.total ≡ 0 → string_bytes streams.old.pending ≡ []
         → AreKnown (I.bytes_of inputs.old) (names_in options.now)
         → SendsFor W.contents options.now colours.entry next
         (map (λ path. path.path) paths.now) (I.bytes_of inputs.old) streams.old streams.new) }
-    ensures begun { IsUsualRun options.now
-        → texts_asked paths.now ≡ path_texts (I.bytes_of inputs.old) options.now
+    ensures begun { texts_asked paths.now ≡ path_texts (I.bytes_of inputs.old) options.now
         → streams.old.total ≡ 0 → string_bytes streams.old.pending ≡ []
         → AreKnown (I.bytes_of inputs.old) (names_in options.now)
         → Begins W.contents (AreAllInPart options.now colours.entry
@@ -389,20 +388,20 @@ fn run_with<I: Inputs, W: Write, E: Write>(
     inputs: &mut I,
     streams: &mut Streams<W, E>,
 ) -> Result<Next, Stop>
-    ensures answered { IfOk result (λ next. IsUsualRun options.now
+    ensures answered { IfOk result (λ next. options.now.check ≡ false
         → streams.old.outcome ≡ record { selected = false; refused = false }
         → streams.old.total ≡ 0 → string_bytes streams.old.pending ≡ []
         → AreKnown (I.bytes_of inputs.old) (path_files_in options.now)
         → AreKnown (I.bytes_of inputs.old) (names_in options.now)
         → AnswersRun W.contents (I.bytes_of inputs.old) options.now
         colours.entry next streams.old streams.new) }
-    ensures in_part { IsUsualRun options.now
+    ensures in_part { options.now.check ≡ false
         → streams.old.total ≡ 0 → string_bytes streams.old.pending ≡ []
         → AreKnown (I.bytes_of inputs.old) (path_files_in options.now)
         → AreKnown (I.bytes_of inputs.old) (names_in options.now)
         → IsAnsweredInPart W.contents (I.bytes_of inputs.old) options.now
         colours.entry streams.old.out streams.new.out }
-    ensures checked { IfOk result (λ _. IsCheckRun options.now
+    ensures checked { IfOk result (λ _. options.now.check ≡ true
         → streams.old.outcome ≡ record { selected = false; refused = false }
         → string_bytes streams.old.pending ≡ []
         → AreKnown (I.bytes_of inputs.old) (path_files_in options.now)
@@ -410,7 +409,7 @@ fn run_with<I: Inputs, W: Write, E: Write>(
         streams.old.out streams.new.out (status_of streams.new.outcome)) }
     ensures check_told { IfOk result (λ _. options.now.check ≡ true → options.now.silent ≡ true
         → streams.new.err ≡ streams.old.err) }
-    ensures checked_in_part { IsCheckRun options.now → string_bytes streams.old.pending ≡ []
+    ensures checked_in_part { options.now.check ≡ true → string_bytes streams.old.pending ≡ []
         → AreKnown (I.bytes_of inputs.old) (path_files_in options.now)
         → IsCheckedInPart W.contents (I.bytes_of inputs.old) options.now
         streams.old.out streams.new.out }

@@ -11,7 +11,6 @@ use Rattle.std.specs.Fmt.{decimal, digits}
 use Rattle.std.specs.Str.{bytes_eq, chars}
 use Rattle.serde_json_path_nodes.specs.Location.{Step, by_name, by_position}
 use Rattle.serde_json_path_nodes.specs.Text.{in_decimal, normal}
-use Rattle.serde_json_path_functions.specs.Functions.{Numbers}
 use Rattle.serde_json_path_functions.specs.Patterns.{builtin_functions}
 use Rattle.serde_json_path_syntax.proofs.Words.{length-map}
 use Rattle.serde_json_path.specs.Laws.{IsNormal, Normal}
@@ -28,7 +27,8 @@ use Rattle.jpq_program.specs.Looks.{Look, is_array}
 use Rattle.jpq_program.specs.Rows.{IsRowOn, first_cells, header_cells, row_line}
 use Rattle.jpq_program.specs.declared.colours.Colours.{Colours}
 use Rattle.jpq_program.specs.Inputs.{AreInputsShown, AreKnown, IsInputShown, IsLineShown, IsNamedShown, IsUntil, Opens, Shown, has_enough}
-use Rattle.jpq_program.specs.Run.{AreInputsFor, ArePaths, ComesOf, IsPathOf, IsPlainRun, IsShownFor, form_in, known_bytes, path_texts, texts_in_file, has_line_numbers, has_names, header_for, has_numbers, is_colored, is_each, look_in, names_in, opened_in, rule_in, total_for}
+use Rattle.jpq_program.specs.Bindings.{bindings_in}
+use Rattle.jpq_program.specs.Run.{AreInputsFor, ArePaths, ComesOf, IsPathOf, IsPlainRun, IsShownFor, Reading, form_in, known_bytes, path_texts, texts_in_file, has_line_numbers, has_names, header_for, has_numbers, is_colored, is_each, look_in, names_in, opened_in, reading_in, total_for}
 use Rattle.jpq_program.specs.declared.streams.Streams.{Streams}
 use Rattle.std.specs.Io.KnownBytes.{Appends}
 use Rattle.program_tests.proofs.AskedWords.{OptionsAre, asks_for_run, words}
@@ -81,9 +81,10 @@ lines_for name a b = line_to (head_text true false true name 1 1) to_a (number (
 
 -- what the paths of a document are, and the laws by which they show what they do
 pub record ArePathsTo (p q : JsonPath) : Type 0 where
-  pub rule : Numbers
-  pub first : IsPathOf rule (normal to_a) p
-  pub second : IsPathOf rule (normal to_b) q
+  pub reading : Reading
+  pub unbound : reading.bindings ≡ []
+  pub first : IsPathOf reading (normal to_a) p
+  pub second : IsPathOf reading (normal to_b) q
   pub normal_a : IsNormal to_a
   pub normal_b : IsNormal to_b
   pub unique : ResultIsUnique
@@ -93,8 +94,8 @@ document_shown : (p q : JsonPath) (name : List ℕ) (line : ℕ) (bytes : List �
 document_shown p q name line bytes before text count a b paths reads are =
     two_each (λ number so_far path. IsAnswerOn builtin_functions path (look_after plain so_far) (nat_lt before so_far) (head_text true false true name line number) bytes) 1 before p q
     (line_to (head_text true false true name line 1) to_a (number (unsigned a))) (line_to (head_text true false true name line 2) to_b (number (unsigned b))) text 1 1 count
-    (λ l t n is. answer_is to_a paths.rule builtin_functions p (nat_lt before l) (head_text true false true name line 1) bytes t n (document a b) (number (unsigned a)) paths.normal_a paths.unique paths.first reads refl refl is)
-    (λ l t n is. answer_is to_b paths.rule builtin_functions q (nat_lt before l) (head_text true false true name line 2) bytes t n (document a b) (number (unsigned b)) paths.normal_b paths.unique paths.second reads refl refl is) are
+    (λ l t n is. answer_is to_a paths.reading builtin_functions p (nat_lt before l) (head_text true false true name line 1) bytes t n (document a b) (number (unsigned a)) paths.normal_a paths.unique paths.unbound paths.first reads refl refl is)
+    (λ l t n is. answer_is to_b paths.reading builtin_functions q (nat_lt before l) (head_text true false true name line 2) bytes t n (document a b) (number (unsigned b)) paths.normal_b paths.unique paths.unbound paths.second reads refl refl is) are
 
 one_shown : (p q : JsonPath) (before : ℕ) (text : List ℕ) (count : ℕ) → ArePathsTo p q → IsInputShown (ShowsBoth p q) true (codes "one") one before text count → (text ≡ lines_for (codes "one") 1 2 ++ lines_for (codes "one") 3 4) × (count ≡ 4)
 one_shown p q before text count paths are =
@@ -130,16 +131,9 @@ files_shown p q known text count paths is_one is_two are =
 
 -- ---- by the options of the run
 
-nothing_in : (list : List (Bor (List ℕ))) → map (λ s. s.now) list ≡ [] → list ≡ []
-nothing_in [] is = refl
-nothing_in (x ∷ xs) is = absurd cc
-
 pub is_plain : (o : Options) → OptionsAre o → IsPlainRun o
 is_plain o are = record {
-  usual = record {
-    bindings = nothing_in o.bindings.items are.bindings;
-    check = are.check;
-  };
+  check = are.check;
   each = ap is_each are.shown;
 }
 
@@ -196,10 +190,10 @@ no_total : (o : Options) (count : ℕ) → OptionsAre o → total_for o count �
 no_total o count are = λ i. if are.total i then decimal count ++ end_text o.end else []
 
 -- two texts were read as two paths
-pub two_paths : (rule : Numbers) (texts : List (List ℕ)) (paths : List JsonPath) (a b : List ℕ) → texts ≡ a ∷ b ∷ [] → ArePaths rule texts paths → (p q : JsonPath) × (paths ≡ p ∷ q ∷ []) × IsPathOf rule a p × IsPathOf rule b q
-two_paths rule texts paths a b is are = of_two paths (subst (λ (t : List (List ℕ)). ArePaths rule t paths) is are)
+pub two_paths : (reading : Reading) (texts : List (List ℕ)) (paths : List JsonPath) (a b : List ℕ) → texts ≡ a ∷ b ∷ [] → ArePaths reading texts paths → (p q : JsonPath) × (paths ≡ p ∷ q ∷ []) × IsPathOf reading a p × IsPathOf reading b q
+two_paths reading texts paths a b is are = of_two paths (subst (λ (t : List (List ℕ)). ArePaths reading t paths) is are)
   where
-    of_two : (paths : List JsonPath) → ArePaths rule (a ∷ b ∷ []) paths → (p q : JsonPath) × (paths ≡ p ∷ q ∷ []) × IsPathOf rule a p × IsPathOf rule b q
+    of_two : (paths : List JsonPath) → ArePaths reading (a ∷ b ∷ []) paths → (p q : JsonPath) × (paths ≡ p ∷ q ∷ []) × IsPathOf reading a p × IsPathOf reading b q
     of_two [] are = absurd are
     of_two (p ∷ []) are = absurd are.1
     of_two (p ∷ q ∷ r ∷ rest) are = absurd are.1.1
@@ -257,11 +251,12 @@ run_comes {I} {W} {E} out err known opened colours asked inputs later before aft
     let are_known = subst (λ (names : List (List ℕ)). AreKnown known names) (sym (names_are o are)) (both_known known is_one is_two) in
     let ended = (came.1 (is_plain o are) files_known are_known).0 few in
     let answered = ended.0 in
-    let both = two_paths (rule_in o) (path_texts known o) answered.paths (codes "$['a']") (codes "$['b'][0]") (texts_are known o are) answered.are in
+    let both = two_paths (reading_in o) (path_texts known o) answered.paths (codes "$['a']") (codes "$['b'][0]") (texts_are known o are) answered.are in
     let paths : ArePathsTo both.0 both.1 = record {
-      rule = rule_in o;
-      first = subst (λ (text : List ℕ). IsPathOf (rule_in o) text both.0) (sym text_of_a) both.3;
-      second = subst (λ (text : List ℕ). IsPathOf (rule_in o) text both.1) (sym text_of_b) both.4;
+      reading = reading_in o;
+      unbound = ap bindings_in are.bindings;
+      first = subst (λ (text : List ℕ). IsPathOf (reading_in o) text both.0) (sym text_of_a) both.3;
+      second = subst (λ (text : List ℕ). IsPathOf (reading_in o) text both.1) (sym text_of_b) both.4;
       normal_a = normal_law to_a ((97 ∷ [], (refl, refl)), tt) tt;
       normal_b = normal_law to_b ((98 ∷ [], (refl, refl)), tt) (grind arith, tt);
       unique = unique;

@@ -6,8 +6,11 @@ use Rattle.serde_json.specs.Read.{read}
 use Rattle.serde_json.specs.Written.{compact_text, has_float}
 use Rattle.serde_json_path_nodes.specs.Location.{Located, Step, at}
 use Rattle.serde_json_path_nodes.specs.Text.{normal}
-use Rattle.serde_json_path_functions.specs.Functions.{FunctionSet, Numbers}
+use Rattle.serde_json_path_functions.specs.Functions.{FunctionSet}
 use Rattle.serde_json_path_functions.specs.Patterns.{builtin_functions}
+use Rattle.serde_json_path_parser.specs.Parse.{ParsedQuery}
+use Rattle.serde_json_path_syntax.proofs.Bound.{same_bound}
+use Rattle.serde_json_path_syntax.specs.Bound.{value_in}
 use Rattle.serde_json_path_syntax.specs.Tree.{Query}
 use Rattle.serde_json_path_core.specs.Meaning.{IsResult}
 use Rattle.serde_json_path.specs.Laws.{IsNormal, tree_to}
@@ -17,7 +20,7 @@ use Rattle.jsonpath_lines.specs.Output.{compact_lines}
 use Rattle.jsonpath_lines.specs.declared.forms.Form.TheVariants.{LocationAndValue}
 use Rattle.jpq_program.specs.Answers.{AreEach, IsAnswerOn}
 use Rattle.jpq_program.specs.Looks.{ArePieces, Look}
-use Rattle.jpq_program.specs.Run.{IsPathOf}
+use Rattle.jpq_program.specs.Run.{IsBound, IsPathOf, Reading}
 use Rattle.jsonpath_lines.proofs.Words.{append-nil}
 
 -- a result is the only one
@@ -50,12 +53,18 @@ line_to head location v = head ++ ((normal location ++ (codes "\t" ++ compact_te
 same_document : (d e : Data) → Some d ≡ Some e → d ≡ e
 same_document d e same = cc
 
+-- a path without values in it has the tree that was read
+plain_tree : (reading : Reading) (plain path : JsonPath) → reading.bindings ≡ [] → IsBound reading.bindings plain path → path_tree path ≡ path_tree plain
+plain_tree reading plain path none is =
+    ap (λ (view : ParsedQuery). view.tree) is
+    ∙ same_bound (value_in reading.bindings) (λ t. ap (λ (bindings : List (List ℕ × List ℕ)). value_in bindings t) none) (path_tree plain)
+
 -- what is shown of a document by the normalised path of a node without doubles
-pub answer_is : (location : List Step) (rule : Numbers) (F : FunctionSet) (path : JsonPath) (later : Bool) (head bytes text : List ℕ) (count : ℕ) (d v : Data) → IsNormal location → ResultIsUnique → IsPathOf rule (normal location) path
+pub answer_is : (location : List Step) (reading : Reading) (F : FunctionSet) (path : JsonPath) (later : Bool) (head bytes text : List ℕ) (count : ℕ) (d v : Data) → IsNormal location → ResultIsUnique → reading.bindings ≡ [] → IsPathOf reading (normal location) path
     → read bytes ≡ Some d → at d location ≡ Some v → has_float v ≡ false → IsAnswerOn F path plain later head bytes text count → (text ≡ line_to head location v) × (count ≡ 1)
-answer_is location rule F path later head bytes text count d v law unique parsed reads there whole shown =
+answer_is location reading F path later head bytes text count d v law unique none parsed reads there whole shown =
     let is = shown.2 in
-    let tree : tree_to location ≡ path_tree path = parsed.only (tree_to location) (law.accepted rule builtin_functions.signature) in
+    let tree : tree_to location ≡ path_tree path = parsed.1.only (tree_to location) (law.accepted reading.numbers builtin_functions.signature) ∙ sym (plain_tree reading parsed.0 path none parsed.2) in
     let same : shown.0 ≡ d = same_document shown.0 d (sym shown.1.1 ∙ reads) in
     let node : Located = record { location = location; value = v } in
     let result : IsResult (with_rule_of path F) d (path_tree path) d (node ∷ []) = subst (λ q. IsResult (with_rule_of path F) d q d (node ∷ [])) tree (law.selects (with_rule_of path F) d v there) in

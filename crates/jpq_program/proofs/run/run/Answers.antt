@@ -1,7 +1,7 @@
-use Rattle.jpq_program.proofs.Words.{◌≡◌, ◌≤◌, ◌∙◌, Bool, inl, inr, refl, ap, subst, arith, common_steps, List, ℕ, string_bytes, AppendsBeginning, Streams, AreKnown, IsAnswered, IsAnsweredInPart, IsCheckedInPart, IsCheckRun, IsChecked, IsFound, IsPlainRun, IsQuietRun, TellsNothing, told_after, IsStatusOf, Next, None, Ok, Opens, Appends, [], is_quiet, names_in, not, opened_in, path_files_in, status_after}
+use Rattle.jpq_program.proofs.Words.{◌≡◌, ◌≤◌, ◌∙◌, Bool, inl, inr, refl, sym, ap, subst, arith, common_steps, List, ℕ, string_bytes, AppendsBeginning, Streams, AreKnown, IsAnswered, IsAnsweredInPart, IsCheckedInPart, IsChecked, IsFound, IsPlainRun, IsQuietRun, TellsNothing, told_after, IsStatusOf, Next, None, Ok, Opens, Appends, [], is_quiet, names_in, not, opened_in, path_files_in, status_after}
 use Rattle.jpq_program.proofs.Asked.{all_wanted, each_shown, out_since, plain_answered, plain_whole, run_ended}
 use Rattle.jpq_program.proofs.Checked.{check_ended}
-use Rattle.jpq_program.proofs.Ended.{ended_well, one_of_few, printed_since}
+use Rattle.jpq_program.proofs.Ended.{ended_checked, ended_well, one_of_few, printed_since}
 use Rattle.jpq_program.proofs.Opened.{opens_ended}
 use Rattle.jpq_program.proofs.Quiet.{ended_quietly, quiet_found, quiet_out, quiet_whole}
 use Rattle.jpq_program.proofs.Shown.{of_ok}
@@ -22,44 +22,44 @@ returns-in-Ok-Run-clause-comes g c =
     → IsAnswered g.W.Write.contents (g.I.Inputs.bytes_of c.args.inputs.now) options c.args.colours c.args.streams.now.out c.exit_status.new.streams.out c.exit_status.result
     × (options.most_of_all ≡ None → Opens (g.I.Inputs.opened c.args.inputs.now) (g.I.Inputs.opened c.run_with-ended.new.inputs) (opened_in options)) × TellsNothing options c.args.streams.now c.exit_status.new.streams = λ run files known few.
     let well = ended_well ended (not c.is_empty.result) outcome c.exit_status.result (subst (λ (quiet : Bool). c.exit_status.result ≡ status_after ended (not c.is_empty.result) quiet outcome) (c.is_quiet-quiet.ensures ∙ each_shown options.shown run.each) c.exit_status.ensures.status) few in
-    let done = of_ok _ ended well.0 well.1 c.run_with-ended.ensures.answered run.usual c.restart.ensures.outcome c.restart.ensures.total c.restart.ensures.pending files known in (
+    let done = of_ok _ ended well.0 well.1 c.run_with-ended.ensures.answered run.check c.restart.ensures.outcome c.restart.ensures.total c.restart.ensures.pending files known in (
       run_ended g.W.Write.contents (g.I.Inputs.bytes_of c.args.inputs.now) options c.args.colours c.args.streams.now.out c.restart.new.self.out c.run_with-ended.new.streams.out c.exit_status.new.streams.out outcome c.exit_status.result
           c.restart.ensures.out c.exit_status.ensures.out well.3
           (plain_answered g.W.Write.contents (g.I.Inputs.bytes_of c.args.inputs.now) options c.args.colours well.0 c.restart.new.self c.run_with-ended.new.streams run.each well.2 done),
-      λ all. of_ok _ ended well.0 well.1 c.run_with-ended.ensures.all run.usual.check (all_wanted _ _ well.0 c.run_with-ended.new.streams (plain_whole options well.0 c.run_with-ended.new.streams run.each done.ends) all done.ends),
+      λ all. of_ok _ ended well.0 well.1 c.run_with-ended.ensures.all run.check (all_wanted _ _ well.0 c.run_with-ended.new.streams (plain_whole options well.0 c.run_with-ended.new.streams run.each done.ends) all done.ends),
       λ silent. untold well.0 well.1 ∙ done.told silent well.2 ∙ c.restart.ensures.err,
     ) in
     let found : IsQuietRun options → AreKnown (g.I.Inputs.bytes_of c.args.inputs.now) (path_files_in options) → AreKnown (g.I.Inputs.bytes_of c.args.inputs.now) (names_in options)
     → Appends (g.W.Write.contents c.args.streams.now.out) (g.W.Write.contents c.exit_status.new.streams.out) [] × (c.exit_status.result ≤ 1 → IsFound (g.I.Inputs.bytes_of c.args.inputs.now) options c.args.colours c.exit_status.result)
     × (c.exit_status.result ≡ 1 → (options.most_of_all ≡ None → Opens (g.I.Inputs.opened c.args.inputs.now) (g.I.Inputs.opened c.run_with-ended.new.inputs) (opened_in options)) × TellsNothing options c.args.streams.now c.exit_status.new.streams) = λ run files known.
     let status_is = subst (λ (quiet : Bool). c.exit_status.result ≡ status_after ended (not c.is_empty.result) quiet outcome) (c.is_quiet-quiet.ensures ∙ ap is_quiet run.shown) c.exit_status.ensures.status in
-    let done = λ (next : Next) (is : ended ≡ Ok next). of_ok _ ended next is c.run_with-ended.ensures.answered run.usual c.restart.ensures.outcome c.restart.ensures.total c.restart.ensures.pending files known in (
+    let done = λ (next : Next) (is : ended ≡ Ok next). of_ok _ ended next is c.run_with-ended.ensures.answered run.check c.restart.ensures.outcome c.restart.ensures.total c.restart.ensures.pending files known in (
       quiet_out g.W.Write.contents (g.I.Inputs.bytes_of c.args.inputs.now) options c.args.colours c.args.streams.now.out c.exit_status.new.streams.out run
           (out_since (IsAnsweredInPart g.W.Write.contents (g.I.Inputs.bytes_of c.args.inputs.now) options c.args.colours) c.args.streams.now.out c.restart.new.self.out c.run_with-ended.new.streams.out c.exit_status.new.streams.out
-          c.restart.ensures.out c.exit_status.ensures.out (c.run_with-ended.ensures.in_part run.usual c.restart.ensures.total c.restart.ensures.pending files known)),
+          c.restart.ensures.out c.exit_status.ensures.out (c.run_with-ended.ensures.in_part run.check c.restart.ensures.total c.restart.ensures.pending files known)),
       (λ few.
           let well = ended_quietly ended (not c.is_empty.result) outcome c.exit_status.result status_is few in
           quiet_found g.W.Write.contents (g.I.Inputs.bytes_of c.args.inputs.now) options c.args.colours well.0 c.restart.new.self c.run_with-ended.new.streams c.exit_status.result run well.2 well.3 (done well.0 well.1)),
       (λ one.
           let well = ended_quietly ended (not c.is_empty.result) outcome c.exit_status.result status_is (omega (arith, one)) in
           let came = done well.0 well.1 in (
-            λ all. of_ok _ ended well.0 well.1 c.run_with-ended.ensures.all run.usual.check (all_wanted _ _ well.0 c.run_with-ended.new.streams (quiet_whole _ _ well.0 c.run_with-ended.new.streams (well.3 one).0 came.ends) all came.ends),
+            λ all. of_ok _ ended well.0 well.1 c.run_with-ended.ensures.all run.check (all_wanted _ _ well.0 c.run_with-ended.new.streams (quiet_whole _ _ well.0 c.run_with-ended.new.streams (well.3 one).0 came.ends) all came.ends),
             λ silent. untold well.0 well.1 ∙ came.told silent (well.3 one).1 ∙ c.restart.ensures.err,
           )),
     ) in
-    let checked : IsCheckRun options → AreKnown (g.I.Inputs.bytes_of c.args.inputs.now) (path_files_in options) → c.exit_status.result ≤ 1 → IsChecked g.W.Write.contents (g.I.Inputs.bytes_of c.args.inputs.now) options c.args.inputs.now c.run_with-ended.new.inputs c.args.streams.now.out c.exit_status.new.streams.out c.exit_status.result
+    let checked : options.check ≡ true → AreKnown (g.I.Inputs.bytes_of c.args.inputs.now) (path_files_in options) → c.exit_status.result ≤ 1 → IsChecked g.W.Write.contents (g.I.Inputs.bytes_of c.args.inputs.now) options c.args.inputs.now c.run_with-ended.new.inputs c.args.streams.now.out c.exit_status.new.streams.out c.exit_status.result
     × TellsNothing options c.args.streams.now c.exit_status.new.streams = λ run known few.
-    let well = ended_well ended (not c.is_empty.result) outcome c.exit_status.result (subst (λ (quiet : Bool). c.exit_status.result ≡ status_after ended (not c.is_empty.result) quiet outcome) (c.is_quiet-quiet.ensures ∙ each_shown options.shown run.each) c.exit_status.ensures.status) few in (
+    let well = ended_checked ended _ _ outcome c.exit_status.result c.exit_status.ensures.status few in
+    let done = of_ok _ ended well.0 well.1 c.run_with-ended.ensures.checked run c.restart.ensures.outcome c.restart.ensures.pending known in (
       check_ended g.W.Write.contents (g.I.Inputs.bytes_of c.args.inputs.now) options c.args.inputs.now c.run_with-ended.new.inputs c.args.streams.now.out c.restart.new.self.out c.run_with-ended.new.streams.out c.exit_status.new.streams.out outcome c.exit_status.result
-          c.restart.ensures.out c.exit_status.ensures.out well.3
-          (of_ok _ ended well.0 well.1 c.run_with-ended.ensures.checked run c.restart.ensures.outcome c.restart.ensures.pending known),
-      λ silent. untold well.0 well.1 ∙ of_ok _ ended well.0 well.1 c.run_with-ended.ensures.check_told run.check silent ∙ c.restart.ensures.err,
+          c.restart.ensures.out c.exit_status.ensures.out (well.2 done.ends ∙ sym done.ends) done,
+      λ silent. untold well.0 well.1 ∙ of_ok _ ended well.0 well.1 c.run_with-ended.ensures.check_told run silent ∙ c.restart.ensures.err,
     ) in
     let in_part : IsPlainRun options → AreKnown (g.I.Inputs.bytes_of c.args.inputs.now) (path_files_in options) → AreKnown (g.I.Inputs.bytes_of c.args.inputs.now) (names_in options)
     → IsAnsweredInPart g.W.Write.contents (g.I.Inputs.bytes_of c.args.inputs.now) options c.args.colours c.args.streams.now.out c.exit_status.new.streams.out = λ run files known.
     out_since (IsAnsweredInPart g.W.Write.contents (g.I.Inputs.bytes_of c.args.inputs.now) options c.args.colours) c.args.streams.now.out c.restart.new.self.out c.run_with-ended.new.streams.out c.exit_status.new.streams.out
-    c.restart.ensures.out c.exit_status.ensures.out (c.run_with-ended.ensures.in_part run.usual c.restart.ensures.total c.restart.ensures.pending files known) in
-    let checked_in_part : IsCheckRun options → AreKnown (g.I.Inputs.bytes_of c.args.inputs.now) (path_files_in options) → IsCheckedInPart g.W.Write.contents (g.I.Inputs.bytes_of c.args.inputs.now) options c.args.streams.now.out c.exit_status.new.streams.out = λ run known.
+    c.restart.ensures.out c.exit_status.ensures.out (c.run_with-ended.ensures.in_part run.check c.restart.ensures.total c.restart.ensures.pending files known) in
+    let checked_in_part : options.check ≡ true → AreKnown (g.I.Inputs.bytes_of c.args.inputs.now) (path_files_in options) → IsCheckedInPart g.W.Write.contents (g.I.Inputs.bytes_of c.args.inputs.now) options c.args.streams.now.out c.exit_status.new.streams.out = λ run known.
     out_since (IsCheckedInPart g.W.Write.contents (g.I.Inputs.bytes_of c.args.inputs.now) options) c.args.streams.now.out c.restart.new.self.out c.run_with-ended.new.streams.out c.exit_status.new.streams.out
     c.restart.ensures.out c.exit_status.ensures.out (c.run_with-ended.ensures.checked_in_part run c.restart.ensures.pending known) in
     let opens = opens_ended ended _ _ outcome c.exit_status.result options (g.I.Inputs.opened c.args.inputs.now) (g.I.Inputs.opened c.run_with-ended.new.inputs) c.exit_status.ensures.status c.run_with-ended.ensures.opens c.run_with-ended.ensures.in_order in

@@ -1,4 +1,4 @@
-use Rattle.jpq_program.proofs.Words.{[], Bool, Bor, length, not, ◌==◌, List, ReadsFurther, map, path_lines, subst, take, take_all, ℕ, ◌∙◌, AskedPath, Global, PathReading, Streams, Vec, ap, append-nil, arith, common_steps, has_text, nat_tests, numbers_view, refl, sym, true≢false, ◌≡◌}
+use Rattle.jpq_program.proofs.Words.{[], Bool, Bor, length, not, ◌==◌, List, ReadsFurther, map, path_lines, subst, take, take_all, ℕ, ◌∙◌, AskedPath, Global, PathReading, Streams, Vec, ap, append-nil, arith, common_steps, has_text, nat_tests, reading_by, refl, sym, true≢false, ◌≡◌}
 use Rattle.jpq_program.proofs.Parsed.{line_passed, line_read}
 use Rattle.std.specs.List.{filter}
 use Rattle.jpq_program.proofs.paths.PathReading.parse_file.Goals as goal
@@ -8,7 +8,7 @@ has_unless : (text : List ℕ) (empty : Bool) → empty ≡ (length text == 0) �
 has_unless text empty is = grind (arith, nat_tests, common_steps)
 
 pub loop-index-init : goal.loop-index-init
-loop-index-init g c = (refl, refl, λ right. refl, λ none right. ([], sym (append-nil c.args.paths.now.items), tt))
+loop-index-init g c = (refl, refl, λ right. refl, λ right. ([], sym (append-nil c.args.paths.now.items), tt))
 
 pub loop-index-preserved-then-is_empty : goal.loop-index-preserved-then-is_empty
 loop-index-preserved-then-is_empty g c =
@@ -16,8 +16,8 @@ loop-index-preserved-then-is_empty g c =
       before.0,
       before.1,
       before.2,
-      λ none right. line_passed (numbers_view c.args.self.now.numbers) c.deref-line-items.result.now c.loop-index.index _ c.args.paths.now.items c.loop-index.paths.items c.loop-index-test.true
-          (has_unless _ c.is_empty.result c.is_empty.ensures ∙ ap not c.if-is_empty.true) (before.3 none right),
+      λ right. line_passed (reading_by c.args.self.now) c.deref-line-items.result.now c.loop-index.index _ c.args.paths.now.items c.loop-index.paths.items c.loop-index-test.true
+          (has_unless _ c.is_empty.result c.is_empty.ensures ∙ ap not c.if-is_empty.true) (before.3 right),
     )
 
 pub loop-index-preserved : goal.loop-index-preserved
@@ -35,13 +35,12 @@ loop-index-preserved g c =
             let wrong = rw w.in_default.is at c.in_ok-path.ensures.read in
             absurd (true≢false (sym wrong ∙ right))
       ],
-      λ none right. elim c.match-branch-4.branch [
+      λ right. elim c.match-branch-4.branch [
         | in-Some+in_ok-push w ↦
             let read = rw w.in-Some.is at c.in_ok-path.ensures.read in
-            let done = before.3 none (sym (ap (λ (s : Streams g.row.W.Denot g.row.E.Denot). s.outcome.refused) read.0) ∙ right) in
-            let is = read.1 (ap (λ (r : PathReading). r.bindings.items) before.0 ∙ none) in
-            line_read (numbers_view c.args.self.now.numbers) (numbers_view c.loop-index.self.numbers) c.deref-line-items.result.now c.loop-index.index _ c.args.paths.now.items c.loop-index.paths.items c.match-branch-4.paths.items w.in-Some.path c.loop-index-test.true
-            (has_unless _ c.is_empty.result c.is_empty.ensures ∙ ap not c.if-is_empty.false) (ap (λ (r : PathReading). numbers_view r.numbers) before.0) (ap (λ (v : Vec AskedPath Global). v.items) w.paths-is ∙ w.in_ok-push.ensures.items) done is
+            let done = before.3 (sym (ap (λ (s : Streams g.row.W.Denot g.row.E.Denot). s.outcome.refused) read.0) ∙ right) in
+            line_read (reading_by c.args.self.now) (reading_by c.loop-index.self) c.deref-line-items.result.now c.loop-index.index _ c.args.paths.now.items c.loop-index.paths.items c.match-branch-4.paths.items w.in-Some.path c.loop-index-test.true
+            (has_unless _ c.is_empty.result c.is_empty.ensures ∙ ap not c.if-is_empty.false) (ap reading_by before.0) (ap (λ (v : Vec AskedPath Global). v.items) w.paths-is ∙ w.in_ok-push.ensures.items) done read.1
         | in_default w ↦
             let wrong = rw w.in_default.is at c.in_ok-path.ensures.read in
             absurd (true≢false (sym wrong ∙ right))
@@ -49,8 +48,8 @@ loop-index-preserved g c =
     )
 
 pub returns-clause-read : goal.returns-clause-read
-returns-clause-read g c = λ none right.
+returns-clause-read g c = λ right.
     let lines = c.deref-line-items.result.now in
     let all : map (λ (line : Bor (List ℕ)). line.now) (take c.loop-index.index lines) ≡ path_lines c.args.text.now =
     ap (map (λ (line : Bor (List ℕ)). line.now)) (take_all c.loop-index.index lines c.loop-index-test.false ∙ c.deref-line-items.ensures.value) ∙ c.in_ok-lines.ensures in
-    subst (λ (texts : List (List ℕ)). ReadsFurther (numbers_view c.args.self.now.numbers) (filter has_text texts) c.args.paths.now.items c.loop-index.paths.items) all (c.loop-index.invariant.3 none right)
+    subst (λ (texts : List (List ℕ)). ReadsFurther (reading_by c.args.self.now) (filter has_text texts) c.args.paths.now.items c.loop-index.paths.items) all (c.loop-index.invariant.3 right)

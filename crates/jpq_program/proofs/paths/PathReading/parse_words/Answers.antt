@@ -1,4 +1,4 @@
-use Rattle.jpq_program.proofs.Words.{◌∙◌, ap, sym, AskedPath, Global, PathReading, Streams, Vec, numbers_view, true≢false}
+use Rattle.jpq_program.proofs.Words.{◌∙◌, ap, sym, AskedPath, Global, PathReading, Streams, Vec, reading_by, true≢false}
 use Rattle.jpq_program.proofs.Parsed.{paths_further}
 use Rattle.jpq_program.proofs.paths.PathReading.parse_words.Goals as goal
 use Rattle.jpq_program.proofs.paths.PathReading.parse_words.Goals.{in-Some+in_ok-push, in_default}
@@ -17,14 +17,13 @@ loop-index-preserved g c =
             let wrong = rw w.in_default.is at c.in_ok-path.ensures.read in
             absurd (true≢false (sym wrong ∙ right))
       ],
-      λ none start refused. elim c.match-branch-3.branch [
+      λ start refused. elim c.match-branch-3.branch [
         | in-Some+in_ok-push w ↦
             let read = rw w.in-Some.is at c.in_ok-path.ensures.read in
             let before = sym (ap (λ (s : Streams g.row.W.Denot g.row.E.Denot). s.outcome.refused) read.0) ∙ refused in
-            let are = c.loop-index.invariant.3 none start before in
-            let is = read.1 (ap (λ (r : PathReading). r.bindings.items) c.loop-index.invariant.0 ∙ none) in
-            paths_further (numbers_view c.args.self.now.numbers) (numbers_view c.loop-index.self.numbers) c.args.texts.now c.loop-index.index _ c.loop-index.paths.items c.match-branch-3.paths.items w.in-Some.path c.loop-index-test.true
-            (ap (λ (r : PathReading). numbers_view r.numbers) c.loop-index.invariant.0) (ap (λ (v : Vec AskedPath Global). v.items) w.paths-is ∙ w.in_ok-push.ensures.items) are is
+            let are = c.loop-index.invariant.3 start before in
+            paths_further (reading_by c.args.self.now) (reading_by c.loop-index.self) c.args.texts.now c.loop-index.index _ c.loop-index.paths.items c.match-branch-3.paths.items w.in-Some.path c.loop-index-test.true
+            (ap reading_by c.loop-index.invariant.0) (ap (λ (v : Vec AskedPath Global). v.items) w.paths-is ∙ w.in_ok-push.ensures.items) are read.1
         | in_default w ↦
             let wrong = rw w.in_default.is at c.in_ok-path.ensures.read in
             absurd (true≢false (sym wrong ∙ refused))
