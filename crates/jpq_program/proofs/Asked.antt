@@ -2,6 +2,9 @@
 use Rattle.jpq_program.proofs.Words.{AreAllInPart, AreAllShown, IsBetween, IsUntil, total_for, has_enough, nat_lt, decimal, end_text, true≢false, header_cells, header_for, if◌then◌else◌, texts_asked, ◌≡◌, ◌∙◌, ◌&&◌, ◌||◌, ℕ, true, false, List, [], Option, None, length, length-map, map, refl, sym, ap, subst, string_bytes, Appends, AreInputsShown, AreKnown, ArePaths, IsAnswered, IsShownInPart, IsShownOn, cells_for, head_for, Outcome, names_in, reading_in, status_of, Answered, AppendsBeginning, AskedPath, Begins, IsAnsweredInPart, IsShownInPartFor, SendsFor, Shown, ◌++◌, Documents, Heads, ReadsForPaths, JsonPath, Keeps, IfSome, Nodes, OptionShown, Options, Output, Colours, Form, IsRowInPart, IsRowOn, Look, MatchBool, first_cells, row_line, look_in, Streams, builtin_functions, form_in, head_by, heads_in, is_each, is_table, output_in, path_tree, shows_places, Nothing, path_texts, AnswersRun, Ends, IfWhole, is_whole, Enough, Found, More, Next, inr, SendsUntil, is_quiet}
 use Rattle.jpq_program.proofs.Ended.{sent_out, status_is}
 use Rattle.jpq_program.proofs.Sending.{ends_still, no_named, no_shown, none_wanted}
+use Rattle.jpq_program.specs.Inputs.{IsNamedShown, OpensWanted}
+use Rattle.jpq_program.specs.Inside.{named_for}
+use Rattle.jpq_program.specs.Run.{IsShownFor, OpensFor}
 use Rattle.jpq_program.proofs.Shown.{answered_since, begun_since, none_begun_of}
 
 -- ---- documents are read for what is asked
@@ -65,6 +68,16 @@ sent_for contents options colours next asked look heads bytes_of before start no
     paths : List JsonPath
     paths = map (λ (path : AskedPath). path.path) asked
 
+pub opened_for : (options : Options) (colours : Colours) (asked : List AskedPath) (look : Look) (heads : Heads) (bytes_of : List ℕ → Option (List ℕ)) (was now : Option (List (List ℕ))) → look ≡ look_in options colours → heads ≡ heads_in options (length asked)
+    → OpensWanted options.most_of_all (IsNamedShown (IsUntil options.most_of_all (Whole options.shown (map (λ (path : AskedPath). path.path) asked) look heads)) options.lines bytes_of) 0 (names_in options) [] was now
+    → OpensWanted options.most_of_all (named_for options colours (map (λ (path : AskedPath). path.path) asked) bytes_of) 0 (names_in options) [] was now
+opened_for options colours asked look heads bytes_of was now look_is heads_is opens =
+    subst (λ (h : Heads). OpensWanted options.most_of_all (IsNamedShown (IsUntil options.most_of_all (Whole options.shown paths (look_in options colours) h)) options.lines bytes_of) 0 (names_in options) [] was now) (heads_as_asked options asked heads heads_is)
+    (subst (λ (l : Look). OpensWanted options.most_of_all (IsNamedShown (IsUntil options.most_of_all (Whole options.shown paths l heads)) options.lines bytes_of) 0 (names_in options) [] was now) look_is opens)
+  where
+    paths : List JsonPath
+    paths = map (λ (path : AskedPath). path.path) asked
+
 pub begun_for : {W E : Type 0} (contents : W → Option (List ℕ)) (options : Options) (colours : Colours) (asked : List AskedPath) (look : Look) (heads : Heads) (bytes_of : List ℕ → Option (List ℕ)) (before start now : Streams W E)
     → look ≡ look_in options colours → heads ≡ heads_in options (length asked) → texts_asked asked ≡ path_texts bytes_of options → start.out ≡ before.out → start.pending ≡ before.pending
     → Begins contents (AllInPart options (map (λ (path : AskedPath). path.path) asked) look heads (texts_asked asked) bytes_of) start now
@@ -88,12 +101,13 @@ nothing_for contents options colours paths bytes_of before now known same =
     ([], no_named (IsUntil options.most_of_all Is) options.lines bytes_of (names_in options) 0 none known 1, refl) same
 
 -- a run was answered
-pub run_answered : {W E : Type 0} (contents : W → Option (List ℕ)) (bytes_of : List ℕ → Option (List ℕ)) (options : Options) (colours : Colours) (next : Next) (asked : List AskedPath) (old start answer final : Streams W E)
+pub run_answered : {W E : Type 0} (contents : W → Option (List ℕ)) (bytes_of : List ℕ → Option (List ℕ)) (options : Options) (colours : Colours) (next : Next) (asked : List AskedPath) (was now : Option (List (List ℕ))) (old start answer final : Streams W E)
     → ArePaths (reading_in options) (path_texts bytes_of options) (map (λ (path : AskedPath). path.path) asked)
     → old.outcome ≡ record { selected = false; refused = false } → start.out ≡ old.out → start.outcome ≡ old.outcome → string_bytes start.pending ≡ []
     → final.out ≡ answer.out → final.outcome ≡ answer.outcome → final.total ≡ answer.total → (options.silent ≡ true → (start.err ≡ old.err) × (final.err ≡ answer.err)) → SendsFor contents options colours next (map (λ (path : AskedPath). path.path) asked) bytes_of start answer
-    → AnswersRun contents bytes_of options colours next old final
-run_answered {W} {E} contents bytes_of options colours next asked old start answer final are fresh out outcome empty final_out final_outcome final_total quiet sent =
+    → (is_whole next ≡ true → answer.outcome.refused ≡ false → OpensFor options (IsShownFor options colours (map (λ (path : AskedPath). path.path) asked)) bytes_of was now)
+    → AnswersRun contents bytes_of options colours next was now old final
+run_answered {W} {E} contents bytes_of options colours next asked was now old start answer final are fresh out outcome empty final_out final_outcome final_total quiet sent opens =
     let answered = sent.1.0 in
     let appends = sent_out (contents start.out) (contents answer.out) (string_bytes start.pending) (string_bytes answer.pending) answered.text empty sent.1.1 answered.writes in
     record {
@@ -107,6 +121,7 @@ run_answered {W} {E} contents bytes_of options colours next asked old start answ
       out = subst (λ (o : W). Appends (contents o) (contents final.out) answered.text) out (subst (λ (o : W). Appends (contents start.out) (contents o) answered.text) (sym final_out) appends);
       selected = ap (λ (o : Outcome). o.selected) final_outcome ∙ answered.selected ∙ ap (λ (o : Outcome). o.selected || nat_lt 0 answered.count) (outcome ∙ fresh);
       told = λ silent right. (quiet silent).1 ∙ answered.told silent (sym (ap (λ (o : Outcome). o.refused) final_outcome) ∙ right) ∙ (quiet silent).0;
+      opens = λ whole right. opens whole (sym (ap (λ (o : Outcome). o.refused) final_outcome) ∙ right);
     }
 
 -- where nodes are shown each, something is shown
@@ -132,9 +147,9 @@ all_wanted form most Enough after whole all ends = absurd (true≢false (sym end
 all_wanted form most Found after whole all ends = absurd (true≢false (sym whole))
 
 -- so what it shows went out
-pub plain_answered : {W E : Type 0} (contents : W → Option (List ℕ)) (bytes_of : List ℕ → Option (List ℕ)) (options : Options) (colours : Colours) (next : Next) (before after : Streams W E) → is_each options.shown ≡ true → after.outcome.refused ≡ false
-    → AnswersRun contents bytes_of options colours next before after → IsAnswered contents bytes_of options colours before.out after.out (status_of after.outcome)
-plain_answered contents bytes_of options colours next before after each right run = record {
+pub plain_answered : {W E : Type 0} (contents : W → Option (List ℕ)) (bytes_of : List ℕ → Option (List ℕ)) (options : Options) (colours : Colours) (next : Next) (was now : Option (List (List ℕ))) (before after : Streams W E) → is_each options.shown ≡ true → after.outcome.refused ≡ false
+    → AnswersRun contents bytes_of options colours next was now before after → IsAnswered contents bytes_of options colours was now before.out after.out (status_of after.outcome)
+plain_answered contents bytes_of options colours next was now before after each right run = record {
   paths = run.paths;
   are = run.are;
   text = run.text;
@@ -142,6 +157,7 @@ plain_answered contents bytes_of options colours next before after each right ru
   shown = run.whole right (plain_whole options next after each run.ends);
   out = run.out;
   ends = status_is after.outcome (nat_lt 0 run.count) right run.selected;
+  opens = run.opens (plain_whole options next after each run.ends) right;
 }
 
 -- of what is shown of the inputs a beginning is out
@@ -161,12 +177,12 @@ run_begun {W} {E} contents bytes_of options colours asked old start answer final
 )
 
 -- the same of a run that ended so
-pub run_ended : {W : Type 0} (contents : W → Option (List ℕ)) (bytes_of : List ℕ → Option (List ℕ)) (options : Options) (colours : Colours) (old start final last : W) (outcome : Outcome) (status : ℕ) → start ≡ old → last ≡ final → status ≡ status_of outcome
-    → IsAnswered contents bytes_of options colours start final (status_of outcome) → IsAnswered contents bytes_of options colours old last status
-run_ended {W} contents bytes_of options colours old start final last outcome status begins ends is answered =
-    subst (λ (o : W). IsAnswered contents bytes_of options colours o last status) begins
-    (subst (λ (o : W). IsAnswered contents bytes_of options colours start o status) (sym ends)
-    (subst (λ (n : ℕ). IsAnswered contents bytes_of options colours start final n) (sym is) answered))
+pub run_ended : {W : Type 0} (contents : W → Option (List ℕ)) (bytes_of : List ℕ → Option (List ℕ)) (options : Options) (colours : Colours) (was now : Option (List (List ℕ))) (old start final last : W) (outcome : Outcome) (status : ℕ) → start ≡ old → last ≡ final → status ≡ status_of outcome
+    → IsAnswered contents bytes_of options colours was now start final (status_of outcome) → IsAnswered contents bytes_of options colours was now old last status
+run_ended {W} contents bytes_of options colours was now old start final last outcome status begins ends is answered =
+    subst (λ (o : W). IsAnswered contents bytes_of options colours was now o last status) begins
+    (subst (λ (o : W). IsAnswered contents bytes_of options colours was now start o status) (sym ends)
+    (subst (λ (n : ℕ). IsAnswered contents bytes_of options colours was now start final n) (sym is) answered))
 
 -- what is so of what is out, as it was before and stayed
 pub out_since : {W : Type 0} (Is : W → W → Type 0) (old start final last : W) → start ≡ old → last ≡ final → Is start final → Is old last

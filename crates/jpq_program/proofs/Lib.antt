@@ -12,6 +12,7 @@
 -- Asked: what options ask for, as documents are answered.
 -- Sending: what is sent of inputs, one after the other.
 -- Opened: which inputs are opened, one after the other.
+-- Wanted: which inputs are opened where so many nodes are wanted of all.
 -- Ended: how a run ends.
 -- Quiet: runs that show nothing, and answer whether there is a node.
 -- Checked: paths that are checked, one after the other.
@@ -29,6 +30,7 @@ mod Bound
 mod Asked
 mod Sending
 mod Opened
+mod Wanted
 mod Ended
 mod Quiet
 mod Checked

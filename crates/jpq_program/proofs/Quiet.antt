@@ -119,10 +119,10 @@ quiet_whole form most Enough after none ends = refl
 quiet_whole form most Found after none ends = absurd (true≢false (sym ends.1 ∙ none))
 
 -- the status says whether there is a node
-pub quiet_found : {W E : Type 0} (contents : W → Option (List ℕ)) (bytes_of : List ℕ → Option (List ℕ)) (options : Options) (colours : Colours) (next : Next) (before after : Streams W E) (status : ℕ) → IsQuietRun options
+pub quiet_found : {W E : Type 0} (contents : W → Option (List ℕ)) (bytes_of : List ℕ → Option (List ℕ)) (options : Options) (colours : Colours) (next : Next) (was now : Option (List (List ℕ))) (before after : Streams W E) (status : ℕ) → IsQuietRun options
     → (status ≡ 0 → after.outcome.selected ≡ true) → (status ≡ 1 → (after.outcome.selected ≡ false) × (after.outcome.refused ≡ false))
-    → AnswersRun contents bytes_of options colours next before after → IsFound bytes_of options colours status
-quiet_found contents bytes_of options colours next before after status quiet found none run = record {
+    → AnswersRun contents bytes_of options colours next was now before after → IsFound bytes_of options colours status
+quiet_found contents bytes_of options colours next was now before after status quiet found none run = record {
   paths = run.paths;
   are = run.are;
   found = λ zero. (

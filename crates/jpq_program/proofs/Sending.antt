@@ -373,7 +373,7 @@ input_until {silent = silent} contents form most Is IsPart lines bytes_of bytes_
 -- ---- what is sent after a first row, and before a sum
 
 -- the row before all shows no node
-opened_at : {W E : Type 0} {silent : Bool} (contents : W → Option (List ℕ)) (first : List ℕ) (before opened : Streams W E) → before.total ≡ 0 → Sends silent contents (IsAside first) (IsAside first) before opened → opened.total ≡ 0
+pub opened_at : {W E : Type 0} {silent : Bool} (contents : W → Option (List ℕ)) (first : List ℕ) (before opened : Streams W E) → before.total ≡ 0 → Sends silent contents (IsAside first) (IsAside first) before opened → opened.total ≡ 0
 opened_at contents first before opened fresh head = none opened.total before.total head.0.count head.0.total fresh head.0.part.1
   where
     none : (now start more : ℕ) → now ≡ start + more → start ≡ 0 → more ≡ 0 → now ≡ 0

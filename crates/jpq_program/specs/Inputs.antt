@@ -2,7 +2,7 @@
 use Rattle.std.specs.Char.{is_ascii_whitespace}
 use Rattle.std.specs.Io.BufRead.{strip_last}
 use Rattle.std.specs.List.{list_all}
-use Rattle.std.specs.Prelude.{◌≡◌, ◌==◌, ◌<◌, ℕ, Bool, false, List, [], ◌∷◌, ◌++◌, drop, get_or, length, nat_le, if◌then◌else◌, IfSome, MatchBool, Option, None, Some}
+use Rattle.std.specs.Prelude.{◌≡◌, ◌==◌, ◌<◌, ◌+◌, ℕ, Bool, false, List, [], ◌∷◌, ◌++◌, drop, get_or, length, nat_le, if◌then◌else◌, IfSome, MatchBool, Option, None, Some}
 use Rattle.jsonpath_document.specs.Begins.{begins}
 use Rattle.jpq_program.specs.Answers.{AreEach}
 
@@ -73,3 +73,16 @@ Opens before after names = IfSome after (λ later.
 abbrev pub OpensFirst : Option (List (List ℕ)) → Option (List (List ℕ)) → List (List ℕ) → Type 0
 OpensFirst before after names =
     (firsts others : List (List ℕ)) × (names ≡ firsts ++ others) × Opens before after firsts
+
+-- The inputs that are opened where so many nodes are wanted of all, by what is shown of each: none after so many that these are enough,
+-- else the first, and then those after it.
+abbrev pub AreWanted : Option ℕ → (List ℕ → ℕ → List ℕ → ℕ → Type 0) → ℕ → List (List ℕ) → List (List ℕ) → Type 0
+AreWanted most Is before [] opened = opened ≡ []
+AreWanted most Is before (name ∷ names) opened = MatchBool (has_enough most before) (opened ≡ [])
+    ((text : List ℕ) × (count : ℕ) × (later : List (List ℕ)) × Is name before text count
+    × AreWanted most Is (before + count) names later × (opened ≡ name ∷ later))
+
+-- these were opened after others
+abbrev pub OpensWanted : Option ℕ → (List ℕ → ℕ → List ℕ → ℕ → Type 0) → ℕ → List (List ℕ) → List (List ℕ) → Option (List (List ℕ)) → Option (List (List ℕ)) → Type 0
+OpensWanted most Is before names others was now =
+    (opened : List (List ℕ)) × AreWanted most Is before names opened × Opens was now (others ++ opened)

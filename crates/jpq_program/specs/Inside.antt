@@ -30,13 +30,13 @@ use Rattle.jsonpath_document.specs.Document.{ReadsAs}
 use Rattle.jpq_program.specs.Answers.{AreAnswersInPart, AreAnswersOn, IsAnswer, IsAnswerInPart, IsAnswerOn, IsShownInPart, IsShownOn, has_nodes, with_most}
 use Rattle.jpq_program.specs.Looks.{ArePieces, IsPiece, Look, is_array, led_by}
 use Rattle.jpq_program.specs.Heads.{head_in}
-use Rattle.jpq_program.specs.Inputs.{AreInputsShown, IsInputShown, IsLineShown, IsUntil, Shown, has_enough}
+use Rattle.jpq_program.specs.Inputs.{AreInputsShown, IsInputShown, IsLineShown, IsNamedShown, IsUntil, OpensWanted, Shown, has_enough}
 use Rattle.csv.specs.Writing as csv
 use Rattle.jsonpath_lines.specs.declared.forms.LineEnd.{LineEnd}
 use Rattle.jpq_program.specs.declared.rows.Separator.{Separator}
 use Rattle.jpq_program.specs.declared.rows.Separator.TheVariants.{Comma, Tab}
 use Rattle.jpq_program.specs.Rows.{comma_rows, header_cells, IsRowInPart, IsRowOn, first_cells, row_line, row_text}
-use Rattle.jpq_program.specs.Run.{AreAllInPart, AreAllShown, ArePaths, IsBetween, IsPathOf, Reading, form_in, has_line_numbers, has_names, has_numbers, path_texts, reading_in}
+use Rattle.jpq_program.specs.Run.{AreAllInPart, AreAllShown, ArePaths, IsBetween, IsPathOf, IsShownFor, OpensFor, Reading, form_in, has_line_numbers, has_names, has_numbers, path_texts, reading_in}
 use Rattle.jpq_options.specs.declared.options.Options.{Options}
 use Rattle.jpq_options.specs.declared.options.Shown.{Shown as OptionShown}
 use Rattle.jpq_options.specs.declared.options.Shown.TheVariants.{Csv, Nodes, Tsv}
@@ -426,6 +426,11 @@ abbrev pub SendsInputs : {W E : Type 0} → (W → Option (List ℕ)) → Answer
 SendsInputs contents answering next lines bytes_of names before after = SendsWanted contents answering next
     (AreInputsShown (wanted_by answering) lines bytes_of names before.total) (AreInputsShown (wanted_in_part_by answering) lines bytes_of names before.total) before after
 
+-- of these inputs those were opened of which something was to be shown
+abbrev pub OpensBy : Documents → (List ℕ → Option (List ℕ)) → ℕ → List (List ℕ) → Option (List (List ℕ)) → Option (List (List ℕ)) → Type 0
+OpensBy documents bytes_of before names = OpensWanted documents.answering.showing.most_of_all
+    (IsNamedShown (wanted_by documents.answering) documents.lines bytes_of) before names []
+
 -- the same after the first row, and before the sum
 abbrev pub AreBetween : Answering → Bool → Shown → Bool → (List ℕ → Option (List ℕ)) → List (List ℕ) → List ℕ → ℕ → Type 0
 AreBetween answering is_wanted Is lines bytes_of names =
@@ -453,6 +458,11 @@ pub record ReadsForPaths (documents : Documents) : Type 0 where
   pub read : IfSome documents.reader (λ reader. Keeps reader (shows_places documents.answering.showing.output.form)
       (map (λ (path : AskedPath). path_tree path.path) documents.answering.paths.now))
 
+-- what options ask for is shown of the input of a name
+abbrev pub named_for : Options → Colours → List JsonPath → (List ℕ → Option (List ℕ)) → List ℕ → ℕ → List ℕ → ℕ → Type 0
+named_for options colours paths bytes_of =
+    IsNamedShown (IsUntil options.most_of_all (IsShownFor options colours paths)) options.lines bytes_of
+
 -- what options ask for was sent
 abbrev pub SendsFor : {W E : Type 0} → (W → Option (List ℕ)) → Options → Colours → Next → List JsonPath → (List ℕ → Option (List ℕ)) → Streams W E → Streams W E → Type 0
 SendsFor contents options colours next paths bytes_of before after = SendsUntil options.silent contents (form_in options.shown) options.most_of_all next
@@ -465,7 +475,7 @@ is_quiet _ = false
 
 -- Such a run was answered, up to its end or not: what went out since it began, how many nodes are shown by that, and that nothing was
 -- told where that is so.
-pub record AnswersRun {W E : Type 0} (contents : W → Option (List ℕ)) (bytes_of : List ℕ → Option (List ℕ)) (options : Options) (colours : Colours) (next : Next) (before after : Streams W E) : Type 0 where
+pub record AnswersRun {W E : Type 0} (contents : W → Option (List ℕ)) (bytes_of : List ℕ → Option (List ℕ)) (options : Options) (colours : Colours) (next : Next) (was now : Option (List (List ℕ))) (before after : Streams W E) : Type 0 where
   pub paths : List JsonPath
   pub are : ArePaths (reading_in options) (path_texts bytes_of options) paths
   pub text : List ℕ
@@ -476,6 +486,7 @@ pub record AnswersRun {W E : Type 0} (contents : W → Option (List ℕ)) (bytes
   pub out : Appends (contents before.out) (contents after.out) text
   pub selected : after.outcome.selected ≡ nat_lt 0 count
   pub told : options.silent ≡ true → after.outcome.refused ≡ false → after.err ≡ before.err
+  pub opens : is_whole next ≡ true → after.outcome.refused ≡ false → OpensFor options (IsShownFor options colours paths) bytes_of was now
 
 -- ---- nodes as they are written
 

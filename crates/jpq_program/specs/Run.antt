@@ -28,7 +28,7 @@ use Rattle.jpq_program.specs.Answers.{IsShownInPart, IsShownOn}
 use Rattle.jpq_program.specs.Bindings.{bindings_in}
 use Rattle.jpq_program.specs.Colours.{colours_for}
 use Rattle.jpq_program.specs.Heads.{head_in}
-use Rattle.jpq_program.specs.Inputs.{AreInputsShown, AreKnown, IsUntil, Opens, OpensFirst, Shown as DocumentShown, without_mark}
+use Rattle.jpq_program.specs.Inputs.{AreInputsShown, AreKnown, IsNamedShown, IsUntil, Opens, OpensFirst, OpensWanted, Shown as DocumentShown, without_mark}
 use Rattle.jpq_program.specs.Looks.{Look, is_array}
 use Rattle.jpq_program.specs.Rows.{IsRowInPart, IsRowOn, first_cells, header_cells, row_line}
 use Rattle.jpq_program.specs.declared.colours.Colours.{Colours}
@@ -171,6 +171,11 @@ path_texts bytes_of options = map (λ text. text.now) options.paths.items
 abbrev pub AreInputsFor : Options → DocumentShown → (List ℕ → Option (List ℕ)) → List ℕ → ℕ → Type 0
 AreInputsFor options Is bytes_of = AreInputsShown (IsUntil options.most_of_all Is) options.lines bytes_of (names_in options) 0
 
+-- of the inputs those were opened of which something was to be shown so, after the files of paths
+abbrev pub OpensFor : Options → DocumentShown → (List ℕ → Option (List ℕ)) → Option (List (List ℕ)) → Option (List (List ℕ)) → Type 0
+OpensFor options Is bytes_of = OpensWanted options.most_of_all (IsNamedShown (IsUntil options.most_of_all Is) options.lines bytes_of) 0
+    (names_in options) (path_files_in options)
+
 -- all that is shown for the paths: the first row of a table, what is shown of the inputs, and the sum of counts
 abbrev pub AreAllShown : Options → Colours → List JsonPath → (List ℕ → Option (List ℕ)) → List ℕ → ℕ → Type 0
 AreAllShown options colours paths bytes_of = IsBetween (header_for options (path_texts bytes_of options)) (total_for options)
@@ -205,8 +210,9 @@ pub record IsPlainRun (options : Options) : Type 0 where
   pub each : is_each options.shown ≡ true
 
 -- What comes of such a run in which nothing is refused and no writing fails, where the bytes of the inputs are known: what is shown of
--- them for the paths went out, and nothing else, and the status says whether nodes are shown.
-pub record IsAnswered {W : Type 0} (contents : W → Option (List ℕ)) (bytes_of : List ℕ → Option (List ℕ)) (options : Options) (colours : Colours) (before after : W) (status : ℕ) : Type 0 where
+-- them for the paths went out, and nothing else, the status says whether nodes are shown, and no other inputs were opened than those
+-- of which something was to be shown.
+pub record IsAnswered {W : Type 0} (contents : W → Option (List ℕ)) (bytes_of : List ℕ → Option (List ℕ)) (options : Options) (colours : Colours) (was now : Option (List (List ℕ))) (before after : W) (status : ℕ) : Type 0 where
   pub paths : List JsonPath
   pub are : ArePaths (reading_in options) (path_texts bytes_of options) paths
   pub text : List ℕ
@@ -214,6 +220,7 @@ pub record IsAnswered {W : Type 0} (contents : W → Option (List ℕ)) (bytes_o
   pub shown : AreAllShown options colours paths bytes_of text count
   pub out : Appends (contents before) (contents after) text
   pub ends : status ≡ (if nat_lt 0 count then 0 else 1)
+  pub opens : OpensFor options (IsShownFor options colours paths) bytes_of was now
 
 -- What is out after such a run, however it ended: nothing, where no path is asked, as where one is refused; else a beginning of what is
 -- shown of the inputs for the paths, without what was refused.
@@ -286,7 +293,7 @@ ComesOf out err bytes_of opened colours (WrongUse kind text) inputs later before
 ComesOf out err bytes_of opened colours (Print text) inputs later before after status = (later ≡ inputs) × IsPrinted out err (string_bytes text) before after status
 ComesOf out err bytes_of opened colours (Run options) inputs later before after status = IsStatusOf options status
     × (IsPlainRun options → AreKnown bytes_of (path_files_in options) → AreKnown bytes_of (names_in options)
-    → (status ≤ 1 → IsAnswered out bytes_of options colours before.out after.out status
+    → (status ≤ 1 → IsAnswered out bytes_of options colours (opened inputs) (opened later) before.out after.out status
     × (options.most_of_all ≡ None → Opens (opened inputs) (opened later) (opened_in options)) × TellsNothing options before after)
     × IsAnsweredInPart out bytes_of options colours before.out after.out)
     × (IsQuietRun options → AreKnown bytes_of (path_files_in options) → AreKnown bytes_of (names_in options)

@@ -7,7 +7,7 @@ ghost use Rattle.serde_json.specs.View.{view};
 ghost use Rattle.serde_json_path_syntax.specs.Tree.{Query};
 ghost use Rattle.serde_json_path_reach.specs.Readers.{Keeps};
 ghost use Rattle.jpq_program.specs.Inputs.{AreInputsShown, AreKnown, IsInputShown, IsLineShown, Opens, OpensFirst, is_blank, without_mark};
-ghost use Rattle.jpq_program.specs.Inside.{Begins, IsReadIn, OnlyNotes, OnlyRefuses, ReadsForPaths, SendsDocument, SendsInput, SendsInputs, SendsLine, is_done, wanted_in_part_by};
+ghost use Rattle.jpq_program.specs.Inside.{Begins, IsReadIn, OnlyNotes, OnlyRefuses, OpensBy, ReadsForPaths, SendsDocument, SendsInput, SendsInputs, SendsLine, is_done, is_whole, wanted_in_part_by};
 
 use crate::answering::{Answering, Document};
 use crate::encodings::{encoding_of, without_mark};
@@ -376,6 +376,12 @@ impl Documents<'_> {
         ensures all { IfOk result (λ next. next ≡ Next.More
             → Opens (I.opened inputs.old) (I.opened inputs.new)
             (map (λ name. name.now) names.now)) }
+        ensures wanted { IfOk result (λ next. is_whole next ≡ true
+            → streams.new.outcome.refused ≡ false → ReadsForPaths self.now
+            → string_bytes streams.old.pending ≡ []
+            → AreKnown (I.bytes_of inputs.old) (map (λ name. name.now) names.now)
+            → OpensBy self.now (I.bytes_of inputs.old) streams.old.total
+            (map (λ name. name.now) names.now) (I.opened inputs.old) (I.opened inputs.new)) }
         ensures answered { IfOk result (λ next. ReadsForPaths self.now
             → string_bytes streams.old.pending ≡ []
             → AreKnown (I.bytes_of inputs.old) (map (λ name. name.now) names.now)

@@ -10,8 +10,8 @@ ghost use Rattle.jsonpath_lines.specs.Sent.{AppendsBeginning};
 ghost use Rattle.jpq_options.specs.Options.{AsksFor};
 ghost use Rattle.jpq_options.specs.declared.options.Request as input;
 ghost use Rattle.jpq_program.specs.Colours.{colours_for};
-ghost use Rattle.jpq_program.specs.Inputs.{AreInputsShown, AreKnown, Opens, OpensFirst};
-ghost use Rattle.jpq_program.specs.Inside.{AnswersRun, AreBetween, Begins, OnlyTells, ReadsForPaths, SendsAll, SendsFor, SendsInputs, texts_asked, heads_in, is_quiet, look_with, shows_places, status_after, status_of, told_after, wanted_in_part_by};
+ghost use Rattle.jpq_program.specs.Inputs.{AreInputsShown, AreKnown, Opens, OpensFirst, OpensWanted};
+ghost use Rattle.jpq_program.specs.Inside.{AnswersRun, AreBetween, Begins, OnlyTells, OpensBy, ReadsForPaths, SendsAll, SendsFor, SendsInputs, texts_asked, heads_in, is_quiet, is_whole, look_with, named_for, shows_places, status_after, status_of, told_after, wanted_in_part_by};
 ghost use Rattle.jpq_program.specs.Run.{AreAllInPart, ComesOf, IsAnsweredInPart, IsChecked, IsCheckedInPart, IsPrinted, LacksMemory, canonical_lines, is_colored, look_in, looked_at_in, names_in, opened_in, output_in, path_files_in, path_texts, unit_in};
 
 use crate::answering::Answering;
@@ -263,6 +263,12 @@ fn answer_inputs<I: Inputs, W: Write, E: Write>(
     ensures opens { OpensFirst (I.opened inputs.old) (I.opened inputs.new) (names_in options.now) }
     ensures all { IfOk result (λ next. next ≡ Next.More
         → Opens (I.opened inputs.old) (I.opened inputs.new) (names_in options.now)) }
+    ensures wanted { IfOk result (λ next. is_whole next ≡ true
+        → streams.new.outcome.refused ≡ false → ReadsForPaths documents.now
+        → string_bytes streams.old.pending ≡ []
+        → AreKnown (I.bytes_of inputs.old) (names_in options.now)
+        → OpensBy documents.now (I.bytes_of inputs.old) streams.old.total
+        (names_in options.now) (I.opened inputs.old) (I.opened inputs.new)) }
     ensures answered { IfOk result (λ next. ReadsForPaths documents.now
         → string_bytes streams.old.pending ≡ []
         → AreKnown (I.bytes_of inputs.old) (names_in options.now)
@@ -292,6 +298,12 @@ fn answer_documents<I: Inputs, W: Write, E: Write>(
     ensures opens { OpensFirst (I.opened inputs.old) (I.opened inputs.new) (names_in options.now) }
     ensures all { IfOk result (λ next. next ≡ Next.More
         → Opens (I.opened inputs.old) (I.opened inputs.new) (names_in options.now)) }
+    ensures wanted { IfOk result (λ next. is_whole next ≡ true
+        → streams.new.outcome.refused ≡ false → ReadsForPaths documents.now
+        → streams.old.total ≡ 0 → string_bytes streams.old.pending ≡ []
+        → AreKnown (I.bytes_of inputs.old) (names_in options.now)
+        → OpensBy documents.now (I.bytes_of inputs.old) 0
+        (names_in options.now) (I.opened inputs.old) (I.opened inputs.new)) }
     ensures answered { IfOk result (λ next. ReadsForPaths documents.now
         → streams.old.total ≡ 0 → string_bytes streams.old.pending ≡ []
         → AreKnown (I.bytes_of inputs.old) (names_in options.now)
@@ -339,6 +351,13 @@ fn answer_paths<I: Inputs, W: Write, E: Write>(
     ensures opens { OpensFirst (I.opened inputs.old) (I.opened inputs.new) (names_in options.now) }
     ensures all { IfOk result (λ next. next ≡ Next.More
         → Opens (I.opened inputs.old) (I.opened inputs.new) (names_in options.now)) }
+    ensures wanted { IfOk result (λ next. is_whole next ≡ true
+        → streams.new.outcome.refused ≡ false
+        → streams.old.total ≡ 0 → string_bytes streams.old.pending ≡ []
+        → AreKnown (I.bytes_of inputs.old) (names_in options.now)
+        → OpensWanted options.now.most_of_all (named_for options.now colours.entry
+        (map (λ path. path.path) paths.now) (I.bytes_of inputs.old)) 0
+        (names_in options.now) [] (I.opened inputs.old) (I.opened inputs.new)) }
     ensures answered { IfOk result (λ next.
         texts_asked paths.now ≡ path_texts (I.bytes_of inputs.old) options.now
         → streams.old.total ≡ 0 → string_bytes streams.old.pending ≡ []
@@ -393,8 +412,8 @@ fn run_with<I: Inputs, W: Write, E: Write>(
         → streams.old.total ≡ 0 → string_bytes streams.old.pending ≡ []
         → AreKnown (I.bytes_of inputs.old) (path_files_in options.now)
         → AreKnown (I.bytes_of inputs.old) (names_in options.now)
-        → AnswersRun W.contents (I.bytes_of inputs.old) options.now
-        colours.entry next streams.old streams.new) }
+        → AnswersRun W.contents (I.bytes_of inputs.old) options.now colours.entry next
+        (I.opened inputs.old) (I.opened inputs.new) streams.old streams.new) }
     ensures in_part { options.now.check ≡ false
         → streams.old.total ≡ 0 → string_bytes streams.old.pending ≡ []
         → AreKnown (I.bytes_of inputs.old) (path_files_in options.now)

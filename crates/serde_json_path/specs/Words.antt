@@ -9,4 +9,4 @@ pub use Rattle.serde_json_path_nodes.specs.Words.{IfOk, located_nodes, node_valu
 pub use Rattle.serde_json_path_parser.specs.Errors.{is_seen_at_next, kind_of, message_of, position_of}
 pub use Rattle.serde_json_path_parser.specs.Source.{greatest_usize}
 pub use Rattle.serde_json_path_syntax.specs.SameTree.{same_query}
-pub use Rattle.serde_json_path_syntax.specs.Words.{Memory, no_segments, query, query_text, root, rule_of, signatures_of, tree_of}
+pub use Rattle.serde_json_path_syntax.specs.Words.{Memory, bound, no_segments, pairs_of, query, query_text, root, rule_of, signatures_of, tree_of, value_in}

@@ -1,9 +1,7 @@
 //! Paths.
 
 ghost use Rattle.std.specs.Prelude.{◌≡◌, [], IfOk, IfErr, IsTrue, ◌↔◌};
-ghost use Rattle.serde_json_path_syntax.specs.Bound.{bound, value_in};
-ghost use Rattle.serde_json_path_syntax.specs.Bindings.{pairs_of};
-ghost use Rattle.serde_json_path.specs.Words.{view, located_nodes, node_values, query, root, no_segments, tree_of, signatures_of, rule_of, OnlyMemoryOrPattern, Selects, SelectsValues, rest, query_of, set_of, document_of, Fits, whole_numbers, before_builtin, builtin_functions, numbers_view, Memory};
+ghost use Rattle.serde_json_path.specs.Words.{view, located_nodes, node_values, query, root, no_segments, tree_of, signatures_of, rule_of, bound, pairs_of, value_in, OnlyMemoryOrPattern, Selects, SelectsValues, rest, query_of, set_of, document_of, Fits, whole_numbers, before_builtin, builtin_functions, numbers_view, Memory};
 
 use crate::source::parse_source;
 use serde_json::Value;

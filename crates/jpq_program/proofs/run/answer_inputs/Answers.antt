@@ -1,4 +1,5 @@
 use Rattle.jpq_program.proofs.Words.{◌≡◌, ◌∙◌, Bor, IfOk-weaker, List, ℕ, arith, ap, common_steps, false, length, map, nat_eq, nat_tests, subst, sym, true, AreInputsShown, AreKnown, Begins, Opens, OpensFirst, SendsInputs, wanted_in_part_by}
+use Rattle.jpq_program.specs.Inside.{OpensBy}
 use Rattle.jpq_program.proofs.Parsed.{none_named, some_named}
 use Rattle.jpq_program.proofs.run.answer_inputs.Goals as goal
 
@@ -51,3 +52,17 @@ returns-else-is_empty-clause-begun g c = λ reads empty known.
     let names = some_named c.args.options.now some ∙ ap (map (λ (file : Bor (List ℕ)). file.now)) (sym c.deref.ensures.value) in
     subst (λ (names : List (List ℕ)). Begins g.W.Write.contents (AreInputsShown (wanted_in_part_by c.args.documents.now.answering) c.args.documents.now.lines (g.I.Inputs.bytes_of c.args.inputs.now) names c.args.streams.now.total) c.args.streams.now c.answer_all-else-is_empty.new.streams) (sym names)
     (c.answer_all-else-is_empty.ensures.begun reads empty (subst (AreKnown (g.I.Inputs.bytes_of c.args.inputs.now)) names known))
+
+pub returns-then-is_empty-clause-wanted : goal.returns-then-is_empty-clause-wanted
+returns-then-is_empty-clause-wanted g c = IfOk-weaker c.answer_all.result _ _ (λ next wanted whole right reads empty known.
+    let none : nat_eq (length c.args.options.now.files.items) 0 ≡ true = grind (arith, nat_tests, common_steps, c.is_empty.ensures, c.if-is_empty.true) in
+    let names = none_named c.args.options.now none in
+    subst (λ (names : List (List ℕ)). OpensBy c.args.documents.now (g.I.Inputs.bytes_of c.args.inputs.now) c.args.streams.now.total names (g.I.Inputs.opened c.args.inputs.now) (g.I.Inputs.opened c.answer_all.new.inputs)) (sym names)
+    (wanted whole right reads empty (subst (AreKnown (g.I.Inputs.bytes_of c.args.inputs.now)) names known))) c.answer_all.ensures.wanted
+
+pub returns-else-is_empty-clause-wanted : goal.returns-else-is_empty-clause-wanted
+returns-else-is_empty-clause-wanted g c = IfOk-weaker c.answer_all-else-is_empty.result _ _ (λ next wanted whole right reads empty known.
+    let some : nat_eq (length c.args.options.now.files.items) 0 ≡ false = grind (arith, nat_tests, common_steps, c.is_empty.ensures, c.if-is_empty.false) in
+    let names = some_named c.args.options.now some ∙ ap (map (λ (file : Bor (List ℕ)). file.now)) (sym c.deref.ensures.value) in
+    subst (λ (names : List (List ℕ)). OpensBy c.args.documents.now (g.I.Inputs.bytes_of c.args.inputs.now) c.args.streams.now.total names (g.I.Inputs.opened c.args.inputs.now) (g.I.Inputs.opened c.answer_all-else-is_empty.new.inputs)) (sym names)
+    (wanted whole right reads empty (subst (AreKnown (g.I.Inputs.bytes_of c.args.inputs.now)) names known))) c.answer_all-else-is_empty.ensures.wanted

@@ -1,4 +1,4 @@
-use Rattle.jpq_program.proofs.Words.{◌≡◌, ◌≤◌, ◌∙◌, Bool, inl, inr, refl, sym, ap, subst, arith, common_steps, List, ℕ, string_bytes, AppendsBeginning, Streams, AreKnown, IsAnswered, IsAnsweredInPart, IsCheckedInPart, IsChecked, IsFound, IsPlainRun, IsQuietRun, TellsNothing, told_after, IsStatusOf, Next, None, Ok, Opens, Appends, [], is_quiet, names_in, not, opened_in, path_files_in, status_after}
+use Rattle.jpq_program.proofs.Words.{true, ◌≡◌, ◌≤◌, ◌∙◌, Bool, inl, inr, refl, sym, ap, subst, arith, common_steps, List, ℕ, string_bytes, AppendsBeginning, Streams, AreKnown, IsAnswered, IsAnsweredInPart, IsCheckedInPart, IsChecked, IsFound, IsPlainRun, IsQuietRun, TellsNothing, told_after, IsStatusOf, Next, None, Ok, Opens, Appends, [], is_quiet, names_in, not, opened_in, path_files_in, status_after}
 use Rattle.jpq_program.proofs.Asked.{all_wanted, each_shown, out_since, plain_answered, plain_whole, run_ended}
 use Rattle.jpq_program.proofs.Checked.{check_ended}
 use Rattle.jpq_program.proofs.Ended.{ended_checked, ended_well, one_of_few, printed_since}
@@ -19,13 +19,13 @@ returns-in-Ok-Run-clause-comes g c =
     ] in
     let untold = λ (next : Next) (is : ended ≡ Ok next). c.exit_status.ensures.quiet (ap told_after is) in
     let answered : IsPlainRun options → AreKnown (g.I.Inputs.bytes_of c.args.inputs.now) (path_files_in options) → AreKnown (g.I.Inputs.bytes_of c.args.inputs.now) (names_in options) → c.exit_status.result ≤ 1
-    → IsAnswered g.W.Write.contents (g.I.Inputs.bytes_of c.args.inputs.now) options c.args.colours c.args.streams.now.out c.exit_status.new.streams.out c.exit_status.result
+    → IsAnswered g.W.Write.contents (g.I.Inputs.bytes_of c.args.inputs.now) options c.args.colours (g.I.Inputs.opened c.args.inputs.now) (g.I.Inputs.opened c.run_with-ended.new.inputs) c.args.streams.now.out c.exit_status.new.streams.out c.exit_status.result
     × (options.most_of_all ≡ None → Opens (g.I.Inputs.opened c.args.inputs.now) (g.I.Inputs.opened c.run_with-ended.new.inputs) (opened_in options)) × TellsNothing options c.args.streams.now c.exit_status.new.streams = λ run files known few.
     let well = ended_well ended (not c.is_empty.result) outcome c.exit_status.result (subst (λ (quiet : Bool). c.exit_status.result ≡ status_after ended (not c.is_empty.result) quiet outcome) (c.is_quiet-quiet.ensures ∙ each_shown options.shown run.each) c.exit_status.ensures.status) few in
     let done = of_ok _ ended well.0 well.1 c.run_with-ended.ensures.answered run.check c.restart.ensures.outcome c.restart.ensures.total c.restart.ensures.pending files known in (
-      run_ended g.W.Write.contents (g.I.Inputs.bytes_of c.args.inputs.now) options c.args.colours c.args.streams.now.out c.restart.new.self.out c.run_with-ended.new.streams.out c.exit_status.new.streams.out outcome c.exit_status.result
+      run_ended g.W.Write.contents (g.I.Inputs.bytes_of c.args.inputs.now) options c.args.colours (g.I.Inputs.opened c.args.inputs.now) (g.I.Inputs.opened c.run_with-ended.new.inputs) c.args.streams.now.out c.restart.new.self.out c.run_with-ended.new.streams.out c.exit_status.new.streams.out outcome c.exit_status.result
           c.restart.ensures.out c.exit_status.ensures.out well.3
-          (plain_answered g.W.Write.contents (g.I.Inputs.bytes_of c.args.inputs.now) options c.args.colours well.0 c.restart.new.self c.run_with-ended.new.streams run.each well.2 done),
+          (plain_answered g.W.Write.contents (g.I.Inputs.bytes_of c.args.inputs.now) options c.args.colours well.0 (g.I.Inputs.opened c.args.inputs.now) (g.I.Inputs.opened c.run_with-ended.new.inputs) c.restart.new.self c.run_with-ended.new.streams run.each well.2 done),
       λ all. of_ok _ ended well.0 well.1 c.run_with-ended.ensures.all run.check (all_wanted _ _ well.0 c.run_with-ended.new.streams (plain_whole options well.0 c.run_with-ended.new.streams run.each done.ends) all done.ends),
       λ silent. untold well.0 well.1 ∙ done.told silent well.2 ∙ c.restart.ensures.err,
     ) in
@@ -39,7 +39,7 @@ returns-in-Ok-Run-clause-comes g c =
           c.restart.ensures.out c.exit_status.ensures.out (c.run_with-ended.ensures.in_part run.check c.restart.ensures.total c.restart.ensures.pending files known)),
       (λ few.
           let well = ended_quietly ended (not c.is_empty.result) outcome c.exit_status.result status_is few in
-          quiet_found g.W.Write.contents (g.I.Inputs.bytes_of c.args.inputs.now) options c.args.colours well.0 c.restart.new.self c.run_with-ended.new.streams c.exit_status.result run well.2 well.3 (done well.0 well.1)),
+          quiet_found g.W.Write.contents (g.I.Inputs.bytes_of c.args.inputs.now) options c.args.colours well.0 (g.I.Inputs.opened c.args.inputs.now) (g.I.Inputs.opened c.run_with-ended.new.inputs) c.restart.new.self c.run_with-ended.new.streams c.exit_status.result run well.2 well.3 (done well.0 well.1)),
       (λ one.
           let well = ended_quietly ended (not c.is_empty.result) outcome c.exit_status.result status_is (omega (arith, one)) in
           let came = done well.0 well.1 in (

@@ -1,8 +1,13 @@
-use Rattle.jpq_program.proofs.Words.{◌∙◌, ◌+◌, ℕ, ap, is_whole, AreInputsShown, Bor, Ends, Enough, IsNamedShown, List, More, Next, map, refl, subst, sym, wanted_by, wanted_in_part_by}
+use Rattle.jpq_program.proofs.Words.{◌∙◌, ◌+◌, [], ℕ, ap, drop, is_whole, map-append, take, take-append-drop, take_all, AreInputsShown, Bor, Ends, Enough, IsNamedShown, List, More, Next, map, refl, subst, sym, wanted_by, wanted_in_part_by}
 use Rattle.jpq_program.proofs.Opened.{opens_all, opens_further, opens_none, opens_some}
-use Rattle.jpq_program.proofs.Sending.{enough_answer, goes_on, input_begun, input_sent, input_until, no_answer, no_named}
+use Rattle.jpq_program.proofs.Sending.{enough_answer, enough_at, goes_on, input_begun, input_sent, input_until, no_answer, no_named}
 use Rattle.jpq_program.proofs.Shown.{all_answered, answered_begun, none_answered, nothing_begun, nothing_shown}
+use Rattle.jpq_program.proofs.Wanted.{all_wanted_of, enough_opened, some_wanted, wanted_further}
+use Rattle.jpq_program.specs.Inputs.{AreWanted}
 use Rattle.jpq_program.proofs.documents.Documents.answer_all.Goals as goal
+
+abbrev names_of : List (Bor (List ℕ)) → List (List ℕ)
+names_of names = map (λ (name : Bor (List ℕ)). name.now) names
 
 -- there are enough before the first input
 pub returns-then-is_done-clause-opens : goal.returns-then-is_done-clause-opens
@@ -34,6 +39,7 @@ loop-name-init g c = (
     (none_answered g.W.Write.contents (λ number so_far name. IsNamedShown (wanted_by c.args.self.now.answering) c.args.self.now.lines (g.I.Inputs.bytes_of c.args.inputs.now) name so_far) (λ number so_far name. IsNamedShown (wanted_in_part_by c.args.self.now.answering) c.args.self.now.lines (g.I.Inputs.bytes_of c.args.inputs.now) name so_far) 1 c.args.streams.now.total c.args.streams.now, empty),
     sym c.is_done.ensures ∙ c.if-is_done.false,
   ),
+  λ reads empty known right. (λ names opened are. are),
 )
 
 pub loop-name-preserved : goal.loop-name-preserved
@@ -47,6 +53,10 @@ loop-name-preserved g c =
           let sent = input_sent g.W.Write.contents c.args.self.now.answering.showing.output.form c.args.self.now.answering.showing.most_of_all (wanted_by c.args.self.now.answering) (wanted_in_part_by c.args.self.now.answering) c.args.self.now.lines (g.I.Inputs.bytes_of c.args.inputs.now) (g.I.Inputs.bytes_of c.loop-name.inputs) c.args.names.now c.loop-name.name-index
           _ c.in_ok-ended.ended c.args.streams.now c.loop-name.streams c.answer_input.new.streams (ap is_whole c.in-More.is) c.loop-name-test.true same known (ensures.answered reads before.1 before.0.1) before.0.0 in
           (sent.1, subst (λ (next : Next). Ends c.args.self.now.answering.showing.output.form c.args.self.now.answering.showing.most_of_all next c.answer_input.new.streams) c.in-More.is sent.0),
+      λ reads empty known right.
+          let before = c.loop-name.invariant.2 reads empty known in
+          wanted_further c.args.self.now.answering.silent g.W.Write.contents c.args.self.now.answering.showing.output.form c.args.self.now.answering.showing.most_of_all (wanted_by c.args.self.now.answering) (wanted_in_part_by c.args.self.now.answering) c.args.self.now.lines (g.I.Inputs.bytes_of c.args.inputs.now) (g.I.Inputs.bytes_of c.loop-name.inputs) c.args.names.now c.loop-name.name-index
+          _ c.in_ok-ended.ended c.args.streams.now.total c.loop-name.streams c.answer_input.new.streams (ap is_whole c.in-More.is) c.loop-name-test.true same known (ensures.answered reads before.1 before.0.1) before.1 right (c.loop-name.invariant.3 reads empty known),
     )
 
 pub returns-clause-opens : goal.returns-clause-opens
@@ -100,3 +110,37 @@ pub returns-clause-begun : goal.returns-clause-begun
 returns-clause-begun g c = λ reads empty known.
     let sent = returns-clause-answered g c reads empty known in
     answered_begun g.W.Write.contents _ _ c.args.streams.now c.loop-name.streams sent.1.0
+
+-- ---- which were opened
+
+pub returns-then-is_done-clause-wanted : goal.returns-then-is_done-clause-wanted
+returns-then-is_done-clause-wanted g c = λ whole right reads empty known. (
+  [],
+  enough_opened c.args.self.now.answering.showing.most_of_all (IsNamedShown (wanted_by c.args.self.now.answering) c.args.self.now.lines (g.I.Inputs.bytes_of c.args.inputs.now)) c.args.streams.now.total _ (sym c.is_done.ensures ∙ c.if-is_done.true),
+  opens_none (g.I.Inputs.opened c.args.inputs.now),
+)
+
+pub returns-clause-wanted : goal.returns-clause-wanted
+returns-clause-wanted g c = λ whole right reads empty known.
+    let all = ap names_of (take_all c.loop-name.name-index c.args.names.now c.loop-name-test.false) in (
+      names_of c.args.names.now,
+      subst (λ (names : List (List ℕ)). AreWanted c.args.self.now.answering.showing.most_of_all (IsNamedShown (wanted_by c.args.self.now.answering) c.args.self.now.lines (g.I.Inputs.bytes_of c.args.inputs.now)) c.args.streams.now.total names names) all
+          (all_wanted_of c.args.self.now.answering.showing.most_of_all (IsNamedShown (wanted_by c.args.self.now.answering) c.args.self.now.lines (g.I.Inputs.bytes_of c.args.inputs.now)) c.args.streams.now.total c.loop-name.streams.total _ (c.loop-name.invariant.3 reads empty known right)),
+      opens_all c.args.names.now c.loop-name.name-index (g.I.Inputs.opened c.args.inputs.now) (g.I.Inputs.opened c.loop-name.inputs) c.loop-name-test.false c.loop-name.invariant.1,
+    )
+
+pub returns-in_default-clause-wanted : goal.returns-in_default-clause-wanted
+returns-in_default-clause-wanted g c = λ whole right reads empty known.
+    let before = c.loop-name.invariant.2 reads empty known in
+    let next = c.in_ok-ended.ended in
+    let further = wanted_further c.args.self.now.answering.silent g.W.Write.contents c.args.self.now.answering.showing.output.form c.args.self.now.answering.showing.most_of_all (wanted_by c.args.self.now.answering) (wanted_in_part_by c.args.self.now.answering) c.args.self.now.lines (g.I.Inputs.bytes_of c.args.inputs.now) (g.I.Inputs.bytes_of c.loop-name.inputs) c.args.names.now c.loop-name.name-index
+    _ next c.args.streams.now.total c.loop-name.streams c.answer_input.new.streams whole c.loop-name-test.true c.loop-name.invariant.0 known (c.in_ok-ended.ensures.answered reads before.1 before.0.1) before.1 right (c.loop-name.invariant.3 reads empty known) in
+    let sent = input_sent g.W.Write.contents c.args.self.now.answering.showing.output.form c.args.self.now.answering.showing.most_of_all (wanted_by c.args.self.now.answering) (wanted_in_part_by c.args.self.now.answering) c.args.self.now.lines (g.I.Inputs.bytes_of c.args.inputs.now) (g.I.Inputs.bytes_of c.loop-name.inputs) c.args.names.now c.loop-name.name-index
+    _ next c.args.streams.now c.loop-name.streams c.answer_input.new.streams whole c.loop-name-test.true c.loop-name.invariant.0 known (c.in_ok-ended.ensures.answered reads before.1 before.0.1) before.0.0 in
+    let enough = enough_at c.args.self.now.answering.showing.output.form c.args.self.now.answering.showing.most_of_all next c.answer_input.new.streams sent.0 c.in_default.not-More whole in (
+      names_of (take (c.loop-name.name-index + 1) c.args.names.now),
+      some_wanted c.args.self.now.answering.showing.most_of_all (IsNamedShown (wanted_by c.args.self.now.answering) c.args.self.now.lines (g.I.Inputs.bytes_of c.args.inputs.now)) c.args.streams.now.total c.answer_input.new.streams.total _
+          (names_of (drop (c.loop-name.name-index + 1) c.args.names.now)) (names_of c.args.names.now) further enough
+          (ap names_of (sym (take-append-drop (c.loop-name.name-index + 1) c.args.names.now)) ∙ map-append (λ (name : Bor (List ℕ)). name.now) (take (c.loop-name.name-index + 1) c.args.names.now) (drop (c.loop-name.name-index + 1) c.args.names.now)),
+      opens_further c.args.names.now c.loop-name.name-index _ (g.I.Inputs.opened c.args.inputs.now) (g.I.Inputs.opened c.loop-name.inputs) (g.I.Inputs.opened c.answer_input.new.inputs) c.loop-name-test.true c.loop-name.invariant.1 c.answer_input.ensures.opens,
+    )
