@@ -254,8 +254,8 @@ abbrev pub canonical_lines : List JsonPath → List ℕ
 canonical_lines [] = []
 canonical_lines (path ∷ paths) = query_text (path_tree path) ++ (codes "\n" ++ canonical_lines paths)
 
--- What comes of a run that only checks paths, in which nothing is refused and no writing fails, where the bytes of the files of paths are known: these lines
--- went out, and nothing else. Without such files no input is opened.
+-- What comes of a run that only checks paths, in which nothing is refused and no writing fails, where the bytes of the files of paths
+-- are known: these lines went out, and nothing else. Without such files no input is opened.
 pub record IsChecked {I W : Type 0} (contents : W → Option (List ℕ)) (bytes_of : List ℕ → Option (List ℕ)) (options : Options) (inputs later : I) (before after : W) (status : ℕ) : Type 0 where
   pub paths : List JsonPath
   pub are : ArePaths (reading_in options) (path_texts bytes_of options) paths

@@ -2,7 +2,7 @@
 
 ghost use Rattle.std.specs.Prelude.{◌≡◌, IfOk, map, reverse};
 ghost use Rattle.serde_json_path_syntax.specs.Bindings.{pairs_of};
-ghost use Rattle.jpq_program.specs.Bindings.{binding_in, bindings_in};
+ghost use Rattle.jpq_program.specs.Bindings.{binding_in};
 ghost use Rattle.jpq_program.specs.Inside.{value_pairs};
 
 use serde_json_path::{Binding, JsonPath};
