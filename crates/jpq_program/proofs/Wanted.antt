@@ -1,5 +1,5 @@
 -- Which inputs are opened where so many nodes are wanted of all.
-use Rattle.jpq_program.proofs.Words.{◌≡◌, ◌∙◌, ◌+◌, ◌++◌, ◌<◌, ◌∷◌, ℕ, Bool, Bor, false, true, List, [], IfSome, MatchBool, None, Option, Some, append-nil, append_assoc, ap, get_or, has_enough, is_whole, length, map, refl, subst, sym, take, AreKnown, Answered, Colours, Form, JsonPath, Opens, Options, IsShownFor, names_in, path_files_in, IsInputShown, IsNamedShown, IfWhole, Next, SendsUntil, Shown, Streams}
+use Rattle.jpq_program.proofs.Words.{◌≡◌, ◌+◌, ◌++◌, ◌<◌, ◌∷◌, ℕ, Bool, Bor, false, true, List, [], IfSome, MatchBool, Option, append-nil, append_assoc, get_or, has_enough, is_whole, length, map, refl, subst, sym, take, AreKnown, Colours, Form, JsonPath, Opens, Options, IsShownFor, names_in, path_files_in, IsInputShown, IsNamedShown, Next, SendsUntil, Shown, Streams}
 use Rattle.jpq_program.proofs.Nodes.{further_mapped}
 use Rattle.jpq_program.proofs.Sending.{known_at, known_input, same_item}
 use Rattle.jpq_program.proofs.Opened.{opens_both}

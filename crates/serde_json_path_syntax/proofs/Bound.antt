@@ -1,5 +1,5 @@
 -- Queries in which texts of literals stand for others.
-use Rattle.serde_json_path_syntax.proofs.Words.{AreCalled, IsIn, child, kind_of, names_in, subst, sym, ◌↔◌, ◌≡◌, ℕ, List, [], ◌∷◌, ◌++◌, Option, Some, None, refl, ◌∙◌, map-append, arith, nat_tests, common_steps, Query, query, Segments, no_segments, segment, Segment, long_hand, Selectors, no_selectors, selector, Selector, filter, LogicalOr, no_or, or, LogicalAnd, no_and, and, Basic, paren, relation, test, Operand, literal, queried, called, Call, call, Arguments, no_arguments, argument, Argument, operand, logical_argument, Kind, of_value, of_logical, of_nodes, Signature, IsTyped, AreTypedSegments, IsTypedSegment, AreTypedSelectors, IsTypedSelector, IsTypedOr, IsTypedAnd, IsTypedBasic, IsTypedComparable, IsTypedCall, AreTypedArguments, IsTypedArgument, IsTypedOperand, AreSingular, IsSingularSegment, are_singular, is_singular_segment, TakesResult, result_kind, name_of, names_of, calls_of, calls_in_segments, calls_in_segment, calls_in_selectors, calls_in_selector, calls_in_or, calls_in_and, calls_in_basic, calls_in_operand, calls_from, calls_in_arguments, calls_in_argument, depth, segments_depth}
+use Rattle.serde_json_path_syntax.proofs.Words.{AreCalled, IsIn, child, kind_of, names_in, subst, sym, ◌↔◌, ◌≡◌, ℕ, List, [], ◌∷◌, ◌++◌, Option, refl, ◌∙◌, map-append, arith, nat_tests, common_steps, Query, query, Segments, no_segments, segment, Segment, long_hand, Selectors, no_selectors, selector, Selector, filter, LogicalOr, no_or, or, LogicalAnd, no_and, and, Basic, paren, relation, test, Operand, literal, queried, called, Call, call, Arguments, no_arguments, argument, Argument, operand, logical_argument, Kind, of_value, of_logical, of_nodes, Signature, IsTyped, AreTypedSegments, IsTypedSegment, AreTypedSelectors, IsTypedSelector, IsTypedOr, IsTypedAnd, IsTypedBasic, IsTypedComparable, IsTypedCall, AreTypedArguments, IsTypedArgument, IsTypedOperand, AreSingular, IsSingularSegment, are_singular, is_singular_segment, result_kind, names_of, calls_of, calls_in_segments, calls_in_segment, calls_in_selectors, calls_in_selector, calls_in_or, calls_in_and, calls_in_basic, calls_in_operand, calls_from, calls_in_arguments, calls_in_argument, depth, segments_depth}
 use Rattle.serde_json_path_syntax.specs.Tree.{Literal, descendant, text}
 use Rattle.serde_json_path_syntax.specs.Depth.{segment_depth, selectors_depth, selector_depth, or_depth, and_depth, basic_depth, operand_depth, call_depth, arguments_depth, argument_depth}
 use Rattle.serde_json_path_syntax.specs.Bound.{bound, bound_segments, bound_segment, bound_selectors, bound_selector, bound_or, bound_and, bound_basic, bound_operand, bound_call, bound_arguments, bound_argument, bound_literal}

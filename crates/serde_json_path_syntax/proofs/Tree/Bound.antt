@@ -1,9 +1,9 @@
 -- The tree of a vector of nodes in which texts of literals stand for others.
-use Rattle.serde_json_path_syntax.proofs.Words.{AllocError, Result, Ok, Err, IfOk, ◌≡◌, ℕ, List, [], ◌∷◌, ◌++◌, ◌<◌, Bool, true, false, Option, Some, None, refl, sym, ap, ◌∙◌, subst, length, map, map-append, slice_index_or, arith, nat_tests, common_steps, AllZip-get_or, AllZip-long, Query, query, segments_of, are_singular, Branch, Part, a_query, a_segment, a_selector, an_or, an_and, a_basic, an_operand, a_call, Node, branches, branches_from, branch_in, branch_of, branches_named, calls_among, fits, each_is, is_query, is_segment, is_selector, is_or, is_and, is_basic, is_call, is_argument, is_comparable, is_tested, query_at, query_in, IsCopy, IsGrown, AreFitting, no_branch, operand, literal}
+use Rattle.serde_json_path_syntax.proofs.Words.{AllocError, Result, Ok, Err, IfOk, ◌≡◌, ℕ, List, [], ◌∷◌, ◌++◌, ◌<◌, Bool, Option, Some, None, refl, ◌∙◌, length, map, map-append, slice_index_or, arith, nat_tests, common_steps, AllZip-get_or, AllZip-long, Query, query, Branch, Part, Node, branches, branches_from, branch_in, branch_of, branches_named, calls_among, fits, each_is, is_query, is_segment, is_selector, is_and, is_basic, is_call, is_argument, is_comparable, is_tested, query_at, query_in, IsCopy, IsGrown, AreFitting, no_branch, literal}
 use Rattle.serde_json_path_syntax.proofs.Bound.{singular_stays}
 use Rattle.serde_json_path_syntax.specs.Bound.{bound, bound_segments, bound_segment, bound_selectors, bound_selector, bound_or, bound_and, bound_basic, bound_operand, bound_call, bound_arguments, bound_argument, bound_literal}
-use Rattle.serde_json_path_syntax.specs.Flat.{segment_parts, segment_kind_in, segment_in, selector_in, or_in, and_in, basic_in, operand_in, call_in, argument_in, segments_in, selectors_in, ors_in, ands_in, arguments_in, parts_in, held_view, segment_of, selector_of, basic_of, operand_of}
-use Rattle.serde_json_path_syntax.specs.Kinds.{IsOfKind, is_singular, is_operand, literal_fits, segment_fits, selector_fits, basic_fits, operand_fits}
+use Rattle.serde_json_path_syntax.specs.Flat.{segment_parts, segment_kind_in, segment_in, selector_in, or_in, and_in, basic_in, operand_in, call_in, argument_in, segments_in, selectors_in, ors_in, ands_in, arguments_in, parts_in, held_view, segment_of, selector_of, basic_of}
+use Rattle.serde_json_path_syntax.specs.Kinds.{IsOfKind, is_singular, literal_fits, selector_fits, basic_fits}
 use Rattle.serde_json_path_syntax.specs.Inside.Copies.{AreBoundCopies, IsBoundCopy, bound_branch, bound_branches}
 use Rattle.serde_json_path_syntax.specs.declared.literal.LiteralValue.{LiteralValue}
 use Rattle.serde_json_path_syntax.specs.declared.node.Basic.{Basic}

@@ -1,4 +1,4 @@
-use Rattle.jpq_program.proofs.Words.{◌≡◌, Bor, List, ℕ, [], false, map, take, Reads, ReadsFurther, Tells, has_text, reading_by}
+use Rattle.jpq_program.proofs.Words.{◌≡◌, Bor, List, ℕ, false, map, take, Reads, ReadsFurther, Tells, has_text, reading_by}
 use Rattle.std.specs.List.{filter}
 use Rattle.jpq_program.proofs.paths.PathReading.parse_file.Given as goal
 

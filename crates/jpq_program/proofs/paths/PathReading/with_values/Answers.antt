@@ -1,4 +1,4 @@
-use Rattle.jpq_program.proofs.Words.{[], ◌≡◌, ap, arith, common_steps, length, nat_tests}
+use Rattle.jpq_program.proofs.Words.{◌≡◌, ap, arith, common_steps, length, nat_tests}
 use Rattle.jpq_program.proofs.Bound.{unbound}
 use Rattle.serde_json_path_syntax.specs.Bindings.{pairs_of}
 use Rattle.std.proofs.lemmas.List.{nil_from_length}
